@@ -1,0 +1,62 @@
+-- The lists that a caller lends to learning and deepening, and what they hold afterwards (document 01, "Which number comes back").
+-- Assumes nothing.
+use Prim.Native.Nat.{ℕ, _/_}
+use mathlib.Core.Bool.{Bool, cond, not, _&&_}
+use mathlib.Core.List.{List, [], _∷_}
+use lib.ListN.{length, replicate}
+use lib.IntN.{ℤ, pos}
+use Rattle.model.specs.Lists.{isEmpty, writtenOver}
+use Rattle.model.specs.Meter.{Meter}
+use Rattle.model.specs.Settings.{Settings, propsPerRow}
+use Rattle.model.specs.Rows.{Row, Span, rowsOf, propsOf, toksOf, resOf}
+use Rattle.model.specs.Tree.{Record}
+use Rattle.model.specs.Job.{Offer}
+use Rattle.model.specs.Learn.{Result}
+
+-- an entry of the lent queue: a waiting leaf's number, its depth and what it offers
+pub record Waiting (M : Meter) : Type 0 where
+  pub node : ℕ
+  pub depth : ℕ
+  pub offer : Offer M
+
+-- all its fields are 0
+abbrev pub noWaiting : {M : Meter} → Waiting M
+noWaiting {M} = record { node = 0; depth = 0; offer = record { prop = 0; val = pos 0; gain = M .nought } }
+
+-- 24 properties and 14 tokens a row, none or one residual a row, nodes with what stands beside them, spans, queue and count space
+pub record Lent (M : Meter) : Type 0 where
+  pub props : List ℤ
+  pub toks : List ℕ
+  pub res : List ℤ
+  pub nodes : List (Record M)
+  pub spans : List Span
+  pub queue : List (Waiting M)
+  pub counts : List ℕ
+
+module _ {M : Meter} where
+  abbrev pub rowCount : Lent M → ℕ
+  rowCount x = length (x .props) / propsPerRow
+
+  -- the rows that the lists hold
+  abbrev pub rowsIn : Lent M → List Row
+  rowsIn x = rowsOf (rowCount x) (x .props) (x .toks) (x .res)
+
+  abbrev pub hasResiduals : Lent M → Bool
+  hasResiduals x = not (isEmpty (x .res))
+
+  -- residuals are given and modal offsets on
+  abbrev pub usesModes : Settings M → Lent M → Bool
+  usesModes t x = t .modal && hasResiduals x
+
+  -- After acceptance: the rows in their new order, the written entries; those past them are unchanged, count and queue space hold zeros
+  unfoldable pub lentAfter : Result M → Lent M → Lent M
+  lentAfter r x =
+      record {
+        props = propsOf (r .rows);
+        toks = toksOf (r .rows);
+        res = cond (hasResiduals x) (resOf (r .rows)) [];
+        nodes = writtenOver (r .records) (x .nodes);
+        spans = writtenOver (r .spans) (x .spans);
+        queue = replicate (length (x .queue)) noWaiting;
+        counts = replicate (length (x .counts)) 0;
+      }
