@@ -1,3 +1,4 @@
+pub mod Bench
 pub mod Lawful
 pub mod Results
 pub mod Counting

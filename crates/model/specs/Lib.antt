@@ -26,3 +26,4 @@ pub mod Lent
 pub mod Refuse
 pub mod Operations
 pub mod Promise
+pub mod Bench
