@@ -8,7 +8,7 @@ use lib.IntN.{ℤ, pos}
 use Rattle.model.specs.Lists.{isEmpty, writtenOver}
 use Rattle.model.specs.Meter.{Meter}
 use Rattle.model.specs.Settings.{Settings, propsPerRow}
-use Rattle.model.specs.Rows.{Row, Span, rowsOf, propsOf, toksOf, resOf}
+use Rattle.model.specs.Rows.{Row, Span, rowsHeld, propsOf, toksOf, resOf}
 use Rattle.model.specs.Tree.{Record}
 use Rattle.model.specs.Job.{Offer}
 use Rattle.model.specs.Learn.{Result}
@@ -39,7 +39,7 @@ module _ {M : Meter} where
 
   -- the rows that the lists hold
   abbrev pub rowsIn : Lent M → List Row
-  rowsIn x = rowsOf (rowCount x) (x .props) (x .toks) (x .res)
+  rowsIn x = rowsHeld (x .props) (x .toks) (x .res)
 
   abbrev pub hasResiduals : Lent M → Bool
   hasResiduals x = not (isEmpty (x .res))

@@ -1,8 +1,8 @@
 -- Rows, and how they stand in the lent flat lists (document 01, "A job and its rows"). Assumes nothing.
-use Prim.Native.Nat.{ℕ, zero, suc}
+use Prim.Native.Nat.{ℕ, zero, suc, _/_}
 use mathlib.Core.Bool.{Bool}
 use mathlib.Core.List.{List, [], _∷_, _++_, map}
-use lib.ListN.{getD, take, drop, set}
+use lib.ListN.{length, getD, take, drop, set}
 use lib.Seq.{slice}
 use lib.IntN.{ℤ, pos}
 use lib.Signed.{ltZ}
@@ -46,6 +46,10 @@ rowsOf zero ps ts rs = []
 rowsOf (suc n) ps ts rs =
     record { props = take propsPerRow ps; toks = take toksPerRow ts; res = getD rs 0 (pos 0) }
     ∷ rowsOf n (drop propsPerRow ps) (drop toksPerRow ts) (drop 1 rs)
+
+-- all rows that the lists hold
+abbrev pub rowsHeld : List ℤ → List ℕ → List ℤ → List Row
+rowsHeld ps ts rs = rowsOf (length ps / propsPerRow) ps ts rs
 
 -- one part of each row, end to end
 abbrev pub joined {ℓ} : {A : Type ℓ} → (Row → List A) → List Row → List A
