@@ -18,7 +18,7 @@ use Rattle.model.specs.Job.{Job, prunes}
 use Rattle.model.specs.Grow.{grownBits}
 use Rattle.model.specs.Learn.{Result, learned}
 use Rattle.model.specs.Deepen.{deepened}
-use Rattle.model.specs.Promise.{SameRows, noRow, leafRecord}
+use Rattle.model.specs.Promise.{SameRows, noRow}
 use Rattle.model.proofs.Lawful.{Bounds, JobFits}
 
 -- a row that has tokens
@@ -28,6 +28,9 @@ hasTokens r = ltb 0 (length (r .toks))
 module _ {M : Meter} where
   abbrev pub recordOfResult : Result M → ℕ → Record M
   recordOfResult r k = getD (r .records) k blankRecord
+
+  abbrev pub leafRecord : Info M → Record M
+  leafRecord i = record { node = leaf; info = i }
 
   abbrev pub spanOfResult : Result M → ℕ → Span
   spanOfResult r k = getD (r .spans) k noSpan

@@ -19,7 +19,7 @@ use Rattle.model.specs.Grow.{Entry}
 use Rattle.model.specs.Prune.{prunedTree, prunedBits}
 use Rattle.model.specs.Single.{singles, single}
 use Rattle.model.specs.Profile as profile
-use Rattle.model.specs.Lent.{Lent, noWaiting}
+use Rattle.model.specs.Lent.{Stored, recordIn, storedNode, stored, Lent, noWaiting}
 use Rattle.model.specs.Operations.{Outcome, refused, accepted, After, Tree, ContextLists, learn, leafContexts, sample}
 
 -- an entry of the table: a whole number, or a number of bits
@@ -59,14 +59,14 @@ onlyFive =
 
 abbrev pub noRows : Lent singles
 noRows =
-    record { props = []; toks = []; res = []; nodes = blankRecord ∷ []; spans = noSpan ∷ []; queue = noWaiting ∷ []; counts = replicate 4152 7 }
+    record { props = []; toks = []; res = []; nodes = stored blankRecord ∷ []; spans = noSpan ∷ []; queue = noWaiting ∷ []; counts = replicate 4152 7 }
 
 -- node count, leaf count, both bit totals; then node 0: 1 for a leaf, its predictor and offset
 abbrev pub shownLearning : After (Tree singles) (Lent singles) → List Cell
 shownLearning a = go (a .outcome)
   where
     first : Record singles
-    first = getD (a .lent .nodes) 0 blankRecord
+    first = recordIn (getD (a .lent .nodes) 0 (stored blankRecord))
 
     kind : Node → ℕ
     kind leaf = 1
@@ -94,8 +94,8 @@ shownPruning price tree = whole (pos (length (prunedTree price tree))) ∷ bits 
 abbrev pub five : List (Entry singles)
 five = entry (split 0 (pos 0) 1 2) 99 0 ∷ entry (split 0 (pos 9) 3 4) 99 1 ∷ entry leaf 1 2 ∷ entry leaf 1 3 ∷ entry leaf 1 4 ∷ []
 
-abbrev pub recordsOf : List (Entry singles) → List (Record singles)
-recordsOf = map (λ (e : Entry singles). record { node = e .node; info = e .info })
+abbrev pub storedOf : List (Entry singles) → List (Stored singles)
+storedOf = map (λ (e : Entry singles). storedNode (e .node) (e .info))
 
 abbrev pub predsOf : List (Entry singles) → List ℕ
 predsOf = map (λ (e : Entry singles). e .info .pred)
@@ -127,7 +127,7 @@ given =
     ∷ shownLearning (learn profile.single onlyFive (fin false 0 (pos 0) ∷ []) noRows)
     ∷ shownPruning (single 1) ten
     ∷ shownPruning half ten
-    ∷ naturals (shownContexts (leafContexts (recordsOf five) 5 (record { contexts = replicate 5 7; queue = replicate 5 7 })))
+    ∷ naturals (shownContexts (leafContexts (storedOf five) 5 (record { contexts = replicate 5 7; queue = replicate 5 7 })))
     ∷ naturals (predsOf (prunedTree (single 1) five))
     ∷ []
 

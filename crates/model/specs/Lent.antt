@@ -1,17 +1,39 @@
 -- The lists that a caller lends to learning and deepening, and what they hold afterwards (document 01, "Which number comes back").
 -- Assumes nothing.
 use Prim.Native.Nat.{ℕ, _/_}
-use mathlib.Core.Bool.{Bool, cond, not, _&&_}
-use mathlib.Core.List.{List, [], _∷_}
-use lib.ListN.{length, replicate}
+use mathlib.Core.Bool.{Bool, true, false, cond, not, _&&_}
+use mathlib.Core.List.{List, [], map}
+use lib.ListN.{length, take, replicate}
 use lib.IntN.{ℤ, pos}
 use Rattle.model.specs.Lists.{isEmpty, writtenOver}
 use Rattle.model.specs.Meter.{Meter}
 use Rattle.model.specs.Settings.{Settings, propsPerRow}
 use Rattle.model.specs.Rows.{Row, Span, rowsHeld, propsOf, toksOf, resOf}
-use Rattle.model.specs.Tree.{Record}
+use Rattle.model.specs.Tree.{Node, split, leaf, Info, Record}
 use Rattle.model.specs.Job.{Offer}
 use Rattle.model.specs.Learn.{Result}
+
+-- an entry of the lent node list: a node's kind and fields with what stands beside it. A leaf has no use for the first four fields
+pub record Stored (M : Meter) : Type 0 where
+  pub isSplit : Bool
+  pub prop : ℕ
+  pub val : ℤ
+  pub gt : ℕ
+  pub le : ℕ
+  pub info : Info M
+
+module _ {M : Meter} where
+  -- what is read of an entry: of a leaf, nothing but what stands beside it
+  abbrev pub recordIn : Stored M → Record M
+  recordIn e = record { node = cond (e .isSplit) (split (e .prop) (e .val) (e .gt) (e .le)) leaf; info = e .info }
+
+  -- what is written: fields a leaf has no use for hold 0
+  abbrev pub storedNode : Node → Info M → Stored M
+  storedNode (split prop val gt le) i = record { isSplit = true; prop = prop; val = val; gt = gt; le = le; info = i }
+  storedNode leaf i = record { isSplit = false; prop = 0; val = pos 0; gt = 0; le = 0; info = i }
+
+  abbrev pub stored : Record M → Stored M
+  stored r = storedNode (r .node) (r .info)
 
 -- an entry of the lent queue: a waiting leaf's number, its depth and what it offers
 pub record Waiting (M : Meter) : Type 0 where
@@ -28,7 +50,7 @@ pub record Lent (M : Meter) : Type 0 where
   pub props : List ℤ
   pub toks : List ℕ
   pub res : List ℤ
-  pub nodes : List (Record M)
+  pub nodes : List (Stored M)
   pub spans : List Span
   pub queue : List (Waiting M)
   pub counts : List ℕ
@@ -48,6 +70,10 @@ module _ {M : Meter} where
   abbrev pub usesModes : Settings M → Lent M → Bool
   usesModes t x = t .modal && hasResiduals x
 
+  -- the first `count` entries of the node list as a tree
+  abbrev pub treeIn : ℕ → List (Stored M) → List (Record M)
+  treeIn count nodes = map recordIn (take count nodes)
+
   -- After acceptance: the rows in their new order, the written entries; those past them are unchanged, count and queue space hold zeros
   unfoldable pub lentAfter : Result M → Lent M → Lent M
   lentAfter r x =
@@ -55,7 +81,7 @@ module _ {M : Meter} where
         props = propsOf (r .rows);
         toks = toksOf (r .rows);
         res = cond (hasResiduals x) (resOf (r .rows)) [];
-        nodes = writtenOver (r .records) (x .nodes);
+        nodes = writtenOver (map stored (r .records)) (x .nodes);
         spans = writtenOver (r .spans) (x .spans);
         queue = replicate (length (x .queue)) noWaiting;
         counts = replicate (length (x .counts)) 0;

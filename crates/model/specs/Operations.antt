@@ -3,18 +3,18 @@
 use Prim.Native.Nat.{ℕ}
 use mathlib.Core.List.{List}
 use mathlib.Core.Option.{Option, none, some}
-use lib.ListN.{length, take, getD, replicate}
+use lib.ListN.{length, getD, replicate}
 use lib.IntN.{ℤ}
 use Rattle.model.specs.Lists.{writtenOver}
 use Rattle.model.specs.Meter.{Meter}
 use Rattle.model.specs.Settings.{Settings}
-use Rattle.model.specs.Tree.{Record, blankRecord, nodesOf, leafReached}
+use Rattle.model.specs.Tree.{blankRecord, nodesOf, leafReached}
 use Rattle.model.specs.Contexts.{contextsOf}
 use Rattle.model.specs.Learn.{Result, leafCount, learned}
 use Rattle.model.specs.Deepen.{deepened}
 use Rattle.model.specs.Sampling.{evenSample}
 use Rattle.model.specs.Profile.{Profile, jobOf}
-use Rattle.model.specs.Lent.{Lent, rowsIn, usesModes, lentAfter}
+use Rattle.model.specs.Lent.{Stored, Lent, rowsIn, usesModes, treeIn, lentAfter}
 use Rattle.model.specs.Refuse.{Refusal, learnRefusal, deepenRefusal, lookupRefusal, contextsRefusal, sampleRefusal}
 
 pub data Outcome (A : Type 0) : Type 0 where
@@ -51,7 +51,7 @@ module _ (P : Profile) (t : Settings (P .meter)) (logs : List (P .meter .Cost)) 
   -- the seed is the first `count` nodes of the lent list
   unfoldable pub deepen : ℕ → Lent (P .meter) → After (Tree (P .meter)) (Lent (P .meter))
   deepen count x =
-      let r = deepened (jobOf P t logs (usesModes t x)) (t .limit) (take count (x .nodes)) (rowsIn x) in
+      let r = deepened (jobOf P t logs (usesModes t x)) (t .limit) (treeIn count (x .nodes)) (rowsIn x) in
       unless (deepenRefusal P t logs count x) x (treeOf r) (lentAfter r x)
 
 -- ---- lookup: the leaf's number and predictor
@@ -63,19 +63,20 @@ abbrev pub outcomeOf : {A : Type 0} → Option Refusal → A → Outcome A
 outcomeOf (some r) answer = refused r
 outcomeOf none answer = accepted answer
 
-unfoldable pub lookup : {M : Meter} → List (Record M) → ℕ → List ℤ → Outcome Found
+unfoldable pub lookup : {M : Meter} → List (Stored M) → ℕ → List ℤ → Outcome Found
 lookup nodes count ps =
-    let i = leafReached (nodesOf (take count nodes)) ps in
-    outcomeOf (lookupRefusal nodes count ps) (record { leaf = i; pred = getD nodes i blankRecord .info .pred })
+    let tree = treeIn count nodes in
+    let i = leafReached (nodesOf tree) ps in
+    outcomeOf (lookupRefusal nodes count ps) (record { leaf = i; pred = getD tree i blankRecord .info .pred })
 
 -- ---- leaf contexts: how many there are; the contexts written, the queue space zero
 pub record ContextLists : Type 0 where
   pub contexts : List ℕ
   pub queue : List ℕ
 
-unfoldable pub leafContexts : {M : Meter} → List (Record M) → ℕ → ContextLists → After ℕ ContextLists
+unfoldable pub leafContexts : {M : Meter} → List (Stored M) → ℕ → ContextLists → After ℕ ContextLists
 leafContexts nodes count x =
-    let tree = nodesOf (take count nodes) in
+    let tree = nodesOf (treeIn count nodes) in
     unless (contextsRefusal nodes count (x .contexts) (x .queue)) x (leafCount tree)
     (record { contexts = writtenOver (contextsOf tree) (x .contexts); queue = replicate (length (x .queue)) 0 })
 

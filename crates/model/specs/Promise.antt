@@ -5,7 +5,7 @@ use Prim.Native.Nat.{ℕ, suc, _+_, _≤_, _<_}
 use mathlib.Core.Bool.{Bool, true, false, cond}
 use mathlib.Core.List.{List, [], map}
 use mathlib.Core.Option.{none}
-use lib.ListN.{length, getD, set, take}
+use lib.ListN.{length, getD, set}
 use lib.IntN.{ℤ, pos}
 use lib.Dec.{T, eqb}
 use Rattle.model.specs.Lists.{countIf, keep}
@@ -16,7 +16,7 @@ use Rattle.model.specs.Mode.{mode, zeroToken}
 use Rattle.model.specs.Tree.{split, leaf, isLeaf, Info, Record, blankRecord, faultOf}
 use Rattle.model.specs.Grow.{grownBits}
 use Rattle.model.specs.Profile.{Profile}
-use Rattle.model.specs.Lent.{Lent, rowsIn, usesModes}
+use Rattle.model.specs.Lent.{recordIn, storedNode, stored, Lent, rowsIn, usesModes, treeIn}
 use Rattle.model.specs.Operations.{Outcome, refused, accepted, Tree, Found, learn, deepen, lookup}
 
 -- ---- rows
@@ -48,15 +48,13 @@ module _ {M : Meter} where
   abbrev pub spanAt : Lent M → ℕ → Span
   spanAt x k = getD (x .spans) k noSpan
 
+  -- what entry k of the node list reads
   abbrev pub recordAt : Lent M → ℕ → Record M
-  recordAt x k = getD (x .nodes) k blankRecord
+  recordAt x k = recordIn (getD (x .nodes) k (stored blankRecord))
 
   -- node k of the answer's tree is a leaf
   abbrev pub IsLeafOf : Tree M → Lent M → ℕ → Type 0
   IsLeafOf a x k = (k < a .nodes) × T (isLeaf (recordAt x k .node))
-
-  abbrev pub leafRecord : Info M → Record M
-  leafRecord i = record { node = leaf; info = i }
 
   -- ---- (i) limits k and k + 1: answer a with lists x, answer b with lists y, alike in everything but this
   pub record OneMore (uses : Bool) (a : Tree M) (x : Lent M) (b : Tree M) (y : Lent M) : Type 0 where
@@ -71,7 +69,7 @@ module _ {M : Meter} where
     pub middle : ℕ
     pub room : (suc (a .nodes) < length (x .nodes)) × (suc (a .nodes) < length (x .spans))
     pub nodes : y .nodes ≡ set (set (set (x .nodes) number
-        (record { node = split prop val (a .nodes) (suc (a .nodes)); info = recordAt x number .info })) (a .nodes) (leafRecord gt)) (suc (a .nodes)) (leafRecord le)
+        (storedNode (split prop val (a .nodes) (suc (a .nodes))) (recordAt x number .info))) (a .nodes) (storedNode leaf gt)) (suc (a .nodes)) (storedNode leaf le)
     pub spans : y .spans ≡ set (set (x .spans) (a .nodes) (record { first = spanAt x number .first; end = middle }))
         (suc (a .nodes)) (record { first = middle; end = spanAt x number .end })
     pub between : (spanAt x number .first ≤ middle) × (middle ≤ spanAt x number .end)
@@ -117,7 +115,7 @@ module _ (P : Profile) where
 
   -- what holds of an accepted learning or deepening: x are the lists handed in, a the answer, y the lists at exit
   pub record Kept (t : Settings (P .meter)) (x : Lent (P .meter)) (a : Tree (P .meter)) (y : Lent (P .meter)) : Type 0 where
-    pub sound : faultOf (take (a .nodes) (y .nodes)) ≡ none
+    pub sound : faultOf (treeIn (a .nodes) (y .nodes)) ≡ none
     pub rows : length (rowsIn y) ≡ length (rowsIn x)
     pub spans : SpansHold (usesModes t x) (rowsIn x) a y
     -- after unpruned learning, and after pruned learning with settling

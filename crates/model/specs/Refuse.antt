@@ -10,9 +10,9 @@ use Rattle.model.specs.Lists.{all, isEmpty}
 use Rattle.model.specs.Meter.{Meter}
 use Rattle.model.specs.Settings.{Settings, propsPerRow, toksPerRow, maxRows, maxLeaves}
 use Rattle.model.specs.Cost.{usable}
-use Rattle.model.specs.Tree.{Record, faultOf, faultOnWay}
+use Rattle.model.specs.Tree.{faultOf, faultOnWay}
 use Rattle.model.specs.Profile.{Profile}
-use Rattle.model.specs.Lent.{Lent, rowCount, hasResiduals}
+use Rattle.model.specs.Lent.{Stored, Lent, rowCount, hasResiduals, treeIn}
 
 -- the number, and the named place, else 0
 pub record Refusal : Type 0 where
@@ -94,22 +94,22 @@ learnRefusal P t logs x = refusedBefore P t logs x false none
 
 -- the seed's `count` nodes stand at the front of the node list
 unfoldable pub deepenRefusal : (P : Profile) → Settings (P .meter) → List (P .meter .Cost) → ℕ → Lent (P .meter) → Option Refusal
-deepenRefusal P t logs count x = refusedBefore P t logs x (isShortOfSeedRoom count x) (refuseAt (faultOf (take count (x .nodes))) 8 none)
+deepenRefusal P t logs count x = refusedBefore P t logs x (isShortOfSeedRoom count x) (refuseAt (faultOf (treeIn count (x .nodes))) 8 none)
 
 -- ---- the other operations
 module _ {M : Meter} where
   -- 9, then 8: count zero or beyond the list, or a node on the way
-  unfoldable pub lookupRefusal : List (Record M) → ℕ → List ℤ → Option Refusal
+  unfoldable pub lookupRefusal : List (Stored M) → ℕ → List ℤ → Option Refusal
   lookupRefusal nodes count ps =
       refuseIf (not (eqb (length ps) propsPerRow)) 9
       (refuseIf (eqb count 0 || ltb (length nodes) count) 8
-      (refuseAt (faultOnWay count (take count nodes) ps 0) 8 none))
+      (refuseAt (faultOnWay count (treeIn count nodes) ps 0) 8 none))
 
   -- 8 as for deepening, also when the count exceeds the list; then 7
-  unfoldable pub contextsRefusal : List (Record M) → ℕ → List ℕ → List ℕ → Option Refusal
+  unfoldable pub contextsRefusal : List (Stored M) → ℕ → List ℕ → List ℕ → Option Refusal
   contextsRefusal nodes count contexts queue =
       refuseIf (ltb (length nodes) count) 8
-      (refuseAt (faultOf (take count nodes)) 8
+      (refuseAt (faultOf (treeIn count nodes)) 8
       (refuseIf (ltb (length contexts) count || ltb (length queue) count) 7 none))
 
 -- 3, then 7: output shorter than min(rows, target)
