@@ -24,3 +24,15 @@ pub mod Formed
 pub mod Finished
 pub mod More
 pub mod Learned
+pub mod Keeping
+pub mod Each
+pub mod InRange
+pub mod Histogram
+pub mod LogZero
+pub mod Bounded
+pub mod SingleLawful
+pub mod Fits32
+pub mod Growing
+pub mod NeverMinusZero
+pub mod Lowest
+pub mod SameAnswer
