@@ -68,10 +68,10 @@ unfolding mode
 mode-is [] = inl refl
 mode-is (r ∷ rs) = go (ltb 4096 (width r rs))
   where
-    often : ℤ
-    often = oftenest (r ∷ rs) (width r rs) (lowest r rs) (lowest r rs) 0
+    at : Bool → ℤ
+    at b = elim b [ true ↦ pos 0 | false ↦ oftenest (r ∷ rs) (width r rs) (lowest r rs) (lowest r rs) 0 ]
 
-    go : (b : Bool) → (cond b (pos 0) often ≡ pos 0) ⊎ List·Memᴰ (cond b (pos 0) often) (r ∷ rs)
+    go : (b : Bool) → (at b ≡ pos 0) ⊎ List·Memᴰ (at b) (r ∷ rs)
     go true = inl refl
     go false = inr (oftenest-is (r ∷ rs) (width r rs) (lowest r rs) (lowest r rs) 0 (lowest-is r rs))
 

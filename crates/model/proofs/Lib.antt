@@ -1,4 +1,5 @@
 pub mod Bench
+pub mod Agree
 pub mod Lawful
 pub mod Results
 pub mod Counting
@@ -36,3 +37,17 @@ pub mod Growing
 pub mod NeverMinusZero
 pub mod Lowest
 pub mod SameAnswer
+pub mod Tests
+pub mod Accepted
+pub mod Listed
+pub mod Written
+pub mod NodeEntries
+pub mod Lookups
+pub mod AtExit
+pub mod OneMoreAtExit
+pub mod SameJob
+pub mod Demand3
+pub mod Vacated
+pub mod ContextNumbers
+pub mod OperationLaws
+pub mod Promises

@@ -20,7 +20,7 @@ abbrev pub NoRepeat : List ℕ → Type 0
 NoRepeat [] = Unit {0}
 NoRepeat (x ∷ xs) = (List·Memᴰ x xs → ⊥) × NoRepeat xs
 
-no-repeat-append : (xs ys : List ℕ) → NoRepeat xs → NoRepeat ys → ((x : ℕ) → List·Memᴰ x xs → List·Memᴰ x ys → ⊥) → NoRepeat (xs ++ ys)
+pub no-repeat-append : (xs ys : List ℕ) → NoRepeat xs → NoRepeat ys → ((x : ℕ) → List·Memᴰ x xs → List·Memᴰ x ys → ⊥) → NoRepeat (xs ++ ys)
 no-repeat-append [] ys p q d = q
 no-repeat-append (x ∷ xs) ys p q d =
     (λ m. elim (List·Memᴰ·append-cases xs m) [ inl a ↦ p .0 a | inr b ↦ d x (List·Memᴰ·head refl) b ], no-repeat-append xs ys (p .1) q (λ z a b. d z (List·Memᴰ·tail a) b))

@@ -113,10 +113,10 @@ module _ {M : Meter} (rs : List (Record M)) where
   abbrev predAt : ℕ → ℕ
   predAt k = getD rs k blankRecord .info .pred
 
-  same-length : length nodes ≡ length rs
+  pub same-length : length nodes ≡ length rs
   same-length = length-map rs (λ (r : Record M). r .node)
 
-  node-at : (k : ℕ) → getD nodes k leaf ≡ getD rs k blankRecord .node
+  pub node-at : (k : ℕ) → getD nodes k leaf ≡ getD rs k blankRecord .node
   node-at k = List·getD-map (λ (r : Record M). r .node) rs k blankRecord
 
   -- ---- no node is at fault
@@ -152,7 +152,7 @@ module _ {M : Meter} (rs : List (Record M)) where
     fine : (i : ℕ) → i < length nodes → T (isFine nodes i (predAt i) (getD nodes i leaf))
     fine i h = rw (node-at i) (rw zero-add at (fine-from 0 rs (sound-count .2) i (rw same-length at h)))
 
-    orderly : (i : ℕ) → i < length nodes → T (isOrderly (length nodes) i (predAt i) (getD nodes i leaf))
+    pub orderly : (i : ℕ) → i < length nodes → T (isOrderly (length nodes) i (predAt i) (getD nodes i leaf))
     orderly i h = and-l (isOrderly (length nodes) i (predAt i) (getD nodes i leaf)) _ (fine i h)
 
     rest : (i : ℕ) → i < length nodes → T (hasTwoChildren (getD nodes i leaf) && hasOneParent nodes i)

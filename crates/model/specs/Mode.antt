@@ -1,7 +1,7 @@
 -- The mode of a span's residuals, and the tokens of the zero predictor that follow from it (document 01, "Mode"; the Rust's `rebase_zero`).
 -- Assumes nothing.
 use Prim.Native.Nat.{ℕ, zero, suc, min}
-use mathlib.Core.Bool.{Bool, cond}
+use mathlib.Core.Bool.{Bool, true, false, cond}
 use mathlib.Core.List.{List, [], _∷_, map}
 use lib.IntN.{ℤ, pos, _-ℤ_, sucℤ, natAbs}
 use lib.Signed.{ltZ}
@@ -35,7 +35,7 @@ width r rs = suc (natAbs (highest r rs -ℤ lowest r rs))
 -- 0 where the residuals spread over more than 4,096 values, else the commonest, the smallest at a tie; no rows: 0
 unfoldable pub mode : List ℤ → ℤ
 mode [] = pos 0
-mode (r ∷ rs) = cond (ltb 4096 (width r rs)) (pos 0) (oftenest (r ∷ rs) (width r rs) (lowest r rs) (lowest r rs) 0)
+mode (r ∷ rs) = elim (ltb 4096 (width r rs)) [ true ↦ pos 0 | false ↦ oftenest (r ∷ rs) (width r rs) (lowest r rs) (lowest r rs) 0 ]
 
 -- the token of packed (residual - mode), at most 255
 unfoldable pub zeroToken : ℤ → ℤ → ℕ

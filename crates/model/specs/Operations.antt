@@ -46,13 +46,17 @@ module _ (P : Profile) (t : Settings (P .meter)) (logs : List (P .meter .Cost)) 
   unfoldable pub learn : Lent (P .meter) → After (Tree (P .meter)) (Lent (P .meter))
   learn x =
       let r = learned (jobOf P t logs (usesModes t x)) (t .limit) (rowsIn x) in
-      unless (learnRefusal P t logs x) x (treeOf r) (lentAfter r x)
+      let answer = treeOf r in
+      let exit = lentAfter r x in
+      unless (learnRefusal P t logs x) x answer exit
 
   -- the seed is the first `count` nodes of the lent list
   unfoldable pub deepen : ℕ → Lent (P .meter) → After (Tree (P .meter)) (Lent (P .meter))
   deepen count x =
       let r = deepened (jobOf P t logs (usesModes t x)) (t .limit) (treeIn count (x .nodes)) (rowsIn x) in
-      unless (deepenRefusal P t logs count x) x (treeOf r) (lentAfter r x)
+      let answer = treeOf r in
+      let exit = lentAfter r x in
+      unless (deepenRefusal P t logs count x) x answer exit
 
 -- ---- lookup: the leaf's number and predictor
 pub record Found : Type 0 where
@@ -67,7 +71,8 @@ unfoldable pub lookup : {M : Meter} → List (Stored M) → ℕ → List ℤ →
 lookup nodes count ps =
     let tree = treeIn count nodes in
     let i = leafReached (nodesOf tree) ps in
-    outcomeOf (lookupRefusal nodes count ps) (record { leaf = i; pred = getD tree i blankRecord .info .pred })
+    let answer : Found = record { leaf = i; pred = getD tree i blankRecord .info .pred } in
+    outcomeOf (lookupRefusal nodes count ps) answer
 
 -- ---- leaf contexts: how many there are; the contexts written, the queue space zero
 pub record ContextLists : Type 0 where
@@ -77,11 +82,14 @@ pub record ContextLists : Type 0 where
 unfoldable pub leafContexts : {M : Meter} → List (Stored M) → ℕ → ContextLists → After ℕ ContextLists
 leafContexts nodes count x =
     let tree = nodesOf (treeIn count nodes) in
-    unless (contextsRefusal nodes count (x .contexts) (x .queue)) x (leafCount tree)
-    (record { contexts = writtenOver (contextsOf tree) (x .contexts); queue = replicate (length (x .queue)) 0 })
+    let answer = leafCount tree in
+    let exit : ContextLists = record { contexts = writtenOver (contextsOf tree) (x .contexts); queue = replicate (length (x .queue)) 0 } in
+    unless (contextsRefusal nodes count (x .contexts) (x .queue)) x answer exit
 
 -- ---- even sampling: how many are picked; their row numbers
 unfoldable pub sample : ℕ → ℕ → List ℕ → After ℕ (List ℕ)
 sample rows target out =
     let picked = evenSample rows target in
-    unless (sampleRefusal rows target out) out (length picked) (writtenOver picked out)
+    let answer = length picked in
+    let exit = writtenOver picked out in
+    unless (sampleRefusal rows target out) out answer exit

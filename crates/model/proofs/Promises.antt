@@ -1,0 +1,9 @@
+-- Demand 3, whole, of document 01's learner. Assumes nothing.
+use Rattle.model.specs.Profile.{single}
+use Rattle.model.specs.Promise.{Demand3}
+use Rattle.model.proofs.Learned.{result-laws}
+use Rattle.model.proofs.SingleLawful.{single-lawful}
+use Rattle.model.proofs.Demand3.{demand3-of}
+
+pub demand3 : Demand3 single
+demand3 = demand3-of single single-lawful (result-laws (single-lawful .bounds))
