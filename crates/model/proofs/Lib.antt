@@ -51,3 +51,5 @@ pub mod Vacated
 pub mod ContextNumbers
 pub mod OperationLaws
 pub mod Promises
+pub mod Packing
+pub mod Tokens

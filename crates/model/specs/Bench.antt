@@ -9,7 +9,7 @@ use lib.Signed.{ltZ}
 use lib.Ieee.{Float, fin}
 use Rattle.model.specs.Settings.{Settings}
 use Rattle.model.specs.Pack.{packed}
-use Rattle.model.specs.Token.{tokenOf, extraCount, extraBits}
+use Rattle.model.specs.Token.{encodedOf}
 use Rattle.model.specs.Rows.{Span, noSpan}
 use Rattle.model.specs.Partition.{aboveRows, otherRows}
 use Rattle.model.specs.Mode.{mode}
@@ -38,7 +38,7 @@ ints = map pos
 
 -- token, extra-bit count, extra bits
 abbrev pub encoded : ℕ → List ℕ
-encoded v = tokenOf v ∷ extraCount (tokenOf v) ∷ extraBits v ∷ []
+encoded v = let e = encodedOf v in e .token ∷ e .nbits ∷ e .bits ∷ []
 
 -- ---- no rows, only predictor 5
 abbrev pub onlyFive : Settings singles

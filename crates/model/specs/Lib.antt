@@ -1,6 +1,7 @@
 pub mod Lists
 pub mod Meter
 pub mod Settings
+pub mod Standard
 pub mod Pack
 pub mod Token
 pub mod Rows

@@ -1,6 +1,14 @@
-// The types that code and definitions share. The definitions of document 01 are in specs/, the promises on them in proofs/.
+// The answers that the definitions of specs/ and the code share.
+
+// What a value is coded as: its token, how many extra bits follow, and those bits.
 pub struct Encoded {
     pub token: u32,
     pub nbits: u32,
     pub bits: u32,
+}
+
+// The value of a token with its extra bits, or the refusal of both.
+pub enum TokenValue {
+    Value(u32),
+    Refused,
 }

@@ -11,7 +11,7 @@ use lib.Ieee.{Float, binary32, binary64, ofBits}
 use Rattle.model.specs.Lists.{range}
 use Rattle.model.specs.Settings.{Settings}
 use Rattle.model.specs.Pack.{packed}
-use Rattle.model.specs.Token.{tokenOf, extraCount, extraBits}
+use Rattle.model.specs.Token.{encodedOf, tokenValueOf, answerOf}
 use Rattle.model.specs.Rows.{Span}
 use Rattle.model.specs.Partition.{aboveRows, otherRows}
 use Rattle.model.specs.Mode.{mode, zeroToken}
@@ -98,6 +98,7 @@ pub data Job : Type 0 where
   sampling : ℕ → ℕ → List ℕ → Job
   packing : List ℕ → Job
   encoding : List ℕ → Job
+  reading : List (ℕ × ℕ) → Job
   modeStep : List ℕ → Job
   thresholds : List ℕ → ℕ → Job
   parting : List ℕ → ℕ → Job
@@ -138,7 +139,8 @@ answerTo (looking count nodes ps) = found (lookup nodes count (words ps))
 answerTo (numbering count nodes x) = numbered (leafContexts nodes count x)
 answerTo (sampling rows target out) = sampled (sample rows target out)
 answerTo (packing vs) = naturals (map (λ (v : ℕ). packed (word v)) vs)
-answerTo (encoding vs) = encodings (map (λ (v : ℕ). tokenOf v ∷ extraCount (tokenOf v) ∷ extraBits v ∷ []) vs)
+answerTo (encoding vs) = encodings (map (λ (v : ℕ). let e = encodedOf v in e .token ∷ e .nbits ∷ e .bits ∷ []) vs)
+answerTo (reading ts) = encodings (map (λ (t : ℕ × ℕ). let a = answerOf (tokenValueOf (t .0) (t .1)) in a .number ∷ 0 ∷ a .value ∷ []) ts)
 answerTo (modeStep rs) = let m = mode (words rs) in rebasedTo m (map (λ (r : ℕ). zeroToken m (word r)) rs)
 answerTo (thresholds column most) = integers (candidatesOf most (words column))
 answerTo (parting column threshold) =
