@@ -1,19 +1,18 @@
 -- Parents and children in a node list, and the preorder of a tree. Assumes nothing.
 use mathlib.Core.Path.{_≡_, refl, sym, ap, _∙_, subst}
 use mathlib.Core.Logic.{_≢_, _⊎_, inl, inr}
-use Prim.Native.Nat.{ℕ, zero, suc, _+_, _≤_, _<_}
+use Prim.Native.Nat.{ℕ, suc, _≤_, _<_}
 use native.Mathlib.Nat.{lt-irrefl}
 use native.Mathlib.Omega.{arith}
 use native.Mathlib.Decide.{ℕ-discrete, decLt}
 use mathlib.Core.Bool.{Bool, true, false, cond}
-use mathlib.Core.List.{List, [], _∷_, _++_, List·Memᴰ, List·Memᴰ·head, List·Memᴰ·tail, List·Memᴰ·not-nil, List·Memᴰ·cases-cons, Memᴰ·append-left, Memᴰ·append-right, List·Memᴰ·append-cases}
-use lib.ListN.{length, getD, length-append, List·getD-eq-default}
+use mathlib.Core.List.{List}
+use lib.ListN.{length, getD, List·getD-eq-default}
 use lib.IntN.{ℤ, pos}
-use lib.Dec.{T, eqb}
+use lib.Dec.{T}
 use Rattle.model.specs.Tree.{Node, split, leaf, isLeaf, towards}
-use Rattle.model.specs.Prune.{below, preorder, placeOf}
-use Rattle.model.proofs.Paths.{Forward, AllForward, grown, eqb-same, eqb-other}
-use Rattle.model.proofs.Extended.{extended, extended-at, extended-old, extended-gt, extended-le, length-extended}
+use Rattle.model.proofs.Paths.{Forward, AllForward, grown}
+use Rattle.model.proofs.Extended.{extended-at, extended-old, extended-gt, extended-le, length-extended}
 
 abbrev pub ChildOf : Node → ℕ → Type 0
 ChildOf (split prop val gt le) c = (c ≡ gt) ⊎ (c ≡ le)

@@ -7,8 +7,8 @@ use native.Mathlib.Omega.{arith}
 use mathlib.Core.Bool.{Bool, true, false, cond, true≢false}
 use mathlib.Core.List.{List, [], _∷_, _++_, map, map-map, map-append}
 use mathlib.Core.Option.{none}
-use lib.ListN.{length, getD, take, drop, replicate, set, length-map, length-append, length-replicate, List·getD-map, List·getD-append}
-use lib.Seq.{slice, length-slice, take-at, getD-take, getD-drop, getD-set-same}
+use lib.ListN.{length, getD, take, replicate, length-map, length-append, length-replicate, List·getD-map, List·getD-append}
+use lib.Seq.{length-slice, take-at, getD-take, getD-drop, getD-set-same}
 use lib.IntN.{ℤ}
 use lib.Dec.{T, ltb, ltb→lt}
 use Rattle.model.specs.Lists.{all}
@@ -21,12 +21,12 @@ use Rattle.model.specs.Job.{Job, prunes}
 use Rattle.model.specs.Grow.{Entry, State, noEntry, treeNodes, recordOf}
 use Rattle.model.specs.Prune.{renumbered, prunedNodes, prunedTree, prunedBits, moved}
 use Rattle.model.specs.Settle.{settled}
-use Rattle.model.specs.Learn.{Result, resultOf, pruned, settledState, finished}
+use Rattle.model.specs.Learn.{Result, resultOf, pruned, settledState}
 use Rattle.model.specs.Promise.{noRow}
 use Rattle.model.proofs.Lawful.{Bounds}
 use Rattle.model.proofs.Results.{hasTokens, LeafOfResult, ResultKept, ResultFresh, ResultFreshAt}
 use Rattle.model.proofs.Invariant.{Invariant, entryAt, node-at}
-use Rattle.model.proofs.Health.{EntryFits, Covered, Healthy}
+use Rattle.model.proofs.Health.{Covered, Healthy}
 use Rattle.model.proofs.Sound.{FieldsFit, Sound, sound-faultless}
 use Rattle.model.proofs.Folding.{Folded, folds}
 use Rattle.model.proofs.Pruned as P

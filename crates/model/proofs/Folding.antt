@@ -7,7 +7,7 @@ use native.Mathlib.Nat.{lt-irrefl, zero-add}
 use native.Mathlib.Omega.{arith}
 use mathlib.Core.Bool.{Bool, true, false, cond, true≢false}
 use mathlib.Core.List.{List, [], _∷_, map}
-use lib.ListN.{length, getD, length-map, length-append, List·getD-map}
+use lib.ListN.{length, getD, length-map, length-append}
 use lib.IntN.{ℤ}
 use lib.Dec.{T}
 use Rattle.model.specs.Meter.{Meter}

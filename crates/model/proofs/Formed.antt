@@ -1,17 +1,16 @@
 -- Rows are only moved, and only their zero tokens change: a test that does not look at the zero token, and that all rows handed in pass, all rows pass
 -- ever after. Assumes nothing.
-use mathlib.Core.Path.{_≡_, refl, sym, ap, _∙_, subst}
+use mathlib.Core.Path.{_≡_, refl, sym, ap, _∙_}
 use mathlib.Core.Logic.{_⊎_, inl, inr}
 use Prim.Native.Nat.{ℕ, zero, suc, _+_, _-_, _≤_}
 use native.Mathlib.Omega.{arith}
 use mathlib.Core.Bool.{Bool, true, false, cond, not, _&&_}
-use mathlib.Core.List.{List, [], _∷_, _++_, map}
-use lib.ListN.{length, getD, take, drop, take-append-drop}
-use lib.Seq.{slice}
+use mathlib.Core.List.{List, [], _∷_, _++_}
+use lib.ListN.{getD, take, drop, take-append-drop}
 use lib.IntN.{ℤ}
 use lib.Dec.{T, eqb}
-use lib.Ieee.Fits.{and-i, and-l, and-r}
-use Rattle.model.specs.Lists.{countIf, all, keep}
+use lib.Ieee.Fits.{and-l, and-r}
+use Rattle.model.specs.Lists.{countIf, all}
 use Rattle.model.specs.Meter.{Meter}
 use Rattle.model.specs.Rows.{Row, withZero, Span, within, isAbove}
 use Rattle.model.specs.Mode.{zeroToken, spanMode, rebased, fresh}
@@ -21,9 +20,9 @@ use Rattle.model.specs.Job.{Offer, Job, prunes}
 use Rattle.model.specs.Grow.{Entry, State, noEntry, gtRows, leRows, splitRows, splitAt, step, steps}
 use Rattle.model.specs.Prune.{prunedTree, prunedBits}
 use Rattle.model.specs.Settle.{settled}
-use Rattle.model.specs.Learn.{Result, resultOf, pruned, settledState, finished, rootState, learned}
+use Rattle.model.specs.Learn.{resultOf, pruned, settledState, finished, rootState, learned}
 use Rattle.model.specs.Deepen.{rowsAt, withSeedNode, seedFrom, seedState, depthsOf, deepened}
-use Rattle.model.proofs.Counting.{count-ext, count-append, count-keep, count-split}
+use Rattle.model.proofs.Counting.{count-append, count-keep, count-split}
 use Rattle.model.proofs.Parts.{count-above, count-others}
 use Rattle.model.proofs.Steps.{OneSplit, step-is}
 

@@ -1,13 +1,13 @@
 -- What growth keeps besides the invariant: fields in range, small costs, a parent for each node but the first, spans within the parent's, and
 -- every place in the span of a leaf. Assumes nothing.
-use mathlib.Core.Path.{_≡_, refl, sym, ap, _∙_, subst}
+use mathlib.Core.Path.{_≡_, refl, ap, _∙_, subst}
 use mathlib.Core.Logic.{_≢_, _⊎_, inl, inr}
-use Prim.Native.Nat.{ℕ, zero, suc, _+_, _-_, _*_, _≤_, _<_}
+use Prim.Native.Nat.{ℕ, zero, suc, _+_, _*_, _≤_, _<_}
 use native.Mathlib.Nat.{lt-irrefl}
 use native.Mathlib.Omega.{arith}
 use native.Mathlib.Decide.{ℕ-discrete, decLt}
-use mathlib.Core.Bool.{Bool, true, false}
-use mathlib.Core.List.{List, [], _∷_}
+use mathlib.Core.Bool.{Bool, false}
+use mathlib.Core.List.{List}
 use mathlib.Core.Option.{Option, none, some}
 use lib.ListN.{length, length-map}
 use lib.IntN.{ℤ}
@@ -26,7 +26,6 @@ use Rattle.model.proofs.Fresh.{length-fresh}
 use Rattle.model.proofs.Family.{Child, child-forward}
 use Rattle.model.proofs.Invariant.{Invariant, SplitOf, split-of, few-parted, entryAt}
 use Rattle.model.proofs.Steps.{OneSplit, step-is, step-keeps, steps-keep}
-use Rattle.model.proofs.Root.{noSeeds}
 use Rattle.model.proofs.Sound.{FieldsFit}
 
 module _ {M : Meter} where

@@ -1,16 +1,14 @@
 -- What growth keeps, and that a step keeps it. Assumes nothing.
 use mathlib.Core.Path.{_≡_, refl, sym, ap, _∙_, subst}
 use mathlib.Core.Logic.{_≢_, _⊎_, inl, inr}
-use Prim.Native.Nat.{ℕ, zero, suc, _+_, _-_, _≤_, _<_}
+use Prim.Native.Nat.{ℕ, suc, _+_, _-_, _≤_, _<_}
 use native.Mathlib.Omega.{arith}
 use native.Mathlib.Decide.{ℕ-discrete, decLt}
 use mathlib.Core.Bool.{Bool, true, false, cond, not, _&&_, and-assoc, true≢false}
-use mathlib.Core.List.{List, [], _∷_, _++_, map}
+use mathlib.Core.List.{List, map}
 use mathlib.Core.Option.{Option, none, some}
-use lib.ListN.{length, getD, take, drop, set, length-map, List·getD-map, List·getD-eq-default}
+use lib.ListN.{length, getD, length-map, List·getD-map, List·getD-eq-default}
 use lib.Seq.{slice, length-slice}
-use lib.IntN.{ℤ, pos}
-use lib.Signed.{ltZ}
 use lib.Dec.{T, eqb}
 use Rattle.model.specs.Lists.{countIf, keep}
 use Rattle.model.specs.Rows.{Row, isAbove, Span, within}

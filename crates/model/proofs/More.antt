@@ -1,5 +1,5 @@
 -- One step more: without pruning, a result either stays as it is or is the same with one leaf split. Assumes nothing.
-use mathlib.Core.Path.{_≡_, refl, sym, ap, _∙_, subst}
+use mathlib.Core.Path.{_≡_, refl, sym, ap, _∙_}
 use mathlib.Core.Logic.{_⊎_, inl, inr}
 use Prim.Native.Nat.{ℕ, zero, suc, _+_, _-_, _≤_, _<_}
 use native.Mathlib.Omega.{arith}
@@ -12,19 +12,18 @@ use Rattle.model.specs.Lists.{countIf}
 use Rattle.model.specs.Meter.{Meter}
 use Rattle.model.specs.Rows.{Row, Span, noSpan, within}
 use Rattle.model.specs.Mode.{fresh}
-use Rattle.model.specs.Tree.{Node, leaf, isLeaf, Record, blankRecord}
+use Rattle.model.specs.Tree.{leaf, isLeaf, Record, blankRecord}
 use Rattle.model.specs.Job.{Offer, Job, prunes}
-use Rattle.model.specs.Grow.{Entry, State, noEntry, treeNodes, recordOf, leafOver, gtRows, leRows, gtSpan, leSpan, gtLeaf, leLeaf, splitRows, becomeSplit, grownBits, splitAt, step, steps}
+use Rattle.model.specs.Grow.{Entry, State, noEntry, treeNodes, recordOf, leafOver, gtLeaf, leLeaf, becomeSplit, grownBits, splitAt, step, steps}
 use Rattle.model.specs.Prune.{prunedTree, prunedBits}
 use Rattle.model.specs.Settle.{settled}
 use Rattle.model.specs.Learn.{Result, resultOf, leafCount, pruned, settledState, finished}
-use Rattle.model.specs.Promise.{noRow}
 use Rattle.model.proofs.Results.{ResultOneMore}
 use Rattle.model.proofs.Extended.{extended, length-extended, map-extended}
 use Rattle.model.proofs.Counting.{count-append, count-set-out}
 use Rattle.model.proofs.Paths.{T→true}
 use Rattle.model.proofs.Invariant.{Invariant, SplitOf, entryAt, node-at, split-of}
-use Rattle.model.proofs.Steps.{OneSplit, step-is, steps-keep}
+use Rattle.model.proofs.Steps.{step-is, steps-keep}
 
 -- ---- settling changes nothing where the tokens are fresh
 put-back : (a b : ℕ) (rows : List Row) → a ≤ b → take a rows ++ slice a b rows ++ drop b rows ≡ rows

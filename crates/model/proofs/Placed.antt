@@ -2,30 +2,23 @@
 -- them. Assumes nothing.
 use mathlib.Core.Path.{_≡_, refl, sym, ap, _∙_, subst}
 use mathlib.Core.Logic.{_≢_, _⊎_, inl, inr}
-use Prim.Native.Nat.{ℕ, zero, suc, _+_, _-_, _≤_, _<_}
-use native.Mathlib.Nat.{lt-irrefl}
+use Prim.Native.Nat.{ℕ, zero, suc, _≤_, _<_}
 use native.Mathlib.Omega.{arith}
 use native.Mathlib.Decide.{ℕ-discrete}
-use mathlib.Core.Bool.{Bool, true, false, cond, _&&_}
+use mathlib.Core.Bool.{Bool, false, _&&_}
 use mathlib.Core.List.{List, [], _∷_, map, List·Memᴰ, List·Memᴰ·head, List·Memᴰ·tail, List·Memᴰ·not-nil, List·Memᴰ·cases-cons}
-use lib.ListN.{length, getD, take, drop, length-map}
-use lib.Seq.{slice, length-slice}
-use lib.IntN.{ℤ}
+use lib.ListN.{length, getD}
 use lib.Dec.{T, eqb}
 use Rattle.model.specs.Lists.{countIf, keep}
 use Rattle.model.specs.Meter.{Meter}
 use Rattle.model.specs.Settings.{maxNodes}
 use Rattle.model.specs.Rows.{Row, Span, within}
-use Rattle.model.specs.Mode.{fresh}
 use Rattle.model.specs.Tree.{Node, split, leaf, isLeaf, leafReached}
 use Rattle.model.specs.Grow.{Entry, State, treeNodes}
 use Rattle.model.specs.Prune.{placeOf, prunedNodes, prunedTree}
-use Rattle.model.specs.Settle.{settled}
-use Rattle.model.specs.Promise.{SameRows, key, noRow}
+use Rattle.model.specs.Promise.{SameRows, key}
 use Rattle.model.proofs.Lawful.{Bounds}
 use Rattle.model.proofs.Counting.{count-map, count-keep, count-ext}
-use Rattle.model.proofs.Slices.{length-replaced, slice-gt, slice-before, slice-after}
-use Rattle.model.proofs.Fresh.{fresh-key, fresh-twice, length-fresh}
 use Rattle.model.proofs.Paths.{meets-leaf}
 use Rattle.model.proofs.Family.{ChildOf, Child, Anc, parent, under, child-forward}
 use Rattle.model.proofs.Preorder.{place-at}

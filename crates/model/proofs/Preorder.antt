@@ -5,11 +5,9 @@ use Prim.Native.Nat.{ℕ, zero, suc, _+_, _≤_, _<_}
 use native.Mathlib.Nat.{lt-irrefl, zero-add}
 use native.Mathlib.Omega.{arith}
 use native.Mathlib.Decide.{ℕ-discrete}
-use mathlib.Core.Bool.{Bool, true, false, cond}
 use mathlib.Core.List.{List, [], _∷_, _++_, List·Memᴰ, List·Memᴰ·head, List·Memᴰ·tail, List·Memᴰ·not-nil, List·Memᴰ·cases-cons, Memᴰ·append-left, Memᴰ·append-right, List·Memᴰ·append-cases, Memᴰ·cast}
 use lib.ListN.{length, getD}
 use lib.IntN.{ℤ}
-use lib.Dec.{T, eqb}
 use Rattle.model.specs.Tree.{Node, split, leaf}
 use Rattle.model.specs.Prune.{below, preorder, placeOf}
 use Rattle.model.proofs.Paths.{eqb-same, eqb-other}

@@ -5,12 +5,12 @@ use Prim.Native.Nat.{ℕ, zero, suc, _+_, _-_, _≤_, _<_}
 use native.Mathlib.Nat.{lt-irrefl, zero-add}
 use native.Mathlib.Omega.{arith}
 use native.Mathlib.Decide.{ℕ-discrete, decLt}
-use mathlib.Core.Bool.{Bool, true, false, cond, not, _&&_, _||_, true≢false}
-use mathlib.Core.List.{List, [], _∷_, _++_, map, map-map, List·Memᴰ, List·Memᴰ·head, Memᴰ·cast}
+use mathlib.Core.Bool.{Bool, true, false, cond, _||_}
+use mathlib.Core.List.{List, [], _∷_, map, map-map, List·Memᴰ, Memᴰ·cast}
 use lib.ListN.{length, getD, length-map, List·getD-map, List·getD-eq-default}
 use lib.IntN.{ℤ, pos}
 use lib.Signed.{ltZ}
-use lib.Dec.{T, T-not, eqb, ltb, eqb→eq}
+use lib.Dec.{T, eqb, eqb→eq}
 use Rattle.model.specs.Meter.{Meter}
 use Rattle.model.specs.Tree.{Node, split, leaf, isLeaf, towards, follow, reach, leafReached}
 use Rattle.model.specs.Grow.{Entry, noEntry, treeNodes}

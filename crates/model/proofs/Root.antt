@@ -1,28 +1,24 @@
 -- Learning starts in the invariant. Assumes nothing.
-use mathlib.Core.Path.{_≡_, refl, sym, ap, _∙_, subst}
-use mathlib.Core.Logic.{_≢_}
+use mathlib.Core.Path.{_≡_, refl, sym, ap, _∙_}
 use Prim.Native.Nat.{ℕ, zero, suc, _<_}
 use native.Mathlib.Nat.{not-suc-le-zero}
 use native.Mathlib.Omega.{arith}
-use mathlib.Core.Bool.{Bool, true, false, _&&_, false≢true}
-use mathlib.Core.List.{List, [], _∷_, map}
-use mathlib.Core.Option.{Option, some}
-use lib.ListN.{length, getD, take}
+use mathlib.Core.Bool.{Bool, true, false, false≢true}
+use mathlib.Core.List.{List, map}
+use lib.ListN.{length, take}
 use lib.Seq.{take-all}
-use lib.Dec.{T}
 use Rattle.model.specs.Lists.{countIf, keep}
-use Rattle.model.specs.Rows.{Row, Span, within}
-use Rattle.model.specs.Mode.{fresh, spanMode}
-use Rattle.model.specs.Tree.{isLeaf}
-use Rattle.model.specs.Grow.{Entry, leafOver}
+use Rattle.model.specs.Rows.{Row}
+use Rattle.model.specs.Mode.{fresh}
+use Rattle.model.specs.Grow.{leafOver}
 use Rattle.model.specs.Learn.{rootState}
 use Rattle.model.specs.Promise.{key}
-use Rattle.model.proofs.Counting.{count-map, count-keep, count-ext}
+use Rattle.model.proofs.Counting.{count-map, count-keep}
 use Rattle.model.proofs.Fresh.{fresh-key, fresh-twice, length-fresh}
-use Rattle.model.proofs.Invariant.{Invariant, passes}
+use Rattle.model.proofs.Invariant.{Invariant}
 use Rattle.model.proofs.Paths.{meets}
 use Rattle.model.specs.Meter.{Meter}
-use Rattle.model.specs.Job.{Offer, Job}
+use Rattle.model.specs.Job.{Job}
 
 -- no node is a seed's
 abbrev pub noSeeds : ℕ → Bool

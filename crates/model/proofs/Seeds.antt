@@ -1,7 +1,7 @@
 -- Deepening a sound seed starts in the invariant, and healthy. Assumes nothing.
 use mathlib.Core.Path.{_≡_, refl, sym, ap, _∙_, subst}
 use mathlib.Core.Logic.{_≢_, _⊎_, inl, inr}
-use Prim.Native.Nat.{ℕ, zero, suc, _+_, _≤_, _<_}
+use Prim.Native.Nat.{ℕ, suc, _+_, _≤_, _<_}
 use native.Mathlib.Nat.{zero-add, lt-irrefl}
 use native.Mathlib.Omega.{arith}
 use native.Mathlib.Decide.{ℕ-discrete, decLt}
@@ -19,12 +19,12 @@ use Rattle.model.specs.Mode.{fresh, rebased, spanMode}
 use Rattle.model.specs.Tree.{Node, split, leaf, isLeaf, Info, Record, blankRecord, nodesOf, leafReached, faultOf}
 use Rattle.model.specs.Job.{Offer, Job}
 use Rattle.model.specs.Grow.{Entry, State, noEntry, treeNodes, leafOver}
-use Rattle.model.specs.Deepen.{rowsAt, seedSplit, emptyLeaf, seedLeaf, withLeafCost, withSeedNode, seedFrom, seedState, depthsOf}
+use Rattle.model.specs.Deepen.{rowsAt, seedSplit, emptyLeaf, withLeafCost, withSeedNode, seedFrom, seedState, depthsOf}
 use Rattle.model.specs.Promise.{key}
 use Rattle.model.proofs.Lawful.{Bounds, JobFits}
 use Rattle.model.proofs.Counting.{count-map, count-keep, count-ext, count-none, count-all, count-below, length-keep, count-at-most}
 use Rattle.model.proofs.Paths.{T→true, meets-leaf, reached-leaf}
-use Rattle.model.proofs.Family.{Child, child-forward, leaf-no-child}
+use Rattle.model.proofs.Family.{Child, leaf-no-child}
 use Rattle.model.proofs.Fresh.{fresh-key, fresh-twice, length-fresh}
 use Rattle.model.proofs.Invariant.{Invariant, passes, entryAt, node-at, none-is-no-some}
 use Rattle.model.proofs.Sound.{FieldsFit, Sound, sound, sound-count}
@@ -42,11 +42,6 @@ T→not-false false t = absurd t
 not-false→T : (b : Bool) → not b ≡ false → T b
 not-false→T true e = tt
 not-false→T false e = absurd (true≢false e)
-
--- a split is no leaf
-node-cases : {A : Type 0} (m : Node) → (T (isLeaf m) → A) → ((prop : ℕ) (val : ℤ) (gt le : ℕ) → m ≡ split prop val gt le → A) → A
-node-cases leaf f g = f tt
-node-cases (split prop val gt le) f g = g prop val gt le refl
 
 module _ {M : Meter} (B : Bounds M) (j : Job M) (seed : List (Record M)) (rows : List Row) (fit : JobFits B j (length rows)) (faultless : faultOf seed ≡ none) where
   abbrev nodes : List Node

@@ -1,12 +1,11 @@
 -- A list with the part from a to b replaced: its slices. Assumes nothing.
-use mathlib.Core.Path.{_≡_, refl, sym, ap, _∙_, subst}
-use Prim.Native.Nat.{ℕ, zero, suc, _+_, _-_, _≤_, _<_, min}
+use mathlib.Core.Path.{_≡_, refl, sym, ap, _∙_}
+use Prim.Native.Nat.{ℕ, _+_, _-_, _≤_, _<_}
 use native.Mathlib.Omega.{arith}
 use mathlib.Core.Bool.{Bool}
-use mathlib.Core.List.{List, [], _∷_, _++_, append-assoc}
-use lib.ListN.{length, getD, take, drop, length-append, length-take, length-drop, take-append-drop, List·getD-append}
+use mathlib.Core.List.{List, _++_, append-assoc}
+use lib.ListN.{length, getD, take, drop, length-append, length-drop, take-append-drop, List·getD-append}
 use lib.Seq.{slice, length-slice, length-take-le, take-take, take-at, drop-at, drop-append-le, getD-append-add, getD-take, getD-drop, ext-getD}
-use native.Mathlib.Decide.{decLt}
 use Rattle.model.specs.Lists.{countIf}
 use Rattle.model.proofs.Counting.{count-append}
 

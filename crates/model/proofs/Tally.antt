@@ -1,21 +1,20 @@
 -- Numbers below n in a list, counted by value: how long a list without repetition is, and how many nodes a tree has. Assumes nothing.
-use mathlib.Core.Path.{_≡_, refl, sym, ap, _∙_, subst}
-use mathlib.Core.Logic.{_≢_, _⊎_, inl, inr}
+use mathlib.Core.Path.{_≡_, refl, sym, ap, _∙_}
+use mathlib.Core.Logic.{inl, inr}
 use Prim.Native.Nat.{ℕ, zero, suc, _+_, _-_, _*_, _≤_, _<_}
 use native.Mathlib.Nat.{lt-irrefl}
 use native.Mathlib.Omega.{arith}
-use native.Mathlib.Decide.{ℕ-discrete, decLt}
-use mathlib.Core.Bool.{Bool, true, false, cond, not, _||_}
+use native.Mathlib.Decide.{ℕ-discrete}
+use mathlib.Core.Bool.{Bool, true, false, cond, _||_}
 use mathlib.Core.List.{List, [], _∷_, _++_, List·Memᴰ, List·Memᴰ·head, List·Memᴰ·tail, List·Memᴰ·cases-cons, List·Memᴰ·append-cases, List·Memᴰ·not-nil, Memᴰ·cast}
-use lib.ListN.{length, getD, length-append}
-use lib.IntN.{ℤ}
+use lib.ListN.{length, getD}
 use lib.Dec.{T, eqb, eqb→eq}
 use Rattle.model.specs.Lists.{countIf}
 use Rattle.model.specs.Tree.{Node, split, leaf, isLeaf, hasChild}
 use Rattle.model.specs.Learn.{leafCount}
 use Rattle.model.proofs.Counting.{count-append}
 use Rattle.model.proofs.Paths.{eqb-same, eqb-other}
-use Rattle.model.proofs.Family.{ChildOf, Child, Twins, Family, child-forward}
+use Rattle.model.proofs.Family.{ChildOf, Child, Twins, child-forward}
 use Rattle.model.proofs.Preorder.{NoRepeat}
 use Rattle.model.proofs.Sound.{Rooted, once}
 

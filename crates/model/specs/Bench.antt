@@ -1,20 +1,20 @@
 -- The starred rows of document 01's bench table, as one table: what the definitions give, and what the paper says. Assumes nothing.
 use Prim.Native.Nat.{ℕ}
-use mathlib.Core.Bool.{Bool, true, false}
+use mathlib.Core.Bool.{false}
 use mathlib.Core.List.{List, [], _∷_, _++_, map}
 use mathlib.Core.Option.{none}
-use lib.ListN.{length, getD, replicate, take}
+use lib.ListN.{length, getD, replicate}
 use lib.IntN.{ℤ, pos, negsuc}
 use lib.Signed.{ltZ}
 use lib.Ieee.{Float, fin}
 use Rattle.model.specs.Settings.{Settings}
 use Rattle.model.specs.Pack.{packed}
 use Rattle.model.specs.Token.{encodedOf}
-use Rattle.model.specs.Rows.{Span, noSpan}
+use Rattle.model.specs.Rows.{noSpan}
 use Rattle.model.specs.Partition.{aboveRows, otherRows}
 use Rattle.model.specs.Mode.{mode}
 use Rattle.model.specs.Candidates.{stride, candidatesOf}
-use Rattle.model.specs.Tree.{Node, split, leaf, isLeaf, Record, blankRecord, noInfo}
+use Rattle.model.specs.Tree.{Node, split, leaf, Record, blankRecord}
 use Rattle.model.specs.Grow.{Entry}
 use Rattle.model.specs.Prune.{prunedTree, prunedBits}
 use Rattle.model.specs.Single.{singles, single}

@@ -1,5 +1,5 @@
 -- What deepening makes of a sound seed and its rows (document 01, "Deepening"; the Rust's `deepen_ma_tree`). Assumes nothing.
-use Prim.Native.Nat.{ℕ, zero, suc, _+_, _-_}
+use Prim.Native.Nat.{ℕ, suc, _+_, _-_}
 use mathlib.Core.List.{List, [], _∷_, _++_}
 use mathlib.Core.Option.{none}
 use lib.ListN.{length, getD, set, replicate}

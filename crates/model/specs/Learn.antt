@@ -1,5 +1,5 @@
 -- What learning makes of its rows (document 01, "The learner, leaves first"; the Rust's `learn_ma_tree_in_place`). Assumes nothing.
-use Prim.Native.Nat.{ℕ, suc, _-_}
+use Prim.Native.Nat.{ℕ, _-_}
 use mathlib.Core.Bool.{cond}
 use mathlib.Core.List.{List, [], _∷_, _++_, map}
 use lib.ListN.{length, replicate}

@@ -8,7 +8,6 @@ use lib.Ieee.{Float, fin, lt, le}
 use Rattle.model.specs.Lists.{all}
 use Rattle.model.specs.Meter.{Meter}
 use Rattle.model.specs.Settings.{Settings}
-use Rattle.model.specs.Rows.{Row}
 use Rattle.model.specs.Job.{Offer, Job}
 use Rattle.model.specs.Evaluate.{infoOf, offered}
 use Rattle.model.specs.Flat.{flatBits}

@@ -1,6 +1,6 @@
 -- The meter of document 01: costs in single precision, each operation rounded once; totals in double precision. Assumes nothing.
 use Prim.Native.Nat.{ℕ}
-use mathlib.Core.Bool.{Bool, false}
+use mathlib.Core.Bool.{false}
 use lib.IntN.{pos}
 use lib.Ieee.{Float, fin, inf, binary32, binary64, add, sub, mul, lt, le, ofInt}
 use Rattle.model.specs.Meter.{Meter}
