@@ -1,0 +1,158 @@
+//! Reads out what the learner keeps to itself. This is the only module that
+//! the patch adds to the original, as a child of `ma_tree`, so that it sees
+//! private parts without making them public.
+
+use super::*;
+use stream::{Kind, Record, Span};
+
+/// A tree with what stands beside its nodes.
+pub(crate) struct Tree {
+    pub(crate) nodes: Vec<Record>,
+    pub(crate) spans: Vec<Span>,
+    /// How many entries growth wrote, before pruning vacated some.
+    pub(crate) written: usize,
+    pub(crate) estimated_bits: f64,
+    pub(crate) flat_bits: f64,
+}
+
+impl Tree {
+    fn of(tree: LearnedTree) -> Self {
+        Self {
+            nodes: records(&tree.nodes, &tree.info),
+            spans: tree.info.iter().map(span_of).collect(),
+            written: tree.grown,
+            estimated_bits: tree.est_bits,
+            flat_bits: tree.flat_bits,
+        }
+    }
+}
+
+pub(crate) fn learn(
+    samples: &mut MaSamples,
+    params: MaLearnParams,
+    scratch: &mut CoderScratch,
+) -> Tree {
+    renew_logs(scratch);
+    Tree::of(learn_ma_tree_in_place(
+        samples,
+        params,
+        &ThreadPool,
+        scratch,
+    ))
+}
+
+pub(crate) fn deepen(
+    samples: MaSamples,
+    params: MaLearnParams,
+    seed: &[Record],
+    scratch: &mut CoderScratch,
+) -> (Tree, MaSamples) {
+    renew_logs(scratch);
+    let (tree, samples) = deepen_ma_tree(samples, params, tree_of(seed), &ThreadPool, scratch);
+    (Tree::of(tree), samples)
+}
+
+/// The original keeps the first job's logarithms of counts below 4,096 for ever
+/// (`count_log2_table`). Here they are part of the scratch, and made anew.
+fn renew_logs(scratch: &mut CoderScratch) {
+    for (count, log) in scratch.ma_property.logs.iter_mut().enumerate() {
+        *log = dirty_log2f(count as f32);
+    }
+}
+
+/// A tree as the original holds it, with nothing learned about it.
+pub(crate) fn tree_of(nodes: &[Record]) -> LearnedTree {
+    LearnedTree {
+        nodes: nodes.iter().map(node_of).collect(),
+        est_bits: 0.0,
+        flat_bits: 0.0,
+        info: Vec::new(),
+        grown: nodes.len(),
+    }
+}
+
+/// The mode step: rewrites the zero-predictor tokens and gives the mode.
+pub(crate) fn mode_step(
+    tokens: &mut [[u8; NUM_MA_PREDS]],
+    residuals: &[i32],
+    scratch: &mut CoderScratch,
+) -> i32 {
+    rebase_zero(tokens, residuals, &mut scratch.ma_property.multi_bin_count)
+}
+
+/// The candidate thresholds of a column.
+pub(crate) fn candidates(column: &[i32], limit: usize, scratch: &mut CoderScratch) -> Vec<i32> {
+    let rows: Vec<_> = column.iter().map(|&v| [v; NUM_MA_PROPS]).collect();
+    let scratch = &mut scratch.ma_property;
+    match pick_candidates(&rows, 0, limit, scratch) {
+        0 => Vec::new(),
+        _ => scratch.cands.clone(),
+    }
+}
+
+/// Moves what lies above the threshold to the front and counts it.
+pub(crate) fn partition(column: &mut [i32], threshold: i32) -> usize {
+    partition_by(column, |&v| v > threshold, |_, _| {})
+}
+
+/// Prunes a tree at any price. Gives the estimated bits.
+pub(crate) fn prune(nodes: &mut Vec<Record>, spans: &mut Vec<Span>, price: f32) -> f64 {
+    let mut tree: Vec<_> = nodes.iter().map(node_of).collect();
+    let mut info: Vec<_> = nodes.iter().zip(&*spans).map(info_of).collect();
+    let bits = prune_tree(&mut tree, &mut info, price);
+    *nodes = records(&tree, &info);
+    *spans = info.iter().map(span_of).collect();
+    bits
+}
+
+fn node_of(record: &Record) -> MaNode {
+    match record.kind {
+        Kind::Leaf => MaNode::Leaf {
+            pred: record.pred,
+            offset: record.offset,
+        },
+        Kind::Split => MaNode::Split {
+            prop: record.prop as u8,
+            val: record.val,
+            gt: record.gt,
+            le: record.le,
+        },
+    }
+}
+
+fn info_of((record, span): (&Record, &Span)) -> NodeInfo {
+    NodeInfo {
+        base_bits: f32::from_bits(record.cost),
+        pred: record.pred,
+        offset: record.offset,
+        span: (span.first as usize, span.end as usize),
+    }
+}
+
+fn records(nodes: &[MaNode], info: &[NodeInfo]) -> Vec<Record> {
+    assert_eq!(nodes.len(), info.len());
+    nodes.iter().zip(info).map(record_of).collect()
+}
+
+fn record_of((node, info): (&MaNode, &NodeInfo)) -> Record {
+    let record = match *node {
+        MaNode::Split { prop, val, gt, le } => Record {
+            pred: info.pred,
+            offset: info.offset,
+            ..Record::split(prop.into(), val, gt, le)
+        },
+        MaNode::Leaf { pred, offset } => {
+            // Stored twice in the original, once in the answer.
+            assert_eq!((pred, offset), (info.pred, info.offset));
+            Record::leaf(pred, offset)
+        }
+    };
+    record.with_cost(info.base_bits)
+}
+
+fn span_of(info: &NodeInfo) -> Span {
+    Span {
+        first: info.span.0 as u32,
+        end: info.span.1 as u32,
+    }
+}
