@@ -6,11 +6,11 @@ use mathlib.Core.Logic.{_⊎_, inl, inr}
 use Prim.Native.Nat.{ℕ, suc, _+_, _-_, _*_, _^_, _≤_, _<_, zero-le}
 use native.Mathlib.Nat.{le-trans, le-of-eq, le-of-lt, lt-of-lt-of-le, zero-lt-suc, zero-mul, add-mul, mul-one, mul-assoc, mul-comm, mul-right-comm, mul-mul-mul-comm, mul-le-mul, mul-le-mul-right, le-of-mul-le-mul-right, mul-pos}
 use native.Mathlib.Omega.{arith}
-use mathlib.Core.Bool.{Bool, true, false, _&&_, _||_, Bool·beq, cond, true≢false}
+use mathlib.Core.Bool.{Bool, true, false, not, _&&_, _||_, Bool·beq, cond, true≢false}
 use lib.IntN.{pos}
 use lib.Dec.{T, ltb, eqb, ltb→lt, eqb→eq}
 use lib.Pow.{pow-add, pow-mono, shl-lt}
-use lib.Ieee.{Float, nan, inf, fin, Format, prec, emax, low, up, down, round, neg, sum, add, sub, mul, ofInt, le, unlike}
+use lib.Ieee.{Float, nan, inf, fin, Format, prec, emax, low, up, down, round, neg, sum, add, sub, mul, ofInt, le, unlike, isNan}
 use lib.Ieee.Fits.{down-pos, and-l}
 use lib.Ieee.Scale.{finite}
 use lib.Ieee.Exact.{HasValue, round-exact}
@@ -32,6 +32,12 @@ pub within-finite : (x : Float) (b : ℕ) → Within b x → T (finite x)
 within-finite nan b w = absurd w
 within-finite (inf s) b w = absurd w
 within-finite (fin s m e) b w = tt
+
+pub within-not-nan : (x : Float) (b : ℕ) → Within b x → T (not (isNan x))
+unfolding isNan
+within-not-nan nan b w = absurd w
+within-not-nan (inf s) b w = tt
+within-not-nan (fin s m e) b w = tt
 
 within-neg : (x : Float) (b : ℕ) → Within b x → Within b (neg x)
 unfolding neg

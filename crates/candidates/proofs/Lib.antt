@@ -1,0 +1,17 @@
+pub mod Order
+pub mod Machine
+pub mod InOrder
+pub mod Distinct
+pub mod Turns
+pub mod OverlayLaws
+pub mod MarkLaws
+pub mod KeepLaws
+pub mod DigitLaws
+pub mod PlaceLaws
+pub mod ProbeLaws
+pub mod ShiftLaws
+pub mod RepeatLaws
+pub mod QuantileLaws
+pub mod PickLaws
+pub mod CandidateLaws
+pub mod Columns

@@ -1,0 +1,4 @@
+pub mod Scan
+pub mod Ranges
+pub mod Answers
+pub mod Passed

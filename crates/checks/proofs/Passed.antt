@@ -1,0 +1,124 @@
+-- What the checks' answers say of learning and deepening: a refusal is the model's, and after a pass the facts that the work on the rows goes by hold.
+-- Assumes nothing.
+use mathlib.Core.Path.{_≡_, refl, sym, _∙_}
+use mathlib.Core.Logic.{_⊎_, inl, inr}
+use mathlib.Core.Bool.{Bool, true, false}
+use mathlib.Core.List.{List}
+use mathlib.Core.Option.{Option, none, some, orElse}
+use Prim.Native.Nat.{ℕ, _*_, _≤_, _<_}
+use native.Mathlib.Omega.{arith}
+use lib.ListN.{length, getD}
+use lib.Dec.{T, ltb, ltb→lt}
+use lib.Ieee.{Float, nan}
+use Rattle.model.specs.Settings as model
+use Rattle.model.specs.Single.{singles}
+use Rattle.model.specs.Profile.{Profile, single}
+use Rattle.model.specs.Tree.{faultOf}
+use Rattle.model.specs.Lent.{Lent, rowCount, treeIn, lentAfter}
+use Rattle.model.specs.Refuse.{Refusal, refuseIf, refuseAt, isShortOfSeedRoom, refusedBefore, learnRefusal, deepenRefusal}
+use Rattle.model.specs.Operations.{learn, treeOf}
+use Rattle.model.proofs.Accepted.{Passed, SeedRooms, learnedFrom, learn-accepted}
+use Rattle.model.proofs.Bounded.{LogsWithin, logs-within}
+use Rattle.model.proofs.Tests.{neither, not-below, passed, named}
+use Rattle.checks.specs.declared.Settings.{Settings}
+use Rattle.checks.specs.declared.Check.the-variants.{Pass, Refused}
+use Rattle.checks.specs.Given.{settingsOf, checkOf}
+use Rattle.checks.proofs.Scan.{all-at, logFits, logs-at}
+use Rattle.checks.proofs.Answers.{pass-is, refused-is}
+
+-- A job of so many rows, of which none of conditions 1 to 7 holds: what the model says of it, and the same by rows and entries of the flat lists
+pub record Accepted (s : Settings) (logs : List Float) (x : Lent singles) (rows : ℕ) : Type 0 where
+  pub row-count : rows ≡ rowCount x
+  pub few : rows ≤ 65536
+  pub props : length (x .props) ≡ rows * 24
+  pub toks : length (x .toks) ≡ rows * 14
+  pub res : (length (x .res) ≡ 0) ⊎ (length (x .res) ≡ rows)
+  pub tokens : (k : ℕ) → k < length (x .toks) → getD (x .toks) k 0 < s .alphabet
+  pub log-fits : (k : ℕ) → 0 < k → k ≤ rows → T (logFits (getD logs k nan))
+  pub logs-small : LogsWithin rows logs
+  pub model : Passed single (settingsOf s) logs x
+
+-- ---- the end of the model's chain
+if-then : (b : Bool) (n : ℕ) (next last : Option Refusal) → orElse (refuseIf b n next) last ≡ refuseIf b n (orElse next last)
+unfolding orElse
+if-then true n next last = refl
+if-then false n next last = refl
+
+at-then : (o : Option ℕ) (n : ℕ) (next last : Option Refusal) → orElse (refuseAt o n next) last ≡ refuseAt o n (orElse next last)
+unfolding orElse
+at-then none n next last = refl
+at-then (some p) n next last = refl
+
+module _ (P : Profile) (t : model.Settings (P .meter)) (logs : List (P .meter .Cost)) (x : Lent (P .meter)) where
+  -- conditions 1 to 7, and then `last`
+  pub before-last : (short : Bool) (last : Option Refusal) → refusedBefore P t logs x short last ≡ orElse (refusedBefore P t logs x short none) last
+  unfolding refusedBefore orElse
+  before-last short last = simp (if-then, at-then)
+
+  -- an operation's own rooms apart, the conditions are those of learning
+  before-none : (short : Bool) → refusedBefore P t logs x short none ≡ none → (learnRefusal P t logs x ≡ none) × (short ≡ false)
+  unfolding refusedBefore learnRefusal
+  before-none short e = let roomy : short ≡ false = (simp (passed, named, neither) at e) .1 .1 .1 .1 .1 .1 .0 .1 in (rw roomy at e, roomy)
+
+-- 7 of deepening
+seed-rooms : (count : ℕ) (x : Lent singles) → isShortOfSeedRoom count x ≡ false → SeedRooms count x
+unfolding isShortOfSeedRoom
+seed-rooms count x e = let h = simp (neither, not-below) at e in omega arith
+
+module _ (s : Settings) (logs : List Float) (x : Lent singles) where
+  -- the model's record, from a learning that is not refused
+  unrefused : learnRefusal single (settingsOf s) logs x ≡ none → Passed single (settingsOf s) logs x
+  unfolding learn
+  unrefused e =
+      let r = learnedFrom single (settingsOf s) logs x in
+      learn-accepted single (settingsOf s) logs x (lentAfter r x) (treeOf r) (rw e) .0
+
+  facts : (rows : ℕ) → rows ≡ rowCount x → Passed single (settingsOf s) logs x → Accepted s logs x rows
+  facts rows e p =
+      record {
+        row-count = e;
+        few = omega arith;
+        props = omega arith;
+        toks = omega arith;
+        res = elim (p .lists .res) [ inl z ↦ inl z | inr z ↦ inr (z ∙ sym e) ];
+        tokens = λ k h. ltb→lt _ _ (all-at (λ (t : ℕ). ltb t (s .alphabet)) 0 (x .toks) k h (p .tokens));
+        log-fits = λ k h l. logs-at logs x (p .logs-enough) (p .logs-fit) k h (omega arith);
+        logs-small = rw e (logs-within (rowCount x) logs (p .logs-enough) (p .logs-fit));
+        model = p;
+      }
+
+  -- ---- learning
+  abbrev pub learning : Option Refusal
+  learning = learnRefusal single (settingsOf s) logs x
+
+  pub learn-passed : (rows : ℕ) → checkOf (rowCount x) learning ≡ Pass rows → (learning ≡ none) × Accepted s logs x rows
+  learn-passed rows e = let h = pass-is learning (rowCount x) rows e in (h .0, facts rows (h .1) (unrefused (h .0)))
+
+  pub learn-refused : (n p : ℕ) → checkOf (rowCount x) learning ≡ Refused n p → learning ≡ some (record { number = n; place = p })
+  learn-refused n p e = refused-is learning (rowCount x) n p e
+
+  -- ---- deepening a seed of `count` nodes
+  module _ (count : ℕ) where
+    -- conditions 1 to 7
+    abbrev pub deepening : Option Refusal
+    deepening = refusedBefore single (settingsOf s) logs x (isShortOfSeedRoom count x) none
+
+    -- condition 8
+    abbrev pub fault : Option Refusal
+    fault = refuseAt (faultOf (treeIn count (x .nodes))) 8 none
+
+    pub deepen-then : deepenRefusal single (settingsOf s) logs count x ≡ orElse deepening fault
+    unfolding deepenRefusal
+    deepen-then = before-last single (settingsOf s) logs x (isShortOfSeedRoom count x) fault
+
+    pub deepen-passed : (rows : ℕ) → checkOf (rowCount x) deepening ≡ Pass rows
+        → (deepenRefusal single (settingsOf s) logs count x ≡ fault) × Accepted s logs x rows × SeedRooms count x
+    unfolding orElse
+    deepen-passed rows e =
+        let h = pass-is deepening (rowCount x) rows e in
+        let learns = before-none single (settingsOf s) logs x (isShortOfSeedRoom count x) (h .0) in
+        (deepen-then ∙ rw (h .0), facts rows (h .1) (unrefused (learns .0)), seed-rooms count x (learns .1))
+
+    pub deepen-refused : (n p : ℕ) → checkOf (rowCount x) deepening ≡ Refused n p → deepenRefusal single (settingsOf s) logs count x ≡ some (record { number = n; place = p })
+    unfolding orElse
+    deepen-refused n p e = deepen-then ∙ rw (refused-is deepening (rowCount x) n p e)

@@ -1,0 +1,19 @@
+-- The tests are the model's, in other brackets. Assumes nothing.
+use mathlib.Core.Bool.{and-assoc, Bool·not-not}
+use borrow.Author.Needs.{needs}
+use Rattle.model.specs.Refuse.{isOutside}
+use Rattle.checks.proofs.settings_fit.Statement.{statement}
+use Rattle.checks.proofs.settings_fit.Tie as tie
+
+price-fits-requires : tie.Need-price-fits-requires
+price-fits-requires c κs = search needs
+
+price-fits-requires-2 : tie.Need-price-fits-requires-2
+price-fits-requires-2 c κs = search needs
+
+returns : tie.Need-returns
+unfolding isOutside
+returns c = simp (c .before .before .before .before .price-fits .ensures, c .before .before .before .price-fits2 .ensures, and-assoc, Bool·not-not)
+
+pub settings-fit-spec : {M : Type 1} → statement M
+settings-fit-spec = tie.close (tie.spec price-fits-requires price-fits-requires-2 returns)

@@ -1,0 +1,11 @@
+pub mod Numbers
+pub mod Sums
+pub mod Blocks
+pub mod RowReads
+pub mod Histograms
+pub mod Counts
+pub mod Bounded
+pub mod Predictors
+pub mod Sorting
+pub mod Bridge
+pub mod Flat

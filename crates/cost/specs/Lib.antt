@@ -1,0 +1,4 @@
+pub mod Counted
+pub mod Histograms
+pub mod Predictors
+pub mod Flat

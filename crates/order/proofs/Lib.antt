@@ -1,0 +1,10 @@
+pub mod Exchange
+pub mod RowLaws
+pub mod Swaps
+pub mod Cycles
+pub mod Tables
+pub mod OrderLaws
+pub mod Placing
+pub mod Steps
+pub mod Passes
+pub mod Leaves

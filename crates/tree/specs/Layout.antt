@@ -1,0 +1,68 @@
+-- How a node list stands in three flat lists of numbers: five words, two values and one cost a node. Assumes nothing.
+use Prim.Native.Nat.{ℕ, _+_, _*_, _/_, min}
+use mathlib.Core.List.{List, map}
+use lib.ListN.{length, getD, set}
+use lib.IntN.{ℤ, pos}
+use lib.Ieee.{Float, nan}
+use lib.Dec.{eqb}
+use Rattle.model.specs.Lists.{range}
+use Rattle.model.specs.Single.{singles}
+use Rattle.model.specs.Lent.{Stored}
+
+abbrev pub wordsPerNode : ℕ
+wordsPerNode = 5
+
+abbrev pub valuesPerNode : ℕ
+valuesPerNode = 2
+
+-- a node's words: kind, property, gt, le and predictor
+abbrev pub kindAt : List ℕ → ℕ → ℕ
+kindAt words i = getD words (i * wordsPerNode) 0
+
+abbrev pub propAt : List ℕ → ℕ → ℕ
+propAt words i = getD words (i * wordsPerNode + 1) 0
+
+abbrev pub gtAt : List ℕ → ℕ → ℕ
+gtAt words i = getD words (i * wordsPerNode + 2) 0
+
+abbrev pub leAt : List ℕ → ℕ → ℕ
+leAt words i = getD words (i * wordsPerNode + 3) 0
+
+abbrev pub predAt : List ℕ → ℕ → ℕ
+predAt words i = getD words (i * wordsPerNode + 4) 0
+
+-- its values: threshold and offset
+abbrev pub valAt : List ℤ → ℕ → ℤ
+valAt values i = getD values (i * valuesPerNode) (pos 0)
+
+abbrev pub offsetAt : List ℤ → ℕ → ℤ
+offsetAt values i = getD values (i * valuesPerNode + 1) (pos 0)
+
+-- entry i: kind 1 is a split, and any other number a leaf
+abbrev pub storedAt : List ℕ → List ℤ → List Float → ℕ → Stored singles
+storedAt words values costs i =
+    record {
+      isSplit = eqb (kindAt words i) 1;
+      prop = propAt words i;
+      val = valAt values i;
+      gt = gtAt words i;
+      le = leAt words i;
+      info = record { cost = getD costs i nan; pred = predAt words i; offset = offsetAt values i };
+    }
+
+-- how many nodes have all their words and values
+abbrev pub nodesHeld : List ℕ → List ℤ → ℕ
+nodesHeld words values = min (length words / wordsPerNode) (length values / valuesPerNode)
+
+-- the node list that the three lists hold
+unfoldable pub storedIn : List ℕ → List ℤ → List Float → List (Stored singles)
+storedIn words values costs = map (storedAt words values costs) (range 0 (nodesHeld words values))
+
+-- the lists with the words and the values of node i written
+abbrev pub putWords : ℕ → ℕ → ℕ → ℕ → ℕ → ℕ → List ℕ → List ℕ
+putWords i kind prop gt le pred words =
+    let at = i * wordsPerNode in
+    set (set (set (set (set words at kind) (at + 1) prop) (at + 2) gt) (at + 3) le) (at + 4) pred
+
+abbrev pub putValues : ℕ → ℤ → ℤ → List ℤ → List ℤ
+putValues i val offset values = set (set values (i * valuesPerNode) val) (i * valuesPerNode + 1) offset

@@ -1,0 +1,384 @@
+// Trees in flat lists of numbers: which are sound, where a lookup ends, how deep each node lies, and the contexts of the leaves.
+// The nodes of a tree stand at the front of the lists; `count` says how many there are.
+ghost use mathlib.Core.Path.{_≡_};
+ghost use Prim.Native.Nat.{ℕ, _+_, _<_};
+ghost use mathlib.Core.Bool.{cond};
+ghost use mathlib.Core.List.{List};
+ghost use lib.ListN.{length, getD, replicate};
+ghost use lib.IntN.{ℤ};
+ghost use lib.Ieee.{Float};
+ghost use lib.Dec.{eqb};
+ghost use Rattle.model.specs.Rows.{rowsOf};
+ghost use Rattle.model.specs.Single.{singles};
+ghost use Rattle.model.specs.Tree.{Record, nodesOf, hasChild, hasTwoChildren, faultFrom, faultOf, leafReached};
+ghost use Rattle.model.specs.Lent.{treeIn};
+ghost use Rattle.model.specs.Learn.{leafCount};
+ghost use Rattle.model.specs.Deepen.{depthsOf};
+ghost use Rattle.model.specs.Contexts.{contextsOf};
+ghost use Rattle.model.specs.Operations.{lookup as lookupOf, leafContexts};
+ghost use Rattle.tree.specs.Layout.{kindAt, gtAt, leAt, predAt, nodesHeld, storedIn};
+ghost use Rattle.tree.specs.Trees.{nodeAt, childAt, isOrderlyAt, isFineAt, HasWords, HasNodes, OfTree, Leads, Routable, leafNumbers, AllRoutable, CountsParents, Raisable, Countable, Uncounted, Counted, deeper, Deepens, Measurable};
+ghost use Rattle.tree.specs.Breadth.{walking, visited, Visitable, Numerable};
+ghost use Rattle.tree.specs.Answers.{faultNamed, leafFound, contextsAfter};
+
+pub mod answers;
+
+use answers::Contexts;
+use answers::Fault;
+use answers::LeafContext;
+use answers::Lookup;
+use answers::NodeNumber;
+
+// A node's words are kind, property, gt, le and predictor; its values are threshold and offset.
+const NODE_WORDS: usize = 5;
+
+const NODE_VALUES: usize = 2;
+
+// Properties of a row, and predictors.
+const NUM_MA_PROPS: usize = 24;
+
+const NUM_MA_PREDS: u32 = 14;
+
+// Most nodes of a sound tree.
+const MAX_NODES: usize = 8191;
+
+// What a split has in place of a context.
+const NO_CONTEXT: u32 = 4294967295;
+
+// How many nodes have all their words and values.
+fn nodes_held(words: &[u32], values: &[i32]) -> usize
+    ensures { λ r. ⌜ r ≡ nodesHeld (now (words .entry)) (now (values .entry)) ⌝ }
+{
+    let by_words = words.len() / NODE_WORDS;
+    let by_values = values.len() / NODE_VALUES;
+    if by_words < by_values {
+        by_words
+    } else {
+        by_values
+    }
+}
+
+fn is_split(words: &[u32], node: NodeNumber) -> bool
+    requires { ⌜ HasWords (now words) (node .0) ⌝ }
+    ensures { λ r. ⌜ r ≡ eqb (kindAt (now (words .entry)) (node .0)) 1 ⌝ }
+{
+    let at = node.0 as usize * NODE_WORDS;
+    words[at] == 1
+}
+
+fn gt_of(words: &[u32], node: NodeNumber) -> u32
+    requires { ⌜ HasWords (now words) (node .0) ⌝ }
+    ensures { λ r. ⌜ r ≡ gtAt (now (words .entry)) (node .0) ⌝ }
+{
+    let at = node.0 as usize * NODE_WORDS;
+    words[at + 2]
+}
+
+fn le_of(words: &[u32], node: NodeNumber) -> u32
+    requires { ⌜ HasWords (now words) (node .0) ⌝ }
+    ensures { λ r. ⌜ r ≡ leAt (now (words .entry)) (node .0) ⌝ }
+{
+    let at = node.0 as usize * NODE_WORDS;
+    words[at + 3]
+}
+
+fn pred_of(words: &[u32], node: NodeNumber) -> u32
+    requires { ⌜ HasWords (now words) (node .0) ⌝ }
+    ensures { λ r. ⌜ r ≡ predAt (now (words .entry)) (node .0) ⌝ }
+{
+    let at = node.0 as usize * NODE_WORDS;
+    words[at + 4]
+}
+
+// The node's own fields are in range: of a split, the property is below 24 and both children stand behind it, below the count; of a leaf, the
+// predictor is below 14.
+fn is_orderly(words: &[u32], count: u32, node: NodeNumber) -> bool
+    requires { ⌜ HasWords (now words) (node .0) ⌝ }
+    ensures { λ r. ⌜ ((values : List ℤ) → r ≡ isOrderlyAt (now (words .entry)) values count (node .0)) ⌝ }
+{
+    let i = node.0;
+    let at = i as usize * NODE_WORDS;
+    if words[at] != 1 {
+        return words[at + 4] < NUM_MA_PREDS;
+    }
+    let prop = words[at + 1] as usize;
+    let gt = words[at + 2];
+    let le = words[at + 3];
+    (prop < NUM_MA_PROPS) & (((i < gt) & (i < le)) & ((gt < count) & (le < count)))
+}
+
+// One step down from a split: a property above the value leads to gt, else to le.
+fn towards(words: &[u32], values: &[i32], props: &[i32], node: NodeNumber) -> NodeNumber
+    requires { ⌜ Leads (now words) (now values) (now props) (node .0) ⌝ }
+    ensures { λ r. ⌜ r .0 ≡ childAt (now (words .entry)) (now (values .entry)) (now (props .entry)) (node .0) ⌝ }
+{
+    let i = node.0 as usize;
+    let at = i * NODE_WORDS;
+    let prop = words[at + 1] as usize;
+    if values[i * NODE_VALUES] < props[prop] {
+        return NodeNumber(words[at + 2]);
+    }
+    NodeNumber(words[at + 3])
+}
+
+// The leaf that 24 properties lead to from node 0. Only the nodes met on the way are looked at, each with both its children.
+pub fn lookup(words: &[u32], values: &[i32], count: u32, props: &[i32]) -> Lookup
+    ensures { λ r. ⌜ ((costs : List Float) → leafFound r ≡ lookupOf (storedIn (now (words .entry)) (now (values .entry)) costs) count (now (props .entry))) ⌝ }
+{
+    if props.len() != NUM_MA_PROPS {
+        return Lookup::Refused {
+            number: 9,
+            place: 0,
+        };
+    }
+    if (count == 0) | (nodes_held(words, values) < count as usize) {
+        return Lookup::Refused {
+            number: 8,
+            place: 0,
+        };
+    }
+    let mut node = NodeNumber(0);
+    while is_orderly(words, count, node) {
+        if !is_split(words, node) {
+            return Lookup::Found {
+                leaf: node,
+                pred: pred_of(words, node),
+            };
+        }
+        node = towards(words, values, props, node);
+    }
+    Lookup::Refused {
+        number: 8,
+        place: node.0,
+    }
+}
+
+// The same way in a sound tree, where every node is in order: nothing is tested, and `count` only says which nodes are the tree.
+fn leaf_reached(words: &[u32], values: &[i32], count: u32, props: &[i32]) -> NodeNumber
+    requires { ⌜ Routable (now words) (now values) count (now props) ⌝ }
+    ensures { λ r. ⌜ ((costs : List Float) → r .0 ≡ leafReached (nodesOf (treeIn count (storedIn (now (words .entry)) (now (values .entry)) costs))) (now (props .entry))) ⌝ }
+{
+    let mut node = NodeNumber(0);
+    while is_split(words, node) {
+        node = towards(words, values, props, node);
+    }
+    node
+}
+
+// The leaf that each row reaches.
+pub fn leaf_numbers(words: &[u32], values: &[i32], count: u32, props: &[i32], number: &mut [u32])
+    requires { ⌜ AllRoutable (now words) (now values) count (now props) (now number) ⌝ }
+    ensures { λ _. ⌜ ((costs : List Float) (toks : List ℕ) (res : List ℤ) → now (number .exit)
+        ≡ leafNumbers (treeIn count (storedIn (now (words .entry)) (now (values .entry)) costs)) (rowsOf (length (now (number .entry))) (now (props .entry)) toks res)) ⌝ }
+{
+    let rows = number.len();
+    for row in 0..rows {
+        let at = row * NUM_MA_PROPS;
+        let end = at + NUM_MA_PROPS;
+        let leaf = leaf_reached(words, values, count, &props[at..end]);
+        number[row] = leaf.0;
+    }
+}
+
+// One split more has this child. A child not below the count is no node.
+fn add_parent(count: u32, child: u32, parents: &mut [u16])
+    requires { ⌜ Raisable count (now parents) ⌝ }
+    ensures { λ _. ⌜ ((k : ℕ) → k < count → getD (now (parents .exit)) k 0 ≡ cond (eqb child k) 1 0 + getD (now (parents .entry)) k 0) ⌝ }
+{
+    if child < count {
+        parents[child as usize] += 1;
+    }
+}
+
+// A split counts once for each node that is a child of it, also where both its children are that node.
+fn count_children(words: &[u32], count: u32, node: NodeNumber, parents: &mut [u16])
+    requires { ⌜ Countable (now words) count (node .0) (now parents) ⌝ }
+    ensures { λ _. ⌜ ((values : List ℤ) (k : ℕ) → k < count →
+        getD (now (parents .exit)) k 0 ≡ cond (hasChild k (nodeAt (now (words .entry)) values (node .0))) 1 0 + getD (now (parents .entry)) k 0) ⌝ }
+{
+    if is_split(words, node) {
+        let gt = gt_of(words, node);
+        let le = le_of(words, node);
+        add_parent(count, gt, parents);
+        if gt != le {
+            add_parent(count, le, parents);
+        }
+    }
+}
+
+// Of how many splits each node is a child, in one pass over the nodes.
+fn count_parents(words: &[u32], count: u32, parents: &mut [u16])
+    requires { ⌜ Uncounted (now words) count (now parents) ⌝ }
+    ensures { λ _. ⌜ CountsParents (now (words .entry)) count count (now (parents .exit)) ⌝ }
+{
+    for i in 0..count {
+        count_children(words, count, NodeNumber(i), parents);
+    }
+}
+
+fn has_two_children(words: &[u32], node: NodeNumber) -> bool
+    requires { ⌜ HasWords (now words) (node .0) ⌝ }
+    ensures { λ r. ⌜ ((values : List ℤ) → r ≡ hasTwoChildren (nodeAt (now (words .entry)) values (node .0))) ⌝ }
+{
+    !is_split(words, node) | (gt_of(words, node) != le_of(words, node))
+}
+
+// The node is not at fault: in order, no split with equal children, and node 0 or the child of exactly one split.
+fn is_fine(words: &[u32], count: u32, node: NodeNumber, parents: u16) -> bool
+    requires { ⌜ HasWords (now words) (node .0) ⌝ }
+    ensures { λ r. ⌜ ((values : List ℤ) → r ≡ isFineAt (now (words .entry)) values count parents (node .0)) ⌝ }
+{
+    let one_parent = (node.0 == 0) | (parents == 1);
+    is_orderly(words, count, node) & (has_two_children(words, node) & one_parent)
+}
+
+fn lowest_fault(words: &[u32], count: u32, parents: &[u16]) -> Fault
+    requires { ⌜ Counted (now words) count (now parents) ⌝ }
+    ensures { λ r. ⌜ OfTree (now (words .entry)) count (λ (t : List (Record singles)). faultNamed r ≡ faultFrom (nodesOf t) 0 t) ⌝ }
+{
+    for i in 0..count {
+        if !is_fine(words, count, NodeNumber(i), parents[i as usize]) {
+            return Fault::At(i);
+        }
+    }
+    Fault::Sound
+}
+
+// Whether the first `count` nodes are a sound tree. The parents are counted in a local list: a fault is a refusal, after which every lent list
+// reads as before, and the lists lent for contexts may be too short, since 8 comes before 7.
+pub fn fault_of(words: &[u32], count: u32) -> Fault
+    requires { ⌜ HasNodes (now words) count ⌝ }
+    ensures { λ r. ⌜ OfTree (now (words .entry)) count (λ (t : List (Record singles)). faultNamed r ≡ faultOf t) ⌝ }
+{
+    if (count == 0) | (MAX_NODES < count as usize) {
+        return Fault::At(0);
+    }
+    let mut parents = [0u16; MAX_NODES];
+    count_parents(words, count, &mut parents);
+    lowest_fault(words, count, &parents)
+}
+
+fn fill(list: &mut [u32], value: u32)
+    ensures { λ _. ⌜ now (list .exit) ≡ replicate (length (now (list .entry))) value ⌝ }
+{
+    for k in 0..list.len() {
+        list[k] = value;
+    }
+}
+
+// The children of a split lie one deeper than it.
+fn lower_children(words: &[u32], node: NodeNumber, out: &mut [u32])
+    requires { ⌜ Deepens (now words) (node .0) (now out) ⌝ }
+    ensures { λ _. ⌜ ((values : List ℤ) → now (out .exit) ≡ deeper (nodeAt (now (words .entry)) values (node .0)) (node .0) (now (out .entry))) ⌝ }
+{
+    if is_split(words, node) {
+        let i = node.0 as usize;
+        let gt = gt_of(words, node) as usize;
+        let le = le_of(words, node) as usize;
+        let depth = out[i] + 1;
+        out[gt] = depth;
+        out[le] = depth;
+    }
+}
+
+// The depth of each node of a sound tree. Children stand behind their split, so one pass in ascending order does.
+pub fn depths(words: &[u32], count: u32, out: &mut [u32])
+    requires { ⌜ Measurable (now words) count (now out) ⌝ }
+    ensures { λ _. ⌜ OfTree (now (words .entry)) count (λ (t : List (Record singles)). now (out .exit) ≡ depthsOf (nodesOf t)) ⌝ }
+{
+    fill(out, 0);
+    for i in 0..count {
+        lower_children(words, NodeNumber(i), out);
+    }
+}
+
+// Where a breadth-first walk stands: the next context, and the end of the queue.
+struct Walk {
+    next: LeafContext,
+    end: usize,
+}
+
+// A leaf takes the next context; a split's children go to the end of the queue, gt before le.
+fn visit(
+    words: &[u32],
+    node: NodeNumber,
+    walk: Walk,
+    contexts: &mut [u32],
+    queue: &mut [u32],
+) -> Walk
+    requires { ⌜ Visitable (now words) (node .0) (walking (walk .next .0) (walk .end) (now contexts) (now queue)) ⌝ }
+    ensures { λ r. ⌜ ((values : List ℤ) → walking (r .next .0) (r .end) (now (contexts .exit)) (now (queue .exit))
+        ≡ visited (nodeAt (now (words .entry)) values (node .0)) (node .0) (walking (walk .next .0) (walk .end) (now (contexts .entry)) (now (queue .entry)))) ⌝ }
+{
+    let next = walk.next;
+    let end = walk.end;
+    if is_split(words, node) {
+        let gt = gt_of(words, node);
+        let le = le_of(words, node);
+        queue[end] = gt;
+        queue[end + 1] = le;
+        return Walk { next, end: end + 2 };
+    }
+    contexts[node.0 as usize] = next.0;
+    Walk {
+        next: LeafContext(next.0 + 1),
+        end,
+    }
+}
+
+// The contexts of a sound tree's leaves, breadth first; a split has none. Each node enters the queue once, so it needs as many places as there are nodes.
+fn number_leaves(words: &[u32], contexts: &mut [u32], queue: &mut [u32]) -> u32
+    requires { ⌜ Numerable (now words) (now contexts) (now queue) ⌝ }
+    ensures { λ r. ⌜ OfTree (now (words .entry)) (length (now (contexts .entry))) (λ (t : List (Record singles)).
+        (r ≡ leafCount (nodesOf t)) × (now (contexts .exit) ≡ contextsOf (nodesOf t))) ⌝ }
+{
+    fill(contexts, NO_CONTEXT);
+    queue[0] = 0;
+    let mut walk = Walk {
+        next: LeafContext(0),
+        end: 1,
+    };
+    let mut head: usize = 0;
+    while head < walk.end {
+        let node = NodeNumber(queue[head]);
+        walk = visit(words, node, walk, contexts, queue);
+        head += 1;
+    }
+    walk.next.0
+}
+
+// The context of each leaf, and how many there are. The queue is room for the walk, and holds zeros afterwards.
+pub fn leaf_contexts(
+    words: &[u32],
+    values: &[i32],
+    count: u32,
+    contexts: &mut [u32],
+    queue: &mut [u32],
+) -> Contexts
+    ensures { λ r. ⌜ ((costs : List Float) → contextsAfter r (now (contexts .exit)) (now (queue .exit))
+        ≡ leafContexts (storedIn (now (words .entry)) (now (values .entry)) costs) count (record { contexts = now (contexts .entry); queue = now (queue .entry) })) ⌝ }
+{
+    let n = count as usize;
+    if nodes_held(words, values) < n {
+        return Contexts::Refused {
+            number: 8,
+            place: 0,
+        };
+    }
+    let fault = fault_of(words, count);
+    if let Fault::At(node) = fault {
+        return Contexts::Refused {
+            number: 8,
+            place: node,
+        };
+    }
+    if (contexts.len() < n) | (queue.len() < n) {
+        return Contexts::Refused {
+            number: 7,
+            place: 0,
+        };
+    }
+    let leaves = number_leaves(words, &mut contexts[..n], &mut queue[..n]);
+    fill(queue, 0);
+    Contexts::Counted(leaves)
+}
