@@ -2,13 +2,13 @@
 use mathlib.Core.Path.{_≡_, refl, sym, ap, _∙_}
 use mathlib.Core.Bool.{Bool, true, false, cond}
 use mathlib.Core.List.{List, [], _∷_, _++_}
-use Prim.Native.Nat.{ℕ, zero, suc, _+_, _≤_, _<_}
+use Prim.Native.Nat.{ℕ, suc, _+_, _≤_, _<_}
 use native.Mathlib.Decide.{ℕ-discrete}
 use native.Mathlib.Omega.{arith}
 use borrow.Author.Tests.{eq-eqb, ne-eqb}
 use lib.Dec.{eqb}
 use lib.IntN.{ℤ, pos, _+ℤ_, natAbs}
-use lib.ListN.{length, getD, set, take, drop, replicate, length-set, length-replicate, getD-replicate, take-append-drop}
+use lib.ListN.{length, getD, take, drop, replicate, length-set, length-replicate, getD-replicate, take-append-drop}
 use lib.Seq.{getD-set-same, getD-set-other, drop-set-lt, ext-getD, length-take-le, getD-take}
 use Rattle.model.specs.Lists.{countIf, eqZ}
 use Rattle.model.specs.Settings.{maxRows}

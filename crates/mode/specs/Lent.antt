@@ -28,3 +28,7 @@ pub record Rebasable (tok : List ℕ) (res : List ℤ) (first end : ℕ) (counts
 -- where modes are in use
 pub record Steppable (uses : Bool) (tok : List ℕ) (res : List ℤ) (first end : ℕ) (counts : List ℕ) : Type 0 where
   pub used : uses ≡ true → Rebasable tok res first end counts
+
+-- the zero tokens of the rows from first to end are below 128: they are tokens of 32-bit values
+abbrev pub LowTokens : ℕ → ℕ → List ℕ → Type 0
+LowTokens first end tok = (i : ℕ) → first ≤ i → i < end → getD tok (i * toksPerRow) 0 < 128

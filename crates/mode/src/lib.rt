@@ -1,7 +1,7 @@
 // The mode of a span's residuals, and the zero-predictor tokens that follow from it, after the
 // Rust's rebase_zero.
 ghost use mathlib.Core.Path.{_≡_};
-ghost use mathlib.Core.Bool.{cond};
+ghost use mathlib.Core.Bool.{true, cond};
 ghost use mathlib.Core.List.{_++_};
 ghost use Prim.Native.Nat.{suc, _*_, _≤_, _<_};
 ghost use lib.ListN.{length, getD, drop, replicate};
@@ -13,7 +13,7 @@ ghost use Rattle.model.specs.Mode.{oftenest, zeroToken};
 ghost use Rattle.mode.specs.Each.{Each, Offset, Differs};
 ghost use Rattle.mode.specs.Counted.{rangeOf, offsetOf, tallied, Countable, firstBest, Narrow};
 ghost use Rattle.mode.specs.Column.{rezeroed, modeAt, tokensAt, stepMode, stepTokens};
-ghost use Rattle.mode.specs.Lent.{Inside, Clear, Rebasable, Steppable};
+ghost use Rattle.mode.specs.Lent.{Inside, Clear, Rebasable, Steppable, LowTokens};
 
 // Predictors, a token each, and the zero predictor's place among them.
 const NUM_MA_PREDS: usize = 14;
@@ -148,7 +148,7 @@ fn span_mode(res: &[i32], first: usize, end: usize, counts: &mut [u32]) -> i32
 // The zero predictor's token of a residual. A token is at most 127, so it fits its byte.
 fn zero_token(value: i32, mode: i32) -> u8
     requires { ⌜ Differs mode value ⌝ }
-    ensures { λ r. ⌜ r ≡ zeroToken mode value ⌝ }
+    ensures { λ r. ⌜ (r ≡ zeroToken mode value) × (r < 128) ⌝ }
 {
     entropy::uint_encode(entropy::pack_signed(value - mode)).token as u8
 }
@@ -159,6 +159,7 @@ fn retoken(tok: &mut [u8], res: &[i32], first: usize, end: usize, mode: i32)
     requires { ⌜ length (now tok) ≡ length (now res) * toksPerRow ⌝ }
     requires { ⌜ Each (Differs mode) (slice first end (now res)) ⌝ }
     ensures { λ _. ⌜ now (tok .exit) ≡ rezeroed mode first (slice first end (now (res .entry))) (now (tok .entry)) ⌝ }
+    ensures { λ _. ⌜ LowTokens first end (now (tok .exit)) ⌝ }
 {
     for i in first..end {
         tok[i * NUM_MA_PREDS + PRED_ZERO] = zero_token(res[i], mode);
@@ -172,6 +173,7 @@ pub fn rebase_zero(tok: &mut [u8], res: &[i32], first: usize, end: usize, counts
     ensures { λ r. ⌜ r ≡ modeAt first end (now (res .entry)) ⌝ }
     ensures { λ _. ⌜ now (tok .exit) ≡ tokensAt first end (now (res .entry)) (now (tok .entry)) ⌝ }
     ensures { λ _. ⌜ now (counts .exit) ≡ now (counts .entry) ⌝ }
+    ensures { λ _. ⌜ LowTokens first end (now (tok .exit)) ⌝ }
 {
     let mode = span_mode(res, first, end, counts);
     retoken(tok, res, first, end, mode);
@@ -191,6 +193,7 @@ pub fn mode_step(
     ensures { λ r. ⌜ r ≡ stepMode uses first end (now (res .entry)) ⌝ }
     ensures { λ _. ⌜ now (tok .exit) ≡ stepTokens uses first end (now (res .entry)) (now (tok .entry)) ⌝ }
     ensures { λ _. ⌜ now (counts .exit) ≡ now (counts .entry) ⌝ }
+    ensures { λ _. ⌜ (uses ≡ true → LowTokens first end (now (tok .exit))) ⌝ }
 {
     if uses {
         rebase_zero(tok, res, first, end, counts)

@@ -68,7 +68,7 @@ pub record Passed (P : Profile) (t : Settings (P .meter)) (logs : List (P .meter
   pub rooms : Rooms t x
 
 -- ---- read off the checks
-in-range : (P : Profile) (t : Settings (P .meter)) → isOutside P t ≡ false → InRange P t
+pub in-range : (P : Profile) (t : Settings (P .meter)) → isOutside P t ≡ false → InRange P t
 unfolding isOutside
 in-range P t e =
     let h = simp (holds, and-both) at e in
@@ -129,11 +129,11 @@ rooms-in : {M : Meter} (t : Settings M) (x : Lent M) → isShortOfRoom t x ≡ f
 unfolding isShortOfRoom
 rooms-in t x e = let h = simp (neither, not-below) at e in omega arith
 
-seed-rooms-in : {M : Meter} (count : ℕ) (x : Lent M) → isShortOfSeedRoom count x ≡ false → SeedRooms count x
+pub seed-rooms-in : {M : Meter} (count : ℕ) (x : Lent M) → isShortOfSeedRoom count x ≡ false → SeedRooms count x
 unfolding isShortOfSeedRoom
 seed-rooms-in count x e = let h = simp (neither, not-below) at e in omega arith
 
-passed-all : (P : Profile) (t : Settings (P .meter)) (logs : List (P .meter .Cost)) (x : Lent (P .meter)) (short : Bool) (last : Option Refusal)
+pub passed-all : (P : Profile) (t : Settings (P .meter)) (logs : List (P .meter .Cost)) (x : Lent (P .meter)) (short : Bool) (last : Option Refusal)
     → refusedBefore P t logs x short last ≡ none → Passed P t logs x × (short ≡ false) × (last ≡ none)
 unfolding refusedBefore hasNoPredictor isShortAlphabet
 passed-all P t logs x short last e =

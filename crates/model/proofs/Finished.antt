@@ -157,7 +157,7 @@ module _ {M : Meter} where
             (folded-fits (getD (treeNodes tree) n leaf) (getD (prunedNodes (j .price) tree) n leaf) (entryAt tree n .info .pred) (folds (j .price) tree n)
             (subst (λ (m : Node). FieldsFit m (entryAt tree n .info .pred)) (sym (node-at tree n)) (e .node-fits)) (e .pred-fits)))
 
-    pruned-done : Done (j .uses) given (length tree) (pruned j s)
+    pub pruned-done : Done (j .uses) given (length tree) (pruned j s)
     unfolding pruned
     pruned-done = go (prunes j)
       where

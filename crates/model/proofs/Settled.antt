@@ -22,7 +22,7 @@ use Rattle.model.proofs.Invariant.{entryAt}
 use Rattle.model.proofs.Placed.{Placed}
 
 -- the mode step on one span
-abbrev put : Bool → Span → List Row → List Row
+abbrev pub put : Bool → Span → List Row → List Row
 put uses s rows = take (s .first) rows ++ fresh uses (within s rows) ++ drop (s .end) rows
 
 module _ (uses : Bool) (rows : List Row) (s : Span) (ab : s .first ≤ s .end) (bn : s .end ≤ length rows) where
@@ -35,14 +35,14 @@ module _ (uses : Bool) (rows : List Row) (s : Span) (ab : s .first ≤ s .end) (
   put-is : take (s .first) rows ++ mid ++ [] ++ drop (s .end) rows ≡ put uses s rows
   put-is = ap (λ (l : List Row). l ++ drop (s .end) rows) (append-nil (take (s .first) rows ++ mid))
 
-  put-length : length (put uses s rows) ≡ length rows
+  pub put-length : length (put uses s rows) ≡ length rows
   put-length = ap length (sym put-is) ∙ length-replaced rows (s .first) (s .end) ab bn mid [] fits
 
-  put-same : within s (put uses s rows) ≡ mid
+  pub put-same : within s (put uses s rows) ≡ mid
   put-same = let e : s .end ≡ s .first + length mid = omega (arith, fits) in
       ap (λ (k : ℕ). slice (s .first) k (put uses s rows)) e ∙ ap (λ (l : List Row). slice (s .first) (s .first + length mid) l) (sym put-is) ∙ slice-gt rows (s .first) (s .end) ab bn mid [] fits
 
-  put-other : (t : Span) → t .end ≤ length rows → (s .end ≤ t .first) ⊎ (t .end ≤ s .first) → within t (put uses s rows) ≡ within t rows
+  pub put-other : (t : Span) → t .end ≤ length rows → (s .end ≤ t .first) ⊎ (t .end ≤ s .first) → within t (put uses s rows) ≡ within t rows
   put-other t tn (inl c) = ap (within t) (sym put-is) ∙ slice-after rows (s .first) (s .end) ab bn mid [] fits noRow (t .first) (t .end) c tn
   put-other t tn (inr c) = ap (within t) (sym put-is) ∙ slice-before rows (s .first) (s .end) ab bn mid [] fits noRow (t .first) (t .end) c
 

@@ -15,7 +15,7 @@ use Rattle.model.specs.Lists.{range}
 use Rattle.model.specs.Single.{singles}
 use Rattle.model.specs.Tree.{leaf, Record, blankRecord, nodesOf}
 use Rattle.model.specs.Lent.{Stored, recordIn, treeIn}
-use Rattle.tree.specs.Layout.{nodesHeld, storedAt, storedIn, putWords, putValues}
+use Rattle.layout.specs.Layout.{nodesHeld, storedAt, storedIn, putWords, putValues}
 use Rattle.tree.specs.Trees.{nodeAt}
 use Rattle.tree.proofs.Lists.{length-each, each-at, take-each}
 

@@ -19,7 +19,7 @@ use Rattle.model.proofs.Sound as model
 use Rattle.model.proofs.Sound.{Rooted}
 use Rattle.model.proofs.Tally.{tree-count}
 use Rattle.model.proofs.Slices.{slice-join, slice-ext}
-use Rattle.tree.specs.Layout.{kindAt, propAt, gtAt, leAt, valAt, storedIn}
+use Rattle.layout.specs.Layout.{kindAt, propAt, gtAt, leAt, valAt, storedIn}
 use Rattle.tree.specs.Trees.{nodeAt, OfTree, SoundTree}
 use Rattle.tree.specs.Breadth.{Walking, walking, visited, Visitable}
 use Rattle.tree.proofs.Entries.{nodes-length, node-at}

@@ -15,7 +15,7 @@ use borrow.Author.Tests.{eqb-true, eq-eqb, ne-eqb}
 use Rattle.model.specs.Lists.{range, countIf}
 use Rattle.model.specs.Tree.{hasChild}
 use Rattle.model.proofs.Counting.{count-append, count-at-most}
-use Rattle.tree.specs.Layout.{kindAt, gtAt, leAt}
+use Rattle.layout.specs.Layout.{kindAt, gtAt, leAt}
 use Rattle.tree.specs.Trees.{nodeAt, CountsParents, AtMost}
 use Rattle.tree.proofs.Lists.{length-each, each-more}
 

@@ -16,7 +16,7 @@ use Rattle.model.specs.Learn.{leafCount}
 use Rattle.model.specs.Contexts.{contextsOf}
 use Rattle.model.specs.Refuse.{contextsRefusal}
 use Rattle.model.specs.Operations.{refused, accepted, After, ContextLists, leafContexts}
-use Rattle.tree.specs.Layout.{nodesHeld, storedIn}
+use Rattle.layout.specs.Layout.{nodesHeld, storedIn}
 use Rattle.tree.proofs.Entries.{stored-length}
 
 module _ (words : List ℕ) (values : List ℤ) (costs : List Float) (count : ℕ) (x : ContextLists) where

@@ -12,7 +12,7 @@ use Rattle.model.specs.Settings.{propsPerRow, toksPerRow}
 use Rattle.model.specs.Rows.{Row, rowsOf}
 use Rattle.model.specs.Tree.{nodesOf, leafReached}
 use Rattle.model.specs.Lent.{treeIn}
-use Rattle.tree.specs.Layout.{storedIn}
+use Rattle.layout.specs.Layout.{storedIn}
 
 -- the leaf that row k of the flat list reaches
 abbrev pub rowLeaf : List ℕ → List ℤ → List Float → ℕ → List ℤ → ℕ → ℕ

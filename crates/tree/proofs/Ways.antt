@@ -17,7 +17,7 @@ use Rattle.model.specs.Lent.{treeIn}
 use Rattle.model.specs.Refuse.{refuseAt, lookupRefusal}
 use Rattle.model.specs.Operations.{Outcome, refused, accepted, Found, outcomeOf, lookup}
 use Rattle.model.proofs.Paths.{Forward, towards-in}
-use Rattle.tree.specs.Layout.{kindAt, propAt, gtAt, leAt, predAt, valAt, nodesHeld, storedIn}
+use Rattle.layout.specs.Layout.{kindAt, propAt, gtAt, leAt, predAt, valAt, nodesHeld, storedIn}
 use Rattle.tree.specs.Trees.{childAt, isOrderlyAt}
 use Rattle.tree.proofs.Entries.{stored-length, tree-length, nodes-length, record-at, node-at}
 

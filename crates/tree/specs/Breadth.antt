@@ -6,7 +6,7 @@ use mathlib.Core.List.{List}
 use lib.ListN.{length, set}
 use lib.Dec.{eqb}
 use Rattle.model.specs.Tree.{Node, split, leaf}
-use Rattle.tree.specs.Layout.{kindAt}
+use Rattle.layout.specs.Layout.{kindAt}
 use Rattle.tree.specs.Trees.{HasWords, SoundTree}
 
 -- the next context, the end of the queue, and the two lists

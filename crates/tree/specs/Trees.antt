@@ -14,7 +14,7 @@ use Rattle.model.specs.Rows.{Row}
 use Rattle.model.specs.Single.{singles}
 use Rattle.model.specs.Tree.{Node, split, leaf, Record, nodesOf, towards, leafReached, isOrderly, hasChild, hasTwoChildren, faultOf}
 use Rattle.model.specs.Lent.{treeIn}
-use Rattle.tree.specs.Layout.{wordsPerNode, valuesPerNode, kindAt, propAt, gtAt, leAt, predAt, valAt, nodesHeld, storedIn}
+use Rattle.layout.specs.Layout.{wordsPerNode, valuesPerNode, kindAt, propAt, gtAt, leAt, predAt, valAt, nodesHeld, storedIn}
 
 -- node i, as the words and the thresholds have it
 abbrev pub nodeAt : List ℕ → List ℤ → ℕ → Node

@@ -16,7 +16,7 @@ ghost use Rattle.model.specs.Learn.{leafCount};
 ghost use Rattle.model.specs.Deepen.{depthsOf};
 ghost use Rattle.model.specs.Contexts.{contextsOf};
 ghost use Rattle.model.specs.Operations.{lookup as lookupOf, leafContexts};
-ghost use Rattle.tree.specs.Layout.{kindAt, gtAt, leAt, predAt, nodesHeld, storedIn};
+ghost use Rattle.layout.specs.Layout.{kindAt, gtAt, leAt, predAt, nodesHeld, storedIn};
 ghost use Rattle.tree.specs.Trees.{nodeAt, childAt, isOrderlyAt, isFineAt, HasWords, HasNodes, OfTree, Leads, Routable, leafNumbers, AllRoutable, CountsParents, Raisable, Countable, Uncounted, Counted, deeper, Deepens, Measurable};
 ghost use Rattle.tree.specs.Breadth.{walking, visited, Visitable, Numerable};
 ghost use Rattle.tree.specs.Answers.{faultNamed, leafFound, contextsAfter};

@@ -104,6 +104,7 @@ const FAMILIES: &[Family] = &[
     family("mode", "the mode step alone", parts::mode),
     family("candidates", "candidate thresholds alone", parts::candidates),
     family("partition", "the partition alone", parts::partition),
+    family("columns", "mode step, candidates and partition by turns, 255 to 65,536 rows", parts::columns),
     family("prune", "pruning alone, at prices above 0, with exact ties", parts::prune),
     family("agree", "fourteen tiny jobs fit for a proof checker, again and again", agree::agree),
 ];

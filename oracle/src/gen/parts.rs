@@ -233,6 +233,26 @@ pub fn partition(at: At) -> Job {
     Job::Partition(column, value(&mut rng))
 }
 
+/// The same three on columns of a job's length, to 65,536 rows: spans of every width about
+/// 4,096, few values and many.
+pub fn columns(at: At) -> Job {
+    let mut rng = at.rng();
+    let count = rng.pick(&[255, 256, 1_000, 5_000, 20_000, 65_535, 65_536]);
+    let width = rng.pick(&[2, 9, 300, 4_095, 4_096, 4_097, 1 << 16, i32::MAX]);
+    let low = rng.pick(&[0, -(width / 2), i32::MIN, i32::MAX - (width - 1)]);
+    let peak = rng.within(0..=width - 1);
+    let value = |rng: &mut Rng| match rng.below(3) {
+        0 => low + peak,
+        _ => low + rng.within(0..=width - 1),
+    };
+    let column: Vec<i32> = (0..count).map(|_| value(&mut rng)).collect();
+    match at.index % 3 {
+        0 => Job::Mode(column),
+        1 => Job::Candidates(column, rng.pick(&[1, 8, 31, 32, u32::MAX])),
+        _ => Job::Partition(column, value(&mut rng)),
+    }
+}
+
 /// Trees whose costs are whole eighths, so that a split's own cost can be made
 /// exactly what keeping it costs, an eighth more, or an eighth less.
 pub fn prune(at: At) -> Job {

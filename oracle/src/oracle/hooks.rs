@@ -95,6 +95,41 @@ pub(crate) fn partition(column: &mut [i32], threshold: i32) -> usize {
     partition_by(column, |&v| v > threshold, |_, _| {})
 }
 
+/// The same on the learner's rows, for the benchmark.
+pub(crate) fn partition_rows(
+    samples: &mut MaSamples,
+    start: usize,
+    end: usize,
+    prop: u8,
+    threshold: i32,
+) -> usize {
+    samples.partition(start, end, prop, threshold)
+}
+
+/// The candidate thresholds over the learner's rows, for the benchmark.
+pub(crate) fn candidates_of_rows<'a>(
+    rows: &[[i32; NUM_MA_PROPS]],
+    prop: usize,
+    limit: usize,
+    scratch: &'a mut CoderScratch,
+) -> &'a [i32] {
+    let scratch = &mut scratch.ma_property;
+    let found = pick_candidates(rows, prop, limit, scratch);
+    &scratch.cands[..found]
+}
+
+/// Counts the tokens of a node's rows as `node_cost_all` does, for the benchmark.
+pub(crate) fn count_tokens(hist: &mut [u32], alphabet: usize, tokens: &[[u8; NUM_MA_PREDS]]) {
+    for row in tokens {
+        count_predictor_tokens(hist, alphabet, row);
+    }
+}
+
+/// The entropy of a histogram, for the benchmark.
+pub(crate) fn entropy(hist: &[u32], total: u32) -> f32 {
+    hist_entropy_bits(hist, total)
+}
+
 /// Prunes a tree at any price. Gives the estimated bits.
 pub(crate) fn prune(nodes: &mut Vec<Record>, spans: &mut Vec<Span>, price: f32) -> f64 {
     let mut tree: Vec<_> = nodes.iter().map(node_of).collect();

@@ -37,7 +37,10 @@ returns c =
     let start = there .before .before .before .before in
     let values = slice (start .args .first) (start .args .end) (start .args .res .now) in (
       mode-is there,
-      (c .before .before .retoken .ensures ∙ ap (λ (m : ℤ). rezeroed m (start .args .first) values (start .args .tok .now)) (mode-is there), there .span-mode .ensures .1),
+      (
+        c .before .before .retoken .ensures .0 ∙ ap (λ (m : ℤ). rezeroed m (start .args .first) values (start .args .tok .now)) (mode-is there),
+        (there .span-mode .ensures .1, c .before .before .retoken .ensures .1),
+      ),
     )
 
 pub rebase-zero-spec : {M : Type 1} → statement M

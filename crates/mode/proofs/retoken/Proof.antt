@@ -13,7 +13,8 @@ use mir.Val.{toZ, ofZ}
 use mir.ValLaws.{toZ-ofZ}
 use Rattle.mode.specs.Each.{Each, Differs}
 use Rattle.mode.specs.Column.{rezeroed}
-use Rattle.mode.proofs.Turns.{slice-more, slice-done}
+use Rattle.mode.specs.Lent.{LowTokens}
+use Rattle.mode.proofs.Turns.{slice-more, slice-done, low-more}
 use Rattle.mode.proofs.retoken.Statement.{statement}
 use Rattle.mode.proofs.retoken.Tie as tie
 
@@ -23,6 +24,7 @@ Inv-loop tok₀ res first end mode i₀ tok i =
     × (length tok ≡ length tok₀)
     × Each (Differs (toZ w32 mode)) (slice i end res)
     × (rezeroed (toZ w32 mode) i (slice i end res) tok ≡ rezeroed (toZ w32 mode) first (slice first end res) tok₀)
+    × LowTokens first i tok
 
 abbrev μ-loop : tie.MeasureT-loop
 μ-loop tok₀ res first end mode i₀ tok i = end - i
@@ -30,7 +32,7 @@ abbrev μ-loop : tie.MeasureT-loop
 loop-holds : tie.Need-loop-holds Inv-loop μ-loop
 loop-holds c =
     let start = c .before in
-    (omega arith, refl, rw (toZ-ofZ w32 (start .args .mode) (start .fits .mode)) (start .pre .1 .1), refl)
+    (omega arith, refl, rw (toZ-ofZ w32 (start .args .mode) (start .fits .mode)) (start .pre .1 .1), refl, λ k from below. absurd (omega arith))
 
 mul-zero-token : tie.Need-mul-zero-token Inv-loop μ-loop
 mul-zero-token c = omega arith
@@ -74,8 +76,16 @@ loop-again : tie.Need-loop-again Inv-loop μ-loop
 unfolding rezeroed
 loop-again c =
     let here = c .before .before in
-    let token = rw (toZ-ofZ w32 (value here) (record { sfits = c .before .zero-token-arg .given })) at (c .zero-token .ensures) in
-    (omega arith, simp length-set (here .before .loop .inv .1), left here .1, rw (token, add-zero, add-one) (rw (turn here, add-one) at (here .before .loop .inv .3)))
+    let made = c .zero-token .ensures in
+    let token = rw (toZ-ofZ w32 (value here) (record { sfits = c .before .zero-token-arg .given })) at (made .0) in
+    let tok = here .before .loop .tok in
+    let i = here .before .loop .i in (
+      omega arith,
+      simp length-set (here .before .loop .inv .1),
+      left here .1,
+      rw (token, add-zero, add-one) (rw (turn here, add-one) at (here .before .loop .inv .3)),
+      rw add-zero (low-more (start here .args .first) i (c .zero-token .result) tok (omega arith) (made .1) (here .before .loop .inv .4)),
+    )
 
 same-length : tie.Need-same-length Inv-loop μ-loop
 same-length c = c .before .loop .inv .1
@@ -84,8 +94,10 @@ returns : tie.Need-returns Inv-loop μ-loop
 unfolding rezeroed
 returns c =
     let start = c .before .before .before in
-    let done = slice-done (start .args .res .now) (c .before .loop .i) (start .args .end) (omega arith) in
-    rw (done, toZ-ofZ w32 (start .args .mode) (start .fits .mode)) at (c .before .loop .inv .3)
+    let done = slice-done (start .args .res .now) (c .before .loop .i) (start .args .end) (omega arith) in (
+      rw (done, toZ-ofZ w32 (start .args .mode) (start .fits .mode)) at (c .before .loop .inv .3),
+      λ k from below. c .before .loop .inv .4 k from (omega arith),
+    )
 
 pub retoken-spec : {M : Type 1} → statement M
 retoken-spec =

@@ -43,7 +43,7 @@ cast-result c = omega (arith, small c)
 
 returns : tie.Need-returns
 unfolding zeroToken
-returns c = omega (arith, token c, small c)
+returns c = (omega (arith, token c, small c), omega (arith, small c))
 
 pub zero-token-spec : {M : Type 1} → statement M
 zero-token-spec =

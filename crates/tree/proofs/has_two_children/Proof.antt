@@ -6,7 +6,7 @@ use mathlib.Core.List.{List}
 use lib.IntN.{ℤ}
 use lib.Dec.{eqb}
 use Rattle.model.specs.Tree.{split, leaf, hasTwoChildren}
-use Rattle.tree.specs.Layout.{kindAt, propAt, gtAt, leAt, valAt}
+use Rattle.layout.specs.Layout.{kindAt, propAt, gtAt, leAt, valAt}
 use borrow.Author.Needs.{needs}
 use Rattle.tree.proofs.has_two_children.Statement.{statement}
 use Rattle.tree.proofs.has_two_children.Tie as tie

@@ -6,7 +6,7 @@ use lib.ListN.{length, replicate}
 use lib.Seq.{length-take-le, length-front}
 use borrow.Author.Needs.{needs}
 use borrow.Author.Tests.{ltb-false}
-use Rattle.tree.specs.Layout.{nodesHeld}
+use Rattle.layout.specs.Layout.{nodesHeld}
 use Rattle.tree.specs.Trees.{SoundTree}
 use Rattle.tree.specs.Answers.{faultNamed}
 use Rattle.tree.proofs.Lists.{neither}

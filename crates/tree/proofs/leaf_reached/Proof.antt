@@ -4,7 +4,7 @@ use mathlib.Core.Path.{sym, _∙_}
 use Prim.Native.Nat.{_≤_, _<_, _-_}
 use native.Mathlib.Omega.{arith}
 use Rattle.model.specs.Settings.{propsPerRow}
-use Rattle.tree.specs.Layout.{propAt, nodesHeld}
+use Rattle.layout.specs.Layout.{propAt, nodesHeld}
 use Rattle.tree.specs.Trees.{childAt}
 use Rattle.tree.proofs.Soundness.{few, split-fits}
 use Rattle.tree.proofs.Ways.{reach-end, Followed, followed-first, followed-on}

@@ -7,7 +7,7 @@ use mathlib.Core.Bool.{true}
 use lib.ListN.{length}
 use borrow.Author.Tests.{not-true, not-false}
 use Rattle.model.specs.Settings.{propsPerRow}
-use Rattle.tree.specs.Layout.{propAt, nodesHeld}
+use Rattle.layout.specs.Layout.{propAt, nodesHeld}
 use Rattle.tree.specs.Trees.{childAt, isOrderlyAt}
 use Rattle.tree.proofs.Lists.{in-range}
 use Rattle.tree.proofs.Ways.{orderly-split, answer-end, answer-fault, lookup-nine, lookup-eight, Asked, asked-first, asked-on}

@@ -7,7 +7,7 @@ use mir.Syntax.{w32}
 use mir.Val.{toZ, ofZ}
 use mir.ValLaws.{toZ-ofZ}
 use borrow.Author.Needs.{needs}
-use Rattle.tree.specs.Layout.{propAt, valAt}
+use Rattle.layout.specs.Layout.{propAt, valAt}
 use Rattle.tree.proofs.towards.Statement.{statement}
 use Rattle.tree.proofs.towards.Tie as tie
 

@@ -1,0 +1,187 @@
+// The exports for C and Rust: slices come as pointer and length. Learning and deepening belong here once they are joined (their answers are structs
+// beside those of `answers`); the single leaves are for the driver that compares with the Rust, and for the benchmark.
+ghost use mathlib.Core.Path.{_≡_};
+ghost use mathlib.Core.List.{List};
+ghost use Prim.Native.Nat.{_*_};
+ghost use lib.Ieee.{Float};
+ghost use lib.ListN.{length, replicate};
+ghost use Rattle.model.specs.Pack.{packed};
+ghost use Rattle.model.specs.Token.{encodedOf, tokenAnswer};
+ghost use Rattle.model.specs.Single.{singles};
+ghost use Rattle.model.specs.Lists.{writtenOver};
+ghost use Rattle.model.specs.Candidates.{candidatesOf};
+ghost use Rattle.model.specs.Cost.{logOf, entropyFrom};
+ghost use Rattle.model.specs.Operations.{lookup, leafContexts, sample};
+ghost use Rattle.rows.specs.Flat.{flat};
+ghost use Rattle.rows.specs.Cells.{span};
+ghost use Rattle.rows.specs.Parted.{Divisible, Partitioned};
+ghost use Rattle.mode.specs.Column.{modeAt, tokensAt};
+ghost use Rattle.mode.specs.Lent.{Rebasable};
+ghost use Rattle.candidates.specs.Column.{column};
+ghost use Rattle.candidates.specs.Plan.{Pickable};
+ghost use Rattle.cost.specs.Counted.{Counted};
+ghost use Rattle.cost.specs.Histograms.{SpanFits, CountsSpan};
+ghost use Rattle.layout.specs.Layout.{storedIn};
+ghost use Rattle.capi.specs.Answers.{valueIn, foundIn, countIn};
+
+pub mod answers;
+
+use answers::Count;
+use answers::Encoding;
+use answers::Leaf;
+use answers::Read;
+
+// ---- operations: no condition on what is handed in
+
+#[no_mangle]
+pub extern "C" fn ostrovuc_pack_signed(value: i32) -> u32
+    ensures { λ r. ⌜ r ≡ packed value ⌝ }
+{
+    entropy::pack_signed(value)
+}
+
+#[no_mangle]
+pub extern "C" fn ostrovuc_uint_encode(value: u32) -> Encoding
+    ensures { λ r. ⌜ r .token ≡ encodedOf value .token ⌝ }
+    ensures { λ r. ⌜ r .«extra_count» ≡ encodedOf value .nbits ⌝ }
+    ensures { λ r. ⌜ r .«extra_bits» ≡ encodedOf value .bits ⌝ }
+{
+    let e = entropy::uint_encode(value);
+    Encoding {
+        token: e.token,
+        extra_count: e.nbits,
+        extra_bits: e.bits,
+    }
+}
+
+#[no_mangle]
+pub extern "C" fn ostrovuc_token_value(token: u32, extra: u32) -> Read
+    ensures { λ r. ⌜ r ≡ valueIn (tokenAnswer token extra) ⌝ }
+{
+    answers::value_answer(entropy::token_value(token, extra))
+}
+
+#[no_mangle]
+pub extern "C" fn ostrovuc_evenly_sampled_indices(
+    rows: usize,
+    target: usize,
+    out: &mut [u32],
+) -> Count
+    ensures { λ r. ⌜ r ≡ countIn (sample rows target (now (out .entry)) .outcome) ⌝ }
+    ensures { λ r. ⌜ now (out .exit) ≡ sample rows target (now (out .entry)) .lent ⌝ }
+{
+    answers::sampled_answer(rows::evenly_sampled_indices(rows, target, out))
+}
+
+// A node's words are kind, property, gt, le and predictor; its values are threshold and offset.
+#[no_mangle]
+pub extern "C" fn ostrovuc_lookup(words: &[u32], values: &[i32], count: u32, props: &[i32]) -> Leaf
+    ensures { λ r. ⌜ ((costs : List Float) → r ≡ foundIn (lookup (storedIn (now (words .entry)) (now (values .entry)) costs) count (now (props .entry)))) ⌝ }
+{
+    answers::lookup_answer(tree::lookup(words, values, count, props))
+}
+
+#[no_mangle]
+pub extern "C" fn ostrovuc_leaf_contexts(
+    words: &[u32],
+    values: &[i32],
+    count: u32,
+    contexts: &mut [u32],
+    queue: &mut [u32],
+) -> Count
+    ensures { λ r. ⌜ ((costs : List Float) → r ≡ countIn (leafContexts (storedIn (now (words .entry)) (now (values .entry)) costs) count
+        (record { contexts = now (contexts .entry); queue = now (queue .entry) }) .outcome)) ⌝ }
+    ensures { λ _. ⌜ ((costs : List Float) → record { contexts = now (contexts .exit); queue = now (queue .exit) }
+        ≡ leafContexts (storedIn (now (words .entry)) (now (values .entry)) costs) count (record { contexts = now (contexts .entry); queue = now (queue .entry) }) .lent) ⌝ }
+{
+    answers::contexts_answer(tree::leaf_contexts(words, values, count, contexts, queue))
+}
+
+// ---- parts of the learner, for tests and benchmark alone: what a `requires` says is the caller's to see to, since C proves nothing
+
+// Where the rows begin whose property is not above the threshold.
+#[no_mangle]
+pub extern "C" fn ostrovuc_partition(
+    props: &mut [i32],
+    tok: &mut [u8],
+    res: &mut [i32],
+    first: usize,
+    end: usize,
+    prop: usize,
+    threshold: i32,
+) -> usize
+    requires { ⌜ Divisible (span first end) prop (flat (now props) (now tok) (now res)) ⌝ }
+    ensures { λ r. ⌜ Partitioned prop threshold (span first end)
+        (flat (now (props .entry)) (now (tok .entry)) (now (res .entry)))
+        (flat (now (props .exit)) (now (tok .exit)) (now (res .exit))) r ⌝ }
+{
+    rows::partition(props, tok, res, first, end, prop, threshold)
+}
+
+// The mode of the rows from first to end, whose zero-predictor tokens are made anew. The first 4,096 counts are 0, before and after.
+#[no_mangle]
+pub extern "C" fn ostrovuc_mode_step(
+    tok: &mut [u8],
+    res: &[i32],
+    first: usize,
+    end: usize,
+    counts: &mut [u32],
+) -> i32
+    requires { ⌜ Rebasable (now tok) (now res) first end (now counts) ⌝ }
+    ensures { λ r. ⌜ r ≡ modeAt first end (now (res .entry)) ⌝ }
+    ensures { λ _. ⌜ now (tok .exit) ≡ tokensAt first end (now (res .entry)) (now (tok .entry)) ⌝ }
+    ensures { λ _. ⌜ now (counts .exit) ≡ now (counts .entry) ⌝ }
+{
+    mode::rebase_zero(tok, res, first, end, counts)
+}
+
+// How many candidates stand at the front of `cands` then. The first 4,096 flags are 0, before and after.
+#[no_mangle]
+pub extern "C" fn ostrovuc_pick_candidates(
+    props: &[i32],
+    first: usize,
+    end: usize,
+    prop: usize,
+    max_candidates: usize,
+    flags: &mut [u32],
+    cands: &mut [i32],
+) -> usize
+    requires { ⌜ Pickable (now props) prop first end (now flags) (now cands) ⌝ }
+    ensures { λ r. ⌜ r ≡ length (candidatesOf «max_candidates» (column (now (props .entry)) prop first end)) ⌝ }
+    ensures { λ _. ⌜ now (cands .exit) ≡ writtenOver (candidatesOf «max_candidates» (column (now (props .entry)) prop first end)) (now (cands .entry)) ⌝ }
+    ensures { λ _. ⌜ now (flags .exit) ≡ now (flags .entry) ⌝ }
+{
+    answers::plan_answer(candidates::pick_candidates(
+        props,
+        first,
+        end,
+        prop,
+        max_candidates,
+        flags,
+        cands,
+    ))
+}
+
+// Counts each predictor's tokens in the rows from first to end; the counts are 0 before.
+#[no_mangle]
+pub extern "C" fn ostrovuc_count_tokens(
+    tok: &[u8],
+    first: usize,
+    end: usize,
+    alphabet: usize,
+    hist: &mut [u32],
+)
+    requires { ⌜ SpanFits (now tok) first end alphabet ⌝ }
+    requires { ⌜ now hist ≡ replicate (14 * alphabet) 0 ⌝ }
+    ensures { λ _. ⌜ CountsSpan (now (tok .entry)) first end (now (hist .exit)) alphabet ⌝ }
+{
+    cost::count_tokens(tok, first, end, alphabet, hist);
+}
+
+#[no_mangle]
+pub extern "C" fn ostrovuc_hist_entropy_bits(hist: &[u32], total: u32, logs: &[f32]) -> f32
+    requires { ⌜ Counted (now hist) total (now logs) ⌝ }
+    ensures { λ r. ⌜ r ≡ entropyFrom singles (now (logs .entry)) (logOf singles (now (logs .entry)) total) (singles .nought) (now (hist .entry)) ⌝ }
+{
+    cost::hist_entropy_bits(hist, total, logs)
+}

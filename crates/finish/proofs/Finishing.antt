@@ -1,0 +1,280 @@
+-- Pruning and settling on the lists are the model's. Assumes nothing.
+use mathlib.Core.Path.{_≡_, refl, sym, ap, _∙_, subst}
+use mathlib.Core.Bool.{Bool, true, false, cond, not, _&&_}
+use mathlib.Core.List.{List, [], _∷_, _++_, map, append-nil}
+use Prim.Native.Nat.{ℕ, _+_, _-_, _*_, _/_, _^_, _≤_, _<_}
+use native.Mathlib.Omega.{arith}
+use lib.IntN.{ℤ}
+use lib.ListN.{length, getD, replicate, length-map, getD-replicate}
+use lib.Ieee.{Float}
+use Rattle.ieee.specs.Within.{within-not-nan}
+use Rattle.model.specs.Lists.{isEmpty}
+use Rattle.model.specs.Settings.{maxNodes}
+use Rattle.model.specs.Single.{singles}
+use Rattle.model.specs.Rows.{Row}
+use Rattle.model.specs.Tree.{Node, nodesOf}
+use Rattle.model.specs.Job.{Job, prunes}
+use Rattle.model.specs.Grow.{Entry, State, noEntry, recordOf, treeNodes, steps}
+use Rattle.model.specs.Profile.{jobOf, single}
+use Rattle.model.specs.Prune.{prunedTree, prunedBits}
+use Rattle.model.specs.Settle.{settled}
+use Rattle.model.specs.Learn.{leafCount, resultOf, pruned, settledState, finished}
+use Rattle.model.proofs.Bounded.{price-within}
+use Rattle.model.proofs.Each.{each-getD}
+use Rattle.model.proofs.Finished.{Done, pruned-done}
+use Rattle.model.proofs.Growing.{Fine, Sized, steps-sized}
+use Rattle.model.proofs.Health.{Healthy, steps-healthy}
+use Rattle.model.proofs.Invariant.{Invariant}
+use Rattle.model.proofs.Lawful.{JobFits}
+use Rattle.model.proofs.Steps.{steps-keep}
+use Rattle.model.proofs.SingleLawful.{single-lawful}
+use Rattle.model.proofs.Sound.{Rooted}
+use Rattle.model.proofs.Tally.{tree-count}
+use Rattle.checks.specs.Given.{settingsOf}
+use Rattle.checks.specs.declared.Settings.{Settings}
+use Rattle.layout.specs.Tree.{laid, NodeLists, holding}
+use Rattle.lent.specs.Lists.{recordWords, recordValues, recordCosts, spanRows, nodesAfter, clearQueue}
+use Rattle.mode.specs.Lent.{Clear}
+use Rattle.prune.specs.Held.{HoldsTree, Prunable, PrunedAs}
+use Rattle.prune.specs.declared.Pruned.{Pruned}
+use Rattle.prune.proofs.Front.{front-held, front-room}
+use Rattle.settle.specs.Leaves.{HoldsLeaves}
+use Rattle.rows.specs.Flat.{Flat, heldIn, rowCount, Changed}
+use Rattle.rows.proofs.Cells.{length-held}
+use Rattle.rows.proofs.Shapes.{size-same, size-then, count-still}
+use Rattle.layout.specs.Waiting.{QueueLists, SameQueue}
+use Rattle.layout.proofs.Held.{room-fewer}
+use Rattle.leaf.specs.Fitting.{usesOf, Fitting}
+use Rattle.grow.specs.Grows.{jobIn, Number, Grows, GrownTo}
+use Rattle.finish.specs.Finished.{cutTree, cutBits, withVacated, Cut, Grew, FinishedTo}
+use Rattle.grow.specs.declared.Grown.{Grown}
+use Rattle.finish.specs.declared.Finished.{Finished}
+use Rattle.grow.proofs.Numbers.{nought-number, evaluated-number, job-fits}
+use Rattle.leaf.proofs.Making.{uses-still}
+
+-- ---- pruning, or not
+
+pub cut-pruned : (price : Float) (tree : List (Entry singles)) (bits : Float) (lent y : NodeLists) (r : Pruned) → singles .less (singles .nought) price ≡ true
+    → PrunedAs price tree lent y r → Cut price tree bits lent y (record { nodes = r .nodes; bits = r .bits })
+cut-pruned price tree bits lent y r e p = record { lists = rw e (p .lists); nodes = rw e (p .nodes); bits-are = rw e (p .bits) }
+
+pub cut-kept : (price : Float) (tree : List (Entry singles)) (lent x : NodeLists) (r : Grown) → singles .less (singles .nought) price ≡ false
+    → HoldsTree x (r .nodes) price tree lent → Cut price tree (r .bits) lent x r
+cut-kept price tree lent x r e h =
+    let none : length tree - length tree ≡ 0 = omega arith in
+    record {
+      lists = rw (e, none, append-nil) (h .lists);
+      nodes = rw e (h .many);
+      bits-are = rw e;
+    }
+
+-- ---- the lists of a result
+
+laid-map : {D E A : Type 0} (part : E → List A) (f : D → E) (l : List D) → laid part (map f l) ≡ laid (λ (d : D). part (f d)) l
+laid-map part f [] = refl
+laid-map part f (d ∷ l) = ap (λ (r : List _). part (f d) ++ r) (laid-map part f l)
+
+after-holding : (f : State singles) (written : ℕ) (flatly : Float) (lent : NodeLists) → nodesAfter (resultOf f written flatly) lent ≡ holding (withVacated written (f .tree)) lent
+unfolding nodesAfter resultOf holding
+after-holding f written flatly lent =
+    let es = withVacated written (f .tree) in
+    rw (laid-map recordWords recordOf es, laid-map recordValues recordOf es, laid-map recordCosts recordOf es, laid-map spanRows (λ (e : Entry singles). e .span) es)
+
+-- ---- lists that hold a grown state
+
+residuals-given : (modal : Bool) (l : List ℤ) → (modal && not (isEmpty l)) ≡ true → 0 < length l
+residuals-given true [] e = let z : _≡_ {A = ℕ} 0 1 = cc in absurd (omega arith)
+residuals-given true (v ∷ l) e = omega arith
+residuals-given false l e = let z : _≡_ {A = ℕ} 0 1 = cc in absurd (omega arith)
+
+module _ {s : Settings} {logs : List Float} {counts : List ℕ} {x : Flat} {n : NodeLists} {r : Grown} {lent : NodeLists} {st : State singles} {seeds : ℕ → Bool} {given : List Row}
+    (g : Grew s logs counts x n r lent st seeds given) where
+  abbrev j : Job singles
+  j = jobIn s logs x
+
+  abbrev price : Float
+  price = s .«prune_leaf_bits»
+
+  abbrev tree : List (Entry singles)
+  tree = st .tree
+
+  abbrev new : List (Entry singles)
+  new = cutTree price tree
+
+  fitting : Fitting s logs counts x
+  fitting = g .grown .fitting
+
+  some-nodes : 0 < length tree
+  some-nodes = g .inv .rooted
+
+  pub grew-holds : HoldsTree n (r .nodes) price tree lent
+  grew-holds = record {
+    lists = g .grown .nodes;
+    room = g .room;
+    many = g .grown .counted;
+    some = omega (arith, g .grown .counted, some-nodes);
+    few = omega (arith, g .grown .counted, g .few);
+    family = g .inv .family;
+    numbers = λ i h. each-getD (Fine Number) tree i noEntry (omega arith, nought-number) (g .sized .entries) .1;
+    price-number = within-not-nan price (2 ^ 20) (price-within price (fitting .settings .price));
+  }
+
+  pub grew-prunable : Prunable n (r .nodes) price
+  grew-prunable = record { tree = tree; lent = lent; holds = grew-holds }
+
+  pub clear-counts : Clear counts
+  clear-counts = record {
+    long = omega (arith, fitting .room);
+    zeros = λ i h. ap (λ (l : List ℕ). getD l i 0) (fitting .zeros) ∙ getD-replicate (length counts) i 0 0 (omega (arith, fitting .room));
+  }
+
+  -- the pruned tree is in order
+  cut-done : Done (usesOf s x) given (length tree) (pruned j st)
+  cut-done = pruned-done (single-lawful .bounds) j seeds given st (g .inv) (g .healthy) (g .few) (job-fits fitting (usesOf s x) .price-small)
+
+  pruned-tree : pruned j st .tree ≡ new
+  unfolding pruned
+  pruned-tree = go (prunes j) where
+    go : (b : Bool) → cond b (record { rows = st .rows; tree = prunedTree {M = singles} price tree; bits = prunedBits {M = singles} price tree }) st .tree ≡ cond b (prunedTree {M = singles} price tree) tree
+    go true = refl
+    go false = refl
+
+  pruned-rows : pruned j st .rows ≡ st .rows
+  unfolding pruned
+  pruned-rows = go (prunes j) where
+    go : (b : Bool) → cond b (record { rows = st .rows; tree = prunedTree {M = singles} price tree; bits = prunedBits {M = singles} price tree }) st .rows ≡ st .rows
+    go true = refl
+    go false = refl
+
+  pruned-bits : pruned j st .bits ≡ cutBits price tree (st .bits)
+  unfolding pruned
+  pruned-bits = go (prunes j) where
+    go : (b : Bool) → cond b (record { rows = st .rows; tree = prunedTree {M = singles} price tree; bits = prunedBits {M = singles} price tree }) st .bits ≡ cond b (prunedBits {M = singles} price tree) (st .bits)
+    go true = refl
+    go false = refl
+
+  -- ---- settling: the leaves of what is left
+
+  held-count : length (st .rows) ≡ rowCount x
+  held-count = ap length (sym (g .grown .rows)) ∙ length-held (x .props) (x .toks) (x .res)
+
+  module _ {m : NodeLists} {kept : Grown} (k : Cut price tree (r .bits) lent m kept) where
+    vacated : List (Entry singles)
+    vacated = replicate (length tree - length new) noEntry
+
+    -- what the lists hold behind the tree
+    abbrev pub behind : NodeLists
+    behind = holding (withVacated (length tree) new) lent
+
+    pub cut-leaves : HoldsLeaves (m .words) (m .spans) (kept .nodes) (usesOf s x) x new behind
+    cut-leaves =
+        let here = k .lists ∙ front-held new (replicate (length tree - length new) noEntry) lent in
+        record {
+          words-are = ap (λ (l : NodeLists). l .words) here;
+          spans-are = ap (λ (l : NodeLists). l .spans) here;
+          room = front-room new (replicate (length tree - length new) noEntry) lent;
+          many = k .nodes;
+          shaped = fitting .shaped;
+          few = fitting .few;
+          given = λ e. residuals-given (s .«modal_offsets») (x .res) e;
+          inside = λ i h lf. let b = subst (λ (es : List (Entry singles)). (a : ℕ) → a < length es → (getD es a noEntry .span .first ≤ getD es a noEntry .span .end) × (getD es a noEntry .span .end ≤ length (pruned j st .rows))) pruned-tree (cut-done .placed .bounds) i h in
+              (b .0, omega (arith, b .1, ap length pruned-rows, held-count));
+        }
+
+    pub few-kept : kept .nodes ≤ maxNodes
+    few-kept = omega (arith, k .nodes, ap length pruned-tree, cut-done .shorter, g .few)
+
+    -- ---- the result
+    done-tree : settledState j (pruned j st) .tree ≡ new
+    unfolding settledState
+    done-tree = go (j .settling) ∙ pruned-tree where
+      go : (b : Bool) → cond b (record { rows = settled (j .uses) (pruned j st .tree) (pruned j st .rows); tree = pruned j st .tree; bits = pruned j st .bits }) (pruned j st) .tree ≡ pruned j st .tree
+      go true = refl
+      go false = refl
+
+    done-bits : settledState j (pruned j st) .bits ≡ cutBits price tree (st .bits)
+    unfolding settledState
+    done-bits = go (j .settling) ∙ pruned-bits where
+      go : (b : Bool) → cond b (record { rows = settled (j .uses) (pruned j st .tree) (pruned j st .rows); tree = pruned j st .tree; bits = pruned j st .bits }) (pruned j st) .bits ≡ pruned j st .bits
+      go true = refl
+      go false = refl
+
+    done-rows : settledState j (pruned j st) .rows ≡ cond (s .settle) (settled (usesOf s x) new (heldIn x)) (heldIn x)
+    unfolding settledState
+    done-rows = go (s .settle) ∙ ap (λ (l : List Row). cond (s .settle) (settled (usesOf s x) new l) l) (pruned-rows ∙ sym (g .grown .rows)) where
+      go : (b : Bool) → cond b (record { rows = settled (j .uses) (pruned j st .tree) (pruned j st .rows); tree = pruned j st .tree; bits = pruned j st .bits }) (pruned j st) .rows
+          ≡ cond b (settled (usesOf s x) new (pruned j st .rows)) (pruned j st .rows)
+      go true = ap (λ (es : List (Entry singles)). settled (j .uses) es (pruned j st .rows)) pruned-tree
+      go false = refl
+
+    -- a split has two children: one leaf more than splits
+    leaves-are : length new + 1 ≡ 2 * leafCount (treeNodes new)
+    leaves-are = subst (λ (es : List (Entry singles)). length es + 1 ≡ 2 * leafCount (treeNodes es)) pruned-tree (go (pruned j st .tree) (cut-done .sound .rooted) (cut-done .rooted)) where
+      nodes-are : (es : List (Entry singles)) → nodesOf (map recordOf es) ≡ treeNodes es
+      nodes-are [] = refl
+      nodes-are (e ∷ es) = ap (λ (l : List Node). e .node ∷ l) (nodes-are es)
+
+      go : (es : List (Entry singles)) → Rooted (nodesOf (map recordOf es)) → 0 < length es → length es + 1 ≡ 2 * leafCount (treeNodes es)
+      go es rooted some =
+          let long = length-map es (λ (e : Entry singles). e .node) in
+          let c = tree-count (treeNodes es) (subst Rooted (nodes-are es) rooted) (omega arith) in
+          omega arith
+
+    pub finished-lists : {y : Flat} {f : Finished} (flatly : Float) → Changed (λ (rows : List Row). cond (s .settle) (settled (usesOf s x) new rows) rows) x y
+        → f .nodes ≡ kept .nodes → f .leaves ≡ (kept .nodes + 1) / 2 → f .bits ≡ kept .bits → FinishedTo x y m f lent (finished j st flatly)
+    unfolding finished resultOf
+    finished-lists flatly changed nodes leaves bits =
+        let count = k .nodes in
+        let two = leaves-are in
+        let many : leafCount (treeNodes (settledState j (pruned j st) .tree)) ≡ leafCount (treeNodes new) = ap (λ (es : List (Entry singles)). leafCount (treeNodes es)) done-tree in
+        let half : (kept .nodes + 1) / 2 ≡ leafCount (treeNodes new) = omega arith in
+        record {
+          rows = changed .rows ∙ sym done-rows;
+          size = changed .size;
+          nodes = k .lists ∙ ap (λ (es : List (Entry singles)). holding (withVacated (length tree) es) lent) (sym done-tree) ∙ sym (after-holding (settledState j (pruned j st)) (length tree) flatly lent);
+          counted = nodes ∙ k .nodes ∙ ap length (sym done-tree);
+          leaves = leaves ∙ half ∙ sym many;
+          summed = bits ∙ k .bits-are ∙ ap (cutBits price tree) (g .grown .summed) ∙ sym done-bits;
+        }
+
+-- ---- after growth
+
+module _ {s : Settings} {logs : List Float} {counts : List ℕ} {x : Flat} {n : NodeLists} {q : QueueLists} {waiting count : ℕ} {bits : Float} {more : ℕ} {lent : NodeLists} {st : State singles}
+    {seeds : ℕ → Bool} {given : List Row} (g : Grows s logs counts x n q waiting count bits more lent st seeds given) where
+  -- the state that has grown
+  abbrev pub grownState : State singles
+  grownState = steps (jobIn s logs x) more st
+
+  given-many : length given ≡ rowCount x
+  given-many = sym (g .healthy .counted) ∙ ap length (sym (g .rows)) ∙ length-held (x .props) (x .toks) (x .res)
+
+  grown-healthy : Healthy (single-lawful .bounds) seeds given grownState × (length (grownState .tree) ≤ length (st .tree) + 2 * more)
+  grown-healthy = steps-healthy (single-lawful .bounds) (jobIn s logs x) given (subst (JobFits (single-lawful .bounds) (jobIn s logs x)) (sym given-many) (job-fits (g .fitting) (usesOf s x))) seeds more st (g .inv) (g .healthy)
+
+  module _ {y : Flat} {m : NodeLists} {r : Grown} (to : GrownTo s logs counts x y m r lent grownState) (counts' : List ℕ) (same : counts' ≡ counts) where
+    pub grew-so : Grew s logs counts' y m r lent grownState seeds given
+    grew-so = record {
+      grown = record {
+        rows = to .rows;
+        size = size-same y;
+        nodes = to .nodes;
+        counted = to .counted;
+        summed = to .summed;
+        fitting = subst (λ (c : List ℕ). Fitting s logs c y) (sym same) (to .fitting);
+      };
+      room = room-fewer (g .room) (grown-healthy .1);
+      few = omega (arith, grown-healthy .1, g .few);
+      inv = subst (λ (u : Bool). Invariant u seeds given grownState) (uses-still s (to .size)) (steps-keep (jobIn s logs x) seeds given more st (g .inv));
+      healthy = grown-healthy .0;
+      sized = subst (λ (k : ℕ). Sized Number k grownState) (sym (count-still (to .size))) (steps-sized Number (rowCount x) (jobIn s logs x) nought-number (evaluated-number (g .fitting)) more st (g .sized));
+    }
+
+    -- what is finished from there
+    pub finished-so : {z : Flat} {l : NodeLists} {f : Finished} (flatly : Float) → FinishedTo y z l f lent (finished (jobIn s logs y) grownState flatly) → FinishedTo x z l f lent (finished (jobIn s logs x) grownState flatly)
+    finished-so {z} {l} {f} flatly e =
+        let d = subst (λ (u : Bool). FinishedTo y z l f lent (finished (jobOf single (settingsOf s) logs u) grownState flatly)) (sym (uses-still s (to .size))) e in
+        record { rows = d .rows; size = size-then (to .size) (d .size); nodes = d .nodes; counted = d .counted; leaves = d .leaves; summed = d .summed }
+
+pub clear-same : {q p : QueueLists} → SameQueue q p → clearQueue p ≡ clearQueue q
+unfolding clearQueue
+clear-same s = rw (s .words, s .values, s .gains)

@@ -1,0 +1,70 @@
+-- What finishing makes of a grown tree: pruning if the price is above 0, settling if it is asked for (document 01, "Pruning"). Assumes nothing.
+use Prim.Native.Nat.{ℕ, _-_, _≤_}
+use mathlib.Core.Path.{_≡_}
+use mathlib.Core.Bool.{Bool, cond}
+use mathlib.Core.List.{List, _++_}
+use lib.ListN.{length, replicate}
+use lib.IntN.{ℤ}
+use lib.Ieee.{Float}
+use Rattle.model.specs.Settings.{maxNodes}
+use Rattle.model.specs.Single.{singles}
+use Rattle.model.specs.Rows.{Row}
+use Rattle.model.specs.Grow.{Entry, State, noEntry}
+use Rattle.model.specs.Prune.{prunedTree, prunedBits}
+use Rattle.model.specs.Learn.{Result}
+use Rattle.model.proofs.Invariant.{Invariant}
+use Rattle.model.proofs.Health.{Healthy}
+use Rattle.model.proofs.Growing.{Sized}
+use Rattle.model.proofs.SingleLawful.{single-lawful}
+use Rattle.checks.specs.declared.Settings.{Settings}
+use Rattle.layout.specs.Tree.{NodeLists, holding, HasRoom}
+use Rattle.lent.specs.Lists.{nodesAfter}
+use Rattle.rows.specs.Flat.{Flat, flat, heldIn, rowCount, SameSize}
+use Rattle.leaf.specs.Fitting.{usesOf}
+use Rattle.grow.specs.Grows.{Number, GrownTo}
+use Rattle.grow.specs.declared.Grown.{Grown}
+use Rattle.finish.specs.declared.Finished.{Finished}
+
+-- pruned, if the price is above 0: the tree and its bits
+abbrev pub cutTree : Float → List (Entry singles) → List (Entry singles)
+cutTree price tree = cond (singles .less (singles .nought) price) (prunedTree {M = singles} price tree) tree
+
+abbrev pub cutBits : Float → List (Entry singles) → Float → Float
+cutBits price tree bits = cond (singles .less (singles .nought) price) (prunedBits {M = singles} price tree) bits
+
+-- the tree, then the entries that it vacated
+abbrev pub withVacated : ℕ → List (Entry singles) → List (Entry singles)
+withVacated written tree = tree ++ replicate (written - length tree) noEntry
+
+pub record Cut (price : Float) (tree : List (Entry singles)) (bits : Float) (lent y : NodeLists) (r : Grown) : Type 0 where
+  pub lists : y ≡ holding (withVacated (length tree) (cutTree price tree)) lent
+  pub nodes : r .nodes ≡ length (cutTree price tree)
+  pub bits-are : r .bits ≡ cutBits price tree bits
+
+-- The lists hold a grown state: what growth leaves, with what growth keeps
+pub record Grew (s : Settings) (logs : List Float) (counts : List ℕ) (x : Flat) (lists : NodeLists) (r : Grown) (lent : NodeLists) (st : State singles) (seeds : ℕ → Bool) (given : List Row) : Type 0 where
+  pub grown : GrownTo s logs counts x x lists r lent st
+  pub room : HasRoom (length (st .tree)) lent
+  pub few : length (st .tree) ≤ maxNodes
+  pub inv : Invariant (usesOf s x) seeds given st
+  pub healthy : Healthy (single-lawful .bounds) seeds given st
+  pub sized : Sized Number (rowCount x) st
+
+-- there is such a state, whatever properties the rows have
+pub record Finishable (s : Settings) (tok : List ℕ) (res : List ℤ) (lists : NodeLists) (counts : List ℕ) (r : Grown) : Type 0 where
+  pub props : List ℤ
+  pub logs : List Float
+  pub lent : NodeLists
+  pub state : State singles
+  pub seeds : ℕ → Bool
+  pub given : List Row
+  pub grew : Grew s logs counts (flat props tok res) lists r lent state seeds given
+
+-- y holds the rows, the lists the nodes and spans, and r counts and bits
+pub record FinishedTo (x y : Flat) (lists : NodeLists) (r : Finished) (lent : NodeLists) (made : Result singles) : Type 0 where
+  pub rows : heldIn y ≡ made .rows
+  pub size : SameSize x y
+  pub nodes : lists ≡ nodesAfter made lent
+  pub counted : r .nodes ≡ made .count
+  pub leaves : r .leaves ≡ made .leaves
+  pub summed : r .bits ≡ made .bits

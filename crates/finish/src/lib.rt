@@ -1,0 +1,190 @@
+// From a state to the finished tree: growth, pruning if the price is above 0, settling if it is asked for (document 01, "Growth" and "Pruning").
+ghost use mathlib.Core.Path.{_≡_};
+ghost use mathlib.Core.Bool.{Bool, cond};
+ghost use mathlib.Core.List.{List};
+ghost use Prim.Native.Nat.{ℕ};
+ghost use lib.ListN.{length, replicate};
+ghost use lib.IntN.{ℤ, pos};
+ghost use lib.Ieee.{Float};
+ghost use Rattle.model.specs.Single.{singles};
+ghost use Rattle.model.specs.Rows.{Row};
+ghost use Rattle.model.specs.Grow.{Entry, State, steps};
+ghost use Rattle.model.specs.Settle.{settled};
+ghost use Rattle.model.specs.Learn.{finished};
+ghost use Rattle.layout.specs.Tree.{NodeLists, nodeLists};
+ghost use Rattle.layout.specs.Waiting.{queueLists};
+ghost use Rattle.lent.specs.Lists.{clearQueue};
+ghost use Rattle.rows.specs.Flat.{flat, Changed};
+ghost use Rattle.prune.specs.Held.{HoldsTree, Prunable};
+ghost use Rattle.settle.specs.Leaves.{HoldsLeaves, Settleable};
+ghost use Rattle.grow.specs.Grows.{jobIn, Grows, Growable};
+ghost use Rattle.finish.specs.Finished.{Cut, Grew, Finishable, FinishedTo};
+use checks::Settings;
+use grow::Grown;
+
+// How many nodes and leaves the finished tree has, and its estimated bits.
+pub struct Finished {
+    pub nodes: u32,
+    pub leaves: u32,
+    pub bits: f64,
+}
+
+// Prunes if the price is above 0.
+fn prune_if(
+    words: &mut [u32],
+    values: &mut [i32],
+    costs: &mut [f32],
+    spans: &mut [u32],
+    grown: Grown,
+    price: f32,
+) -> Grown
+    requires { ⌜ Prunable (nodeLists (now words) (now values) (now costs) (now spans)) (grown .nodes) price ⌝ }
+    ensures { λ r. ⌜ ((tree : List (Entry singles)) (lent : NodeLists)
+        → HoldsTree (nodeLists (now (words .entry)) (now (values .entry)) (now (costs .entry)) (now (spans .entry))) (grown .nodes) price tree lent
+        → Cut price tree (grown .bits) lent (nodeLists (now (words .exit)) (now (values .exit)) (now (costs .exit)) (now (spans .exit))) r) ⌝ }
+{
+    if 0.0 < price {
+        let pruned = prune::prune_tree(words, values, costs, spans, grown.nodes, price);
+        return Grown {
+            nodes: pruned.nodes,
+            bits: pruned.bits,
+        };
+    }
+    grown
+}
+
+// Repeats the mode step on each leaf's span, if it is asked for.
+fn settle_if(
+    settle: bool,
+    words: &[u32],
+    spans: &[u32],
+    count: usize,
+    uses: bool,
+    tok: &mut [u8],
+    res: &[i32],
+    counts: &mut [u32],
+)
+    requires { ⌜ Settleable (now words) (now spans) count uses (now tok) (now res) (now counts) ⌝ }
+    ensures { λ _. ⌜ ((tree : List (Entry singles)) (lent : NodeLists) (props : List ℤ)
+        → HoldsLeaves (now (words .entry)) (now (spans .entry)) count uses (flat props (now (tok .entry)) (now (res .entry))) tree lent
+        → Changed (λ rows. cond settle (settled uses tree rows) rows) (flat props (now (tok .entry)) (now (res .entry))) (flat props (now (tok .exit)) (now (res .entry)))) ⌝ }
+    ensures { λ _. ⌜ now (counts .exit) ≡ now (counts .entry) ⌝ }
+{
+    if settle {
+        settle::settle_leaves(words, spans, count, uses, tok, res, counts);
+    }
+}
+
+// Prunes and settles what has grown. A tree in which each split has two children has one leaf more than splits.
+fn finish_tree(
+    tok: &mut [u8],
+    res: &[i32],
+    words: &mut [u32],
+    values: &mut [i32],
+    costs: &mut [f32],
+    spans: &mut [u32],
+    counts: &mut [u32],
+    s: Settings,
+    grown: Grown,
+) -> Finished
+    requires { ⌜ Finishable s (now tok) (now res) (nodeLists (now words) (now values) (now costs) (now spans)) (now counts) grown ⌝ }
+    ensures { λ r. ⌜ ((props : List ℤ) (logs : List Float) (lent : NodeLists) (st : State singles) (seeds : ℕ → Bool) (given : List Row) (flatly : Float)
+        → Grew s logs (now (counts .entry)) (flat props (now (tok .entry)) (now (res .entry))) (nodeLists (now (words .entry)) (now (values .entry)) (now (costs .entry)) (now (spans .entry))) grown lent st seeds given
+        → FinishedTo (flat props (now (tok .entry)) (now (res .entry))) (flat props (now (tok .exit)) (now (res .entry)))
+        (nodeLists (now (words .exit)) (now (values .exit)) (now (costs .exit)) (now (spans .exit))) r lent
+        (finished (jobIn s logs (flat props (now (tok .entry)) (now (res .entry)))) st flatly)) ⌝ }
+    ensures { λ _. ⌜ now (counts .exit) ≡ now (counts .entry) ⌝ }
+{
+    let kept = prune_if(words, values, costs, spans, grown, s.prune_leaf_bits);
+    let nodes = kept.nodes;
+    let uses = s.modal_offsets & (0 < res.len());
+    settle_if(s.settle, words, spans, nodes, uses, tok, res, counts);
+    Finished {
+        nodes: nodes as u32,
+        leaves: ((nodes + 1) / 2) as u32,
+        bits: kept.bits,
+    }
+}
+
+fn clear_values(values: &mut [i32])
+    ensures { λ _. ⌜ now (values .exit) ≡ replicate (length (now (values .entry))) (pos 0) ⌝ }
+{
+    for i in 0..values.len() {
+        values[i] = 0;
+    }
+}
+
+fn clear_gains(gains: &mut [f32])
+    ensures { λ _. ⌜ now (gains .exit) ≡ replicate (length (now (gains .entry))) (singles .nought) ⌝ }
+{
+    for i in 0..gains.len() {
+        gains[i] = 0.0;
+    }
+}
+
+// Nothing waits any more.
+fn clear_queue(words: &mut [u32], values: &mut [i32], gains: &mut [f32])
+    ensures { λ _. ⌜ queueLists (now (words .exit)) (now (values .exit)) (now (gains .exit))
+        ≡ clearQueue (queueLists (now (words .entry)) (now (values .entry)) (now (gains .entry))) ⌝ }
+{
+    cost::clear(words);
+    clear_values(values);
+    clear_gains(gains);
+}
+
+pub fn grow_and_finish(
+    props: &mut [i32],
+    tok: &mut [u8],
+    res: &mut [i32],
+    words: &mut [u32],
+    values: &mut [i32],
+    costs: &mut [f32],
+    spans: &mut [u32],
+    queue_words: &mut [u32],
+    queue_values: &mut [i32],
+    queue_gains: &mut [f32],
+    counts: &mut [u32],
+    logs: &[f32],
+    s: Settings,
+    waiting: usize,
+    count: usize,
+    bits: f64,
+    more: usize,
+) -> Finished
+    requires { ⌜ Growable s (now logs) (now counts) (flat (now props) (now tok) (now res)) (nodeLists (now words) (now values) (now costs) (now spans))
+        (queueLists (now «queue_words») (now «queue_values») (now «queue_gains»)) waiting count bits more ⌝ }
+    ensures { λ r. ⌜ ((lent : NodeLists) (st : State singles) (seeds : ℕ → Bool) (given : List Row) (flatly : Float)
+        → Grows s (now (logs .entry)) (now (counts .entry)) (flat (now (props .entry)) (now (tok .entry)) (now (res .entry)))
+        (nodeLists (now (words .entry)) (now (values .entry)) (now (costs .entry)) (now (spans .entry)))
+        (queueLists (now («queue_words» .entry)) (now («queue_values» .entry)) (now («queue_gains» .entry))) waiting count bits more lent st seeds given
+        → FinishedTo (flat (now (props .entry)) (now (tok .entry)) (now (res .entry))) (flat (now (props .exit)) (now (tok .exit)) (now (res .exit)))
+        (nodeLists (now (words .exit)) (now (values .exit)) (now (costs .exit)) (now (spans .exit))) r lent
+        (finished (jobIn s (now (logs .entry)) (flat (now (props .entry)) (now (tok .entry)) (now (res .entry))))
+        (steps (jobIn s (now (logs .entry)) (flat (now (props .entry)) (now (tok .entry)) (now (res .entry)))) more st) flatly)) ⌝ }
+    ensures { λ _. ⌜ now (counts .exit) ≡ now (counts .entry) ⌝ }
+    ensures { λ _. ⌜ queueLists (now («queue_words» .exit)) (now («queue_values» .exit)) (now («queue_gains» .exit))
+        ≡ clearQueue (queueLists (now («queue_words» .entry)) (now («queue_values» .entry)) (now («queue_gains» .entry))) ⌝ }
+{
+    let grown = grow::grow_tree(
+        props,
+        tok,
+        res,
+        words,
+        values,
+        costs,
+        spans,
+        queue_words,
+        queue_values,
+        queue_gains,
+        counts,
+        logs,
+        s,
+        waiting,
+        count,
+        bits,
+        more,
+    );
+    let made = finish_tree(tok, res, words, values, costs, spans, counts, s, grown);
+    clear_queue(queue_words, queue_values, queue_gains);
+    made
+}

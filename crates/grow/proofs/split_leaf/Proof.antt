@@ -1,0 +1,241 @@
+-- `grow::split_leaf` meets its contract: one split of the code is one step of the model. Assumes nothing.
+use mathlib.Core.Path.{_≡_, ap, subst, _∙_}
+use Prim.Native.Nat.{_+_}
+use native.Mathlib.Omega.{arith}
+use lib.IntN.{ℤ}
+use lib.Dec.{ltb}
+use mir.Syntax.{w32}
+use mir.Val.{toZ, ofZ}
+use mir.ValLaws.{toZ-ofZ}
+use Rattle.layout.specs.Tree.{NodeLists, nodeLists}
+use Rattle.layout.specs.Waiting.{QueueLists, queueLists}
+use Rattle.rows.specs.Cells.{span}
+use Rattle.rows.specs.Flat.{Flat, flat}
+use Rattle.grow.specs.Parts.{RowsSplit, splitNodes}
+use Rattle.grow.specs.Grows.{Grows, Growable}
+use Rattle.grow.specs.declared.Pending.{Pending}
+use Rattle.grow.specs.declared.Bounds.{Bounds}
+use Rattle.grow.proofs.Choosing as choosing
+use Rattle.grow.proofs.Coding as coding
+use borrow.Author.Needs.{needs}
+use Rattle.grow.proofs.split_leaf.Statement.{statement}
+use Rattle.grow.proofs.split_leaf.Tie as tie
+
+-- a state that the lists hold at entry
+module _ (start : tie.Start) where
+  abbrev x : Flat
+  x = flat (start .args .props .now) (start .args .tok .now) (start .args .res .now)
+
+  abbrev lists : NodeLists
+  lists = nodeLists (start .args .words .now) (start .args .values .now) (start .args .costs .now) (start .args .spans .now)
+
+  abbrev queue : QueueLists
+  queue = queueLists (start .args .queue-words .now) (start .args .queue-values .now) (start .args .queue-gains .now)
+
+  abbrev held : Growable (start .args .s) (start .args .logs .now) (start .args .counts .now) x lists queue
+      (start .args .waiting) (start .args .count) (start .args .bits) (start .args .left)
+  held = start .pre .growable
+
+  grows : Grows (start .args .s) (start .args .logs .now) (start .args .counts .now) x lists queue
+      (start .args .waiting) (start .args .count) (start .args .bits) (start .args .left) (held .lent) (held .state) (held .seeds) (held .given)
+  grows = held .grows
+
+-- the rows after the split, with the threshold as it was read
+module _ (c : tie.After-split-rows) where
+  abbrev pended : tie.After-pending-at
+  pended = c .before .before .before .before .before .before .before .before .before .before
+
+  abbrev begun : tie.Start
+  begun = pended .before .before .before .before .before .before .before .before .before .before .before
+
+  abbrev p : Pending
+  p = pended .pending-at .result
+
+  abbrev b : Bounds
+  b = c .before .before .before .before .before .before .bounds-of .result
+
+  abbrev y : Flat
+  y = flat (c .split-rows .last .0) (c .split-rows .last .1 .0) (c .split-rows .last .1 .1 .0)
+
+  same-val : toZ w32 (ofZ w32 (p .val)) ≡ p .val
+  same-val = toZ-ofZ w32 (p .val) (record { sfits = c .before .before .before .before .before .before .before .before .before .struct-told .given .1 .1 .0 .1 })
+
+  abbrev Cut : ℤ → Type 0
+  Cut val =
+      RowsSplit (ltb 1 (begun .args .left)) (begun .args .s) (begun .args .logs .now) (begun .args .counts .now) (p .depth + 1) (p .prop) val
+      (span (b .first) (b .end)) (x begun) y (c .split-rows .result)
+
+  cut : Cut (p .val)
+  cut = subst Cut same-val (c .split-rows .ensures .0)
+
+  -- the node lists after the split
+  abbrev Stored : ℤ → NodeLists
+  Stored val =
+      let r = c .split-rows .result in
+      splitNodes (p .node) (p .prop) val (begun .args .count) (r .gt .info) (r .le .info) (b .first) (r .at) (b .end) (lists begun)
+
+pending-at-requires : tie.Need-pending-at-requires
+pending-at-requires c κs =
+    let start = c .before .before .before .before .before .before .before .before .before .before in
+    let inside = choosing.inside (grows start) (start .args .k) (start .pre .one-more) (start .pre .some-wait) (start .pre .best) in
+    let words = grows start .queue-room .words in
+    let values = grows start .queue-room .values in
+    omega arith
+
+add-depth : tie.Need-add-depth
+add-depth c =
+    let pended = c .before .before in
+    let start = pended .before .before .before .before .before .before .before .before .before .before .before in
+    let same = choosing.depth-is (grows start) (start .args .k) (start .pre .one-more) (start .pre .some-wait) (start .pre .best)
+    (pended .pending-at .result) (pended .pending-at .ensures) in
+    omega (arith, same, choosing.shallow-leaf (grows start) (start .args .k) (start .pre .one-more) (start .pre .some-wait) (start .pre .best))
+
+bounds-of-requires : tie.Need-bounds-of-requires
+bounds-of-requires c κs =
+    let pended = c .before .before .before in
+    let start = pended .before .before .before .before .before .before .before .before .before .before .before in
+    choosing.spans-room (grows start) (start .args .k) (start .pre .one-more) (start .pre .some-wait) (start .pre .best)
+    (pended .pending-at .result) (pended .pending-at .ensures)
+
+mul-cost : tie.Need-mul-cost
+mul-cost c =
+    let pended = c .before .before .before .before in
+    let start = pended .before .before .before .before .before .before .before .before .before .before .before in
+    let same = choosing.node-is (grows start) (start .args .k) (start .pre .one-more) (start .pre .some-wait) (start .pre .best)
+    (pended .pending-at .result) (pended .pending-at .ensures) in
+    let inside = choosing.node-inside (grows start) (start .args .k) (start .pre .one-more) (start .pre .some-wait) (start .pre .best) in
+    omega (arith, choosing.few-nodes (grows start) (start .args .k) (start .pre .one-more) (start .pre .some-wait) (start .pre .best))
+
+slice-read-cost : tie.Need-slice-read-cost
+slice-read-cost c =
+    let pended = c .before .before .before .before .before in
+    let start = pended .before .before .before .before .before .before .before .before .before .before .before in
+    choosing.costs-room (grows start) (start .args .k) (start .pre .one-more) (start .pre .some-wait) (start .pre .best)
+    (pended .pending-at .result) (pended .pending-at .ensures)
+
+cast-split-rows : tie.Need-cast-split-rows
+cast-split-rows c = search needs
+
+split-rows-requires : tie.Need-split-rows-requires
+split-rows-requires c κs =
+    let bounded = c .before .before .before .before .before in
+    let pended = bounded .before .before .before .before in
+    let start = pended .before .before .before .before .before .before .before .before .before .before .before in
+    choosing.rows-fit (grows start) (start .args .k) (start .pre .one-more) (start .pre .some-wait) (start .pre .best)
+    (pended .pending-at .result) (pended .pending-at .ensures)
+    (bounded .bounds-of .result .first) (bounded .bounds-of .result .end) (bounded .bounds-of .ensures .0) (bounded .bounds-of .ensures .1)
+
+split-nodes-requires : tie.Need-split-nodes-requires
+split-nodes-requires c κs =
+    let on1 = c .before .before .before .before .before .before .before .before .before .before .before .before .before in
+    let rowed = on1 .before in
+    let bounded = rowed .before .before .before .before .before .before in
+    let pended = bounded .before .before .before .before in
+    let start = pended .before .before .before .before .before .before .before .before .before .before .before in
+    coding.nodes-fit (grows start) (start .args .k) (start .pre .one-more) (start .pre .some-wait) (start .pre .best)
+    (pended .pending-at .result) (pended .pending-at .ensures)
+    (bounded .bounds-of .result .first) (bounded .bounds-of .result .end) (bounded .bounds-of .ensures .0) (bounded .bounds-of .ensures .1) (cut rowed)
+
+requeue-requires : tie.Need-requeue-requires
+requeue-requires c κs =
+    let on1 = c .before .before .before .before .before .before .before .before .before .before .before .before .before in
+    let on2 = on1 .before .before .before .before .before .before .before .before .before .before .before .before .before in
+    let on3 = on2 .before .before .before .before .before .before .before .before .before .before .before .before .before in
+    let start = on3 .before .before .before .before .before .before .before in
+    let inside = choosing.inside (grows start) (start .args .k) (start .pre .one-more) (start .pre .some-wait) (start .pre .best) in
+    let few = choosing.few-nodes (grows start) (start .args .k) (start .pre .one-more) (start .pre .some-wait) (start .pre .best) in
+    (inside, few, choosing.queue-room (grows start) (start .args .k) (start .pre .one-more) (start .pre .some-wait) (start .pre .best))
+
+grown-bits-requires : tie.Need-grown-bits-requires
+grown-bits-requires c κs =
+    let on1 = c .before .before .before .before .before .before .before .before .before .before .before .before .before in
+    let on2 = on1 .before .before .before .before .before .before .before .before .before .before .before .before .before in
+    let rowed = on2 .before .before .before .before .before in
+    let bounded = rowed .before .before .before .before .before .before in
+    let pended = bounded .before .before .before .before in
+    let start = pended .before .before .before .before .before .before .before .before .before .before .before in
+    coding.growth-fits (grows start) (start .args .k) (start .pre .one-more) (start .pre .some-wait) (start .pre .best)
+    (pended .pending-at .result) (pended .pending-at .ensures)
+    (bounded .bounds-of .result .first) (bounded .bounds-of .result .end) (bounded .bounds-of .ensures .0) (bounded .bounds-of .ensures .1) (cut rowed)
+
+same-length : tie.Need-same-length
+same-length c = search needs
+
+same-length-2 : tie.Need-same-length-2
+same-length-2 c = search needs
+
+same-length-3 : tie.Need-same-length-3
+same-length-3 c = search needs
+
+same-length-4 : tie.Need-same-length-4
+same-length-4 c = search needs
+
+same-length-5 : tie.Need-same-length-5
+same-length-5 c = search needs
+
+same-length-6 : tie.Need-same-length-6
+same-length-6 c = search needs
+
+same-length-7 : tie.Need-same-length-7
+same-length-7 c = search needs
+
+same-length-8 : tie.Need-same-length-8
+same-length-8 c = search needs
+
+same-length-9 : tie.Need-same-length-9
+same-length-9 c = search needs
+
+same-length-10 : tie.Need-same-length-10
+same-length-10 c = search needs
+
+same-length-11 : tie.Need-same-length-11
+same-length-11 c = search needs
+
+returns : tie.Need-returns
+returns c =
+    let again = c .before .before .before .before .before .before in
+    let nodes = again .before .before .before .before .before .before .before .before .before .before .before in
+    let on1 = nodes .before .before .before .before .before .before .before .before .before .before .before .before .before in
+    let rowed = on1 .before .before in
+    let bounded = rowed .before .before .before .before .before .before in
+    let pended = bounded .before .before .before .before in
+    let start = pended .before .before .before .before .before .before .before .before .before .before .before in
+    let last = nodes .split-nodes .last in
+    let lists' = nodeLists (last .0) (last .1 .0) (last .1 .1 .0) (last .1 .1 .1 .0) in
+    let q' = queueLists (again .requeue .last .0) (again .requeue .last .1 .0) (again .requeue .last .1 .1 .0) in
+    let stored : lists' ≡ Stored rowed (p rowed .val) = nodes .split-nodes .ensures ∙ ap (Stored rowed) (same-val rowed) in (
+      λ lent st seeds rows g.
+          coding.grows-on g (start .args .k) (start .pre .one-more) (start .pre .some-wait) (start .pre .best)
+          (pended .pending-at .result) (pended .pending-at .ensures)
+          (bounded .bounds-of .result .first) (bounded .bounds-of .result .end) (bounded .bounds-of .ensures .0) (bounded .bounds-of .ensures .1)
+          {y = y rowed} (cut rowed) {lists' = lists'} {q' = q'} stored
+          (again .requeue .ensures .0) (again .requeue .ensures .1 .0) (again .requeue .ensures .1 .1) (c .grown-bits .ensures),
+      rowed .split-rows .ensures .1,
+    )
+
+pub split-leaf-spec : {M : Type 1} → statement M
+split-leaf-spec =
+    tie.close
+    (tie.spec
+    pending-at-requires
+    add-depth
+    bounds-of-requires
+    mul-cost
+    slice-read-cost
+    cast-split-rows
+    split-rows-requires
+    split-nodes-requires
+    requeue-requires
+    grown-bits-requires
+    same-length
+    same-length-2
+    same-length-3
+    same-length-4
+    same-length-5
+    same-length-6
+    same-length-7
+    same-length-8
+    same-length-9
+    same-length-10
+    same-length-11
+    returns)

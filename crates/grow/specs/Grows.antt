@@ -1,0 +1,80 @@
+-- What growth asks for and leaves (document 01, "Growth"): lists that hold a state of the model, before and after so many steps. Assumes nothing.
+use Prim.Native.Nat.{ℕ, _+_, _*_, _≤_, _<_}
+use mathlib.Core.Path.{_≡_}
+use mathlib.Core.Bool.{Bool, not}
+use mathlib.Core.List.{List}
+use mathlib.Core.Option.{some}
+use lib.ListN.{length, getD}
+use lib.Dec.{T}
+use lib.Ieee.{Float, isNan}
+use Rattle.model.specs.Settings.{maxNodes, maxDepth}
+use Rattle.model.specs.Rows.{Row}
+use Rattle.model.specs.Single.{singles}
+use Rattle.model.specs.Profile.{jobOf, single}
+use Rattle.model.specs.Job.{Offer, Job}
+use Rattle.model.specs.Grow.{State, noEntry}
+use Rattle.model.proofs.Invariant.{Invariant}
+use Rattle.model.proofs.Health.{Healthy}
+use Rattle.model.proofs.Growing.{Sized}
+use Rattle.model.proofs.SingleLawful.{single-lawful}
+use Rattle.checks.specs.Given.{settingsOf}
+use Rattle.checks.specs.declared.Settings.{Settings}
+use Rattle.layout.specs.Tree.{NodeLists, holding, HasRoom}
+use Rattle.layout.specs.Waiting.{QueueLists, Queued, QueueRoom, queueOf, firstBest}
+use Rattle.rows.specs.Flat.{Flat, heldIn, rowCount, SameSize}
+use Rattle.leaf.specs.Fitting.{usesOf, Fitting}
+use Rattle.grow.specs.declared.Grown.{Grown}
+
+-- the job of these settings, logarithms and rows
+abbrev pub jobIn : Settings → List Float → Flat → Job singles
+jobIn s logs x = jobOf single (settingsOf s) logs (usesOf s x)
+
+-- no NaN: the growth term then is none either, and can be added in double
+abbrev pub Number : Float → Type 0
+Number c = T (not (isNan c))
+
+-- The lists hold the state `st`, over what was `lent`, and there is room for `more` splits. What waits is looked at only if there are more splits to make
+pub record Grows (s : Settings) (logs : List Float) (counts : List ℕ) (x : Flat) (lists : NodeLists) (q : QueueLists)
+    (waiting count : ℕ) (bits : Float) (more : ℕ)
+    (lent : NodeLists) (st : State singles) (seeds : ℕ → Bool) (given : List Row) : Type 0 where
+  pub fitting : Fitting s logs counts x
+  pub rows : heldIn x ≡ st .rows
+  pub nodes : lists ≡ holding (st .tree) lent
+  pub room : HasRoom (length (st .tree) + 2 * more) lent
+  pub few : length (st .tree) + 2 * more ≤ maxNodes
+  pub queued : 0 < more → Queued waiting q (queueOf (st .tree))
+  pub queue-room : QueueRoom (waiting + more) q
+  pub counted : count ≡ length (st .tree)
+  pub summed : bits ≡ st .bits
+  pub inv : Invariant (usesOf s x) seeds given st
+  pub healthy : Healthy (single-lawful .bounds) seeds given st
+  pub sized : Sized Number (rowCount x) st
+  pub shallow : (k : ℕ) → k < length (st .tree) → (o : Offer singles)
+      → getD (st .tree) k noEntry .offer ≡ some o → getD (st .tree) k noEntry .depth < maxDepth
+
+-- there is such a state
+pub record Growable (s : Settings) (logs : List Float) (counts : List ℕ) (x : Flat) (lists : NodeLists) (q : QueueLists)
+    (waiting count : ℕ) (bits : Float) (more : ℕ) : Type 0 where
+  pub lent : NodeLists
+  pub state : State singles
+  pub seeds : ℕ → Bool
+  pub given : List Row
+  pub grows : Grows s logs counts x lists q waiting count bits more lent state seeds given
+
+-- place k of the queue has the greatest gain, and there is one more split to make
+pub record Splits (s : Settings) (logs : List Float) (counts : List ℕ) (x : Flat) (lists : NodeLists) (q : QueueLists)
+    (waiting count : ℕ) (bits : Float) (left k : ℕ) : Type 0 where
+  pub growable : Growable s logs counts x lists q waiting count bits left
+  pub one-more : 0 < left
+  pub some-wait : 0 < waiting
+  pub best : k ≡ firstBest (q .gains) waiting
+
+-- what the lists hold at exit
+pub record GrownTo (s : Settings) (logs : List Float) (counts : List ℕ) (x y : Flat) (lists : NodeLists) (r : Grown)
+    (lent : NodeLists) (st : State singles) : Type 0 where
+  pub rows : heldIn y ≡ st .rows
+  pub size : SameSize x y
+  pub nodes : lists ≡ holding (st .tree) lent
+  pub counted : r .nodes ≡ length (st .tree)
+  pub summed : r .bits ≡ st .bits
+  pub fitting : Fitting s logs counts y

@@ -1,0 +1,337 @@
+// Growth: the waiting leaf with the greatest gain is split, again and again, until so many splits are made or no leaf waits.
+// The Rust's `grow_tree` without its threads and speculation.
+ghost use mathlib.Core.Path.{_≡_};
+ghost use mathlib.Core.Bool.{Bool};
+ghost use mathlib.Core.List.{List, _++_};
+ghost use Prim.Native.Nat.{ℕ, _+_, _-_, _*_, _<_, _≤_};
+ghost use lib.ListN.{length, getD};
+ghost use lib.Ieee.{binary32, add, sub};
+ghost use Rattle.model.specs.Settings.{maxRows, maxNodes};
+ghost use Rattle.model.specs.Rows.{Row};
+ghost use Rattle.model.specs.Single.{singles};
+ghost use Rattle.model.specs.Lent.{Waiting};
+ghost use Rattle.model.specs.Grow.{State, grownBits, step, steps};
+ghost use Rattle.layout.specs.Tree.{NodeLists, nodeLists, HasRoom};
+ghost use Rattle.layout.specs.Values.{offerIs};
+ghost use Rattle.layout.specs.Waiting.{queueLists, Queued, QueueRoom, SameQueue, without, waits};
+ghost use Rattle.rows.specs.Cells.{span};
+ghost use Rattle.rows.specs.Flat.{flat};
+ghost use Rattle.grow.specs.Parts.{PendingAt, RowsFit, RowsSplit, splitNodes};
+ghost use Rattle.grow.specs.Grows.{jobIn, Number, Grows, Growable, Splits, GrownTo};
+use checks::Settings;
+use layout::Leaf;
+use layout::NodeInfo;
+use layout::Offer;
+
+// ---- one split, part by part
+
+// The two leaves that a leaf's rows are split into; the rows of le begin at `at`.
+struct Sides {
+    at: usize,
+    gt: Leaf,
+    le: Leaf,
+}
+
+// Rows above the threshold go first, and both parts take their own mode. Splits of the new leaves are scored only if asked for.
+fn split_rows(
+    props: &mut [i32],
+    tok: &mut [u8],
+    res: &mut [i32],
+    counts: &mut [u32],
+    logs: &[f32],
+    s: Settings,
+    first: usize,
+    end: usize,
+    prop: usize,
+    val: i32,
+    depth: u32,
+    scored: bool,
+) -> Sides
+    requires { ⌜ RowsFit s (now logs) (now counts) prop (span first end) (flat (now props) (now tok) (now res)) ⌝ }
+    ensures { λ r. ⌜ RowsSplit scored s (now (logs .entry)) (now (counts .entry)) depth prop val (span first end)
+        (flat (now (props .entry)) (now (tok .entry)) (now (res .entry)))
+        (flat (now (props .exit)) (now (tok .exit)) (now (res .exit))) r ⌝ }
+    ensures { λ _. ⌜ now (counts .exit) ≡ now (counts .entry) ⌝ }
+{
+    let at = rows::partition(props, tok, res, first, end, prop, val);
+    let gt = leaf::make_leaf(props, tok, res, first, at, depth, scored, s, logs, counts);
+    let le = leaf::make_leaf(props, tok, res, at, end, depth, scored, s, logs, counts);
+    Sides { at, gt, le }
+}
+
+// Node i becomes a split, and its leaves gt and le are appended.
+fn split_nodes(
+    words: &mut [u32],
+    values: &mut [i32],
+    costs: &mut [f32],
+    spans: &mut [u32],
+    i: usize,
+    count: usize,
+    prop: u32,
+    val: i32,
+    first: usize,
+    at: usize,
+    end: usize,
+    gt: NodeInfo,
+    le: NodeInfo,
+)
+    requires { ⌜ HasRoom (count + 2) (nodeLists (now words) (now values) (now costs) (now spans)) ⌝ }
+    requires { ⌜ (i < count) × (count + 2 ≤ maxNodes) × (first ≤ maxRows) × (at ≤ maxRows) × (end ≤ maxRows) ⌝ }
+    ensures { λ _. ⌜ nodeLists (now (words .exit)) (now (values .exit)) (now (costs .exit)) (now (spans .exit))
+        ≡ splitNodes i prop val count gt le first at end
+        (nodeLists (now (words .entry)) (now (values .entry)) (now (costs .entry)) (now (spans .entry))) ⌝ }
+{
+    nodes::put_split(words, values, i, prop, val, count as u32);
+    nodes::put_leaf(words, values, costs, spans, count, gt, first, at);
+    nodes::put_leaf(words, values, costs, spans, count + 1, le, at, end);
+}
+
+// The leaf at place k no longer waits, and the new leaves wait if they offer a split. Returns how many wait.
+fn requeue(
+    words: &mut [u32],
+    values: &mut [i32],
+    gains: &mut [f32],
+    waiting: usize,
+    k: usize,
+    count: usize,
+    depth: u32,
+    gt: Offer,
+    le: Offer,
+) -> usize
+    requires { ⌜ (k < waiting) × (count + 2 ≤ maxNodes) × QueueRoom (waiting + 1) (queueLists (now words) (now values) (now gains)) ⌝ }
+    ensures { λ r. ⌜ ((leaves : List (Waiting singles)) → Queued waiting (queueLists (now (words .entry)) (now (values .entry)) (now (gains .entry))) leaves
+        → Queued r (queueLists (now (words .exit)) (now (values .exit)) (now (gains .exit)))
+        (without k leaves ++ waits count depth (offerIs gt) ++ waits (count + 1) depth (offerIs le))) ⌝ }
+    ensures { λ r. ⌜ (r ≤ waiting + 1) × SameQueue (queueLists (now (words .entry)) (now (values .entry)) (now (gains .entry)))
+        (queueLists (now (words .exit)) (now (values .exit)) (now (gains .exit))) ⌝ }
+{
+    queue::unqueue(words, values, gains, waiting, k);
+    let one = queue::enqueue(words, values, gains, waiting - 1, count, depth, gt);
+    queue::enqueue(words, values, gains, one, count + 1, depth, le)
+}
+
+// Estimated bits gain gt + le - parent, formed in single, added in double.
+fn grown_bits(bits: f64, gt: f32, le: f32, parent: f32) -> f64
+    requires { ⌜ Number (sub binary32 (add binary32 gt le) parent) ⌝ }
+    ensures { λ r. ⌜ r ≡ grownBits singles bits gt le parent ⌝ }
+{
+    bits + (gt + le - parent) as f64
+}
+
+// ---- one split
+
+// A waiting leaf, and the split that it offers.
+struct Pending {
+    node: usize,
+    prop: u32,
+    val: i32,
+    depth: u32,
+}
+
+fn pending_at(words: &[u32], values: &[i32], k: usize) -> Pending
+    requires { ⌜ (k * 3 + 3 ≤ length (now words)) × (k < length (now values)) ⌝ }
+    ensures { λ r. ⌜ PendingAt (now (words .entry)) (now (values .entry)) k r ⌝ }
+{
+    let node = words[k * 3] as usize;
+    let prop = words[k * 3 + 1];
+    let depth = words[k * 3 + 2];
+    let val = values[k];
+    Pending {
+        node,
+        prop,
+        val,
+        depth,
+    }
+}
+
+// The rows of a node.
+struct Bounds {
+    first: usize,
+    end: usize,
+}
+
+fn bounds_of(spans: &[u32], i: usize) -> Bounds
+    requires { ⌜ i * 2 + 2 ≤ length (now spans) ⌝ }
+    ensures { λ r. ⌜ (r .first ≡ getD (now (spans .entry)) (i * 2) 0) × (r .end ≡ getD (now (spans .entry)) (i * 2 + 1) 0) ⌝ }
+{
+    let first = spans[i * 2] as usize;
+    let end = spans[i * 2 + 1] as usize;
+    Bounds { first, end }
+}
+
+// How many leaves wait, and the estimated bits, after a split.
+struct Step {
+    waiting: usize,
+    bits: f64,
+}
+
+// Splits the leaf that waits at place k. After the last split nothing reads what the new leaves offer, so they are not scored.
+fn split_leaf(
+    props: &mut [i32],
+    tok: &mut [u8],
+    res: &mut [i32],
+    words: &mut [u32],
+    values: &mut [i32],
+    costs: &mut [f32],
+    spans: &mut [u32],
+    queue_words: &mut [u32],
+    queue_values: &mut [i32],
+    queue_gains: &mut [f32],
+    counts: &mut [u32],
+    logs: &[f32],
+    s: Settings,
+    waiting: usize,
+    count: usize,
+    bits: f64,
+    left: usize,
+    k: usize,
+) -> Step
+    requires { ⌜ Splits s (now logs) (now counts) (flat (now props) (now tok) (now res)) (nodeLists (now words) (now values) (now costs) (now spans))
+        (queueLists (now «queue_words») (now «queue_values») (now «queue_gains»)) waiting count bits left k ⌝ }
+    ensures { λ r. ⌜ ((lent : NodeLists) (st : State singles) (seeds : ℕ → Bool) (given : List Row)
+        → Grows s (now (logs .entry)) (now (counts .entry)) (flat (now (props .entry)) (now (tok .entry)) (now (res .entry)))
+        (nodeLists (now (words .entry)) (now (values .entry)) (now (costs .entry)) (now (spans .entry)))
+        (queueLists (now («queue_words» .entry)) (now («queue_values» .entry)) (now («queue_gains» .entry))) waiting count bits left lent st seeds given
+        → Grows s (now (logs .entry)) (now (counts .entry)) (flat (now (props .exit)) (now (tok .exit)) (now (res .exit)))
+        (nodeLists (now (words .exit)) (now (values .exit)) (now (costs .exit)) (now (spans .exit)))
+        (queueLists (now («queue_words» .exit)) (now («queue_values» .exit)) (now («queue_gains» .exit))) (r .waiting) (count + 2) (r .bits) (left - 1)
+        lent (step (jobIn s (now (logs .entry)) (flat (now (props .entry)) (now (tok .entry)) (now (res .entry)))) st) seeds given) ⌝ }
+    ensures { λ _. ⌜ now (counts .exit) ≡ now (counts .entry) ⌝ }
+{
+    let p = pending_at(queue_words, queue_values, k);
+    let i = p.node;
+    let prop = p.prop;
+    let val = p.val;
+    let depth = p.depth + 1;
+    let b = bounds_of(spans, i);
+    let first = b.first;
+    let end = b.end;
+    let cost = costs[i];
+    let sides = split_rows(
+        props,
+        tok,
+        res,
+        counts,
+        logs,
+        s,
+        first,
+        end,
+        prop as usize,
+        val,
+        depth,
+        1 < left,
+    );
+    let at = sides.at;
+    let gt = sides.gt;
+    let le = sides.le;
+    let gt_info = gt.info;
+    let le_info = le.info;
+    let gt_offer = gt.offer;
+    let le_offer = le.offer;
+    split_nodes(
+        words,
+        values,
+        costs,
+        spans,
+        i,
+        count,
+        prop,
+        val,
+        first,
+        at,
+        end,
+        gt_info,
+        le_info,
+    );
+    let waiting_now = requeue(
+        queue_words,
+        queue_values,
+        queue_gains,
+        waiting,
+        k,
+        count,
+        depth,
+        gt_offer,
+        le_offer,
+    );
+    Step {
+        waiting: waiting_now,
+        bits: grown_bits(bits, gt_info.cost, le_info.cost, cost),
+    }
+}
+
+// ---- growth
+
+// How many nodes the tree has, and the estimated bits.
+pub struct Grown {
+    pub nodes: usize,
+    pub bits: f64,
+}
+
+// Makes `more` splits, or as many as there are.
+pub fn grow_tree(
+    props: &mut [i32],
+    tok: &mut [u8],
+    res: &mut [i32],
+    words: &mut [u32],
+    values: &mut [i32],
+    costs: &mut [f32],
+    spans: &mut [u32],
+    queue_words: &mut [u32],
+    queue_values: &mut [i32],
+    queue_gains: &mut [f32],
+    counts: &mut [u32],
+    logs: &[f32],
+    s: Settings,
+    waiting: usize,
+    count: usize,
+    bits: f64,
+    more: usize,
+) -> Grown
+    requires { ⌜ Growable s (now logs) (now counts) (flat (now props) (now tok) (now res)) (nodeLists (now words) (now values) (now costs) (now spans))
+        (queueLists (now «queue_words») (now «queue_values») (now «queue_gains»)) waiting count bits more ⌝ }
+    ensures { λ r. ⌜ ((lent : NodeLists) (st : State singles) (seeds : ℕ → Bool) (given : List Row)
+        → Grows s (now (logs .entry)) (now (counts .entry)) (flat (now (props .entry)) (now (tok .entry)) (now (res .entry)))
+        (nodeLists (now (words .entry)) (now (values .entry)) (now (costs .entry)) (now (spans .entry)))
+        (queueLists (now («queue_words» .entry)) (now («queue_values» .entry)) (now («queue_gains» .entry))) waiting count bits more lent st seeds given
+        → GrownTo s (now (logs .entry)) (now (counts .entry)) (flat (now (props .entry)) (now (tok .entry)) (now (res .entry)))
+        (flat (now (props .exit)) (now (tok .exit)) (now (res .exit)))
+        (nodeLists (now (words .exit)) (now (values .exit)) (now (costs .exit)) (now (spans .exit))) r
+        lent (steps (jobIn s (now (logs .entry)) (flat (now (props .entry)) (now (tok .entry)) (now (res .entry)))) more st)) ⌝ }
+    ensures { λ _. ⌜ now (counts .exit) ≡ now (counts .entry) ⌝ }
+    ensures { λ _. ⌜ SameQueue (queueLists (now («queue_words» .entry)) (now («queue_values» .entry)) (now («queue_gains» .entry)))
+        (queueLists (now («queue_words» .exit)) (now («queue_values» .exit)) (now («queue_gains» .exit))) ⌝ }
+{
+    let mut waiting = waiting;
+    let mut count = count;
+    let mut bits = bits;
+    let mut left = more;
+    while (0 < left) & (0 < waiting) {
+        let k = queue::greatest(queue_gains, waiting);
+        let next = split_leaf(
+            props,
+            tok,
+            res,
+            words,
+            values,
+            costs,
+            spans,
+            queue_words,
+            queue_values,
+            queue_gains,
+            counts,
+            logs,
+            s,
+            waiting,
+            count,
+            bits,
+            left,
+            k,
+        );
+        waiting = next.waiting;
+        bits = next.bits;
+        count += 2;
+        left -= 1;
+    }
+    Grown { nodes: count, bits }
+}

@@ -1,0 +1,96 @@
+-- How four flat lists hold a tree that grows, with what stands beside its nodes and its spans: five words, two values, a cost and two rows a node, written
+-- over what was lent. What a leaf offers and its depth stand in the queue alone. Assumes nothing.
+use Prim.Native.Nat.{ℕ, _+_, _*_, _≤_}
+use mathlib.Core.List.{List, [], _∷_, _++_}
+use mathlib.Core.Option.{none}
+use lib.ListN.{length, set}
+use lib.IntN.{ℤ, pos}
+use lib.Ieee.{Float}
+use lib.Seq.{paste}
+use Rattle.model.specs.Lists.{writtenOver}
+use Rattle.model.specs.Single.{singles}
+use Rattle.model.specs.Tree.{Node, split, leaf}
+use Rattle.model.specs.Grow.{Entry}
+use Rattle.layout.specs.Layout.{wordsPerNode, valuesPerNode}
+use Rattle.layout.specs.Values.{infoIs}
+use Rattle.layout.specs.declared.NodeInfo.{NodeInfo}
+
+abbrev pub rowsPerSpan : ℕ
+rowsPerSpan = 2
+
+-- one part of each entry, end to end
+abbrev pub laid : {E A : Type 0} → (E → List A) → List E → List A
+laid part [] = []
+laid part (e ∷ es) = part e ++ laid part es
+
+-- a node's words: kind, property, gt, le and predictor; fields a leaf has no use for hold 0
+abbrev pub nodeWords : Node → ℕ → List ℕ
+nodeWords (split prop val gt le) pred = 1 ∷ prop ∷ gt ∷ le ∷ pred ∷ []
+nodeWords leaf pred = 0 ∷ 0 ∷ 0 ∷ 0 ∷ pred ∷ []
+
+-- its threshold
+abbrev pub nodeVal : Node → ℤ
+nodeVal (split prop val gt le) = val
+nodeVal leaf = pos 0
+
+abbrev pub entryWords : Entry singles → List ℕ
+entryWords e = nodeWords (e .node) (e .info .pred)
+
+abbrev pub entryValues : Entry singles → List ℤ
+entryValues e = nodeVal (e .node) ∷ e .info .offset ∷ []
+
+abbrev pub entryCosts : Entry singles → List Float
+entryCosts e = e .info .cost ∷ []
+
+abbrev pub entrySpans : Entry singles → List ℕ
+entrySpans e = e .span .first ∷ e .span .end ∷ []
+
+-- the four lists
+pub record NodeLists : Type 0 where
+  pub words : List ℕ
+  pub values : List ℤ
+  pub costs : List Float
+  pub spans : List ℕ
+
+abbrev pub nodeLists : List ℕ → List ℤ → List Float → List ℕ → NodeLists
+nodeLists words values costs spans = record { words = words; values = values; costs = costs; spans = spans }
+
+-- lists that hold the tree, over those lent
+unfoldable pub holding : List (Entry singles) → NodeLists → NodeLists
+holding tree lent =
+    record {
+      words = writtenOver (laid entryWords tree) (lent .words);
+      values = writtenOver (laid entryValues tree) (lent .values);
+      costs = writtenOver (laid entryCosts tree) (lent .costs);
+      spans = writtenOver (laid entrySpans tree) (lent .spans);
+    }
+
+-- there is room for n nodes
+pub record HasRoom (n : ℕ) (x : NodeLists) : Type 0 where
+  pub words : n * wordsPerNode ≤ length (x .words)
+  pub values : n * valuesPerNode ≤ length (x .values)
+  pub costs : n ≤ length (x .costs)
+  pub spans : n * rowsPerSpan ≤ length (x .spans)
+
+-- the lists with entry i written, as the code writes it
+unfoldable pub put : ℕ → Entry singles → NodeLists → NodeLists
+put i e x =
+    record {
+      words = paste (x .words) (i * wordsPerNode) (entryWords e) wordsPerNode;
+      values = paste (x .values) (i * valuesPerNode) (entryValues e) valuesPerNode;
+      costs = paste (x .costs) i (entryCosts e) 1;
+      spans = paste (x .spans) (i * rowsPerSpan) (entrySpans e) rowsPerSpan;
+    }
+
+-- a leaf as the node lists have it: what stands beside it and its span
+abbrev pub leafWith : NodeInfo → ℕ → ℕ → Entry singles
+leafWith i first end = record { node = leaf; info = infoIs i; span = record { first = first; end = end }; depth = 0; offer = none }
+
+-- a split's first words: kind, property and its children, which stand side by side
+abbrev pub splitWords : ℕ → ℕ → List ℕ
+splitWords prop gt = 1 ∷ prop ∷ gt ∷ (gt + 1) ∷ []
+
+-- the lists with node i made a split: what stands beside it and its span stay
+abbrev pub putSplit : ℕ → ℕ → ℤ → ℕ → NodeLists → NodeLists
+putSplit i prop val gt x =
+    nodeLists (paste (x .words) (i * wordsPerNode) (splitWords prop gt) 4) (set (x .values) (i * valuesPerNode) val) (x .costs) (x .spans)

@@ -1,0 +1,105 @@
+-- What the checks ensure: lists that fit, with room for a tree of so many leaves. Assumes nothing.
+use mathlib.Core.Path.{_≡_, refl, sym, ap, _∙_, subst}
+use mathlib.Core.Logic.{inl, inr}
+use mathlib.Core.Bool.{Bool, true, false}
+use mathlib.Core.List.{List, [], _∷_}
+use Prim.Native.Nat.{ℕ, zero, suc, _-_, _*_, _<_}
+use native.Mathlib.Omega.{arith}
+use lib.Dec.{T}
+use lib.IntN.{pos}
+use lib.ListN.{length, getD, replicate, length-replicate}
+use lib.Ieee.{Float, fin, nan}
+use Rattle.model.specs.Single.{singles}
+use Rattle.model.specs.Profile.{isBetween}
+use Rattle.model.specs.Cost.{logOf}
+use Rattle.model.proofs.SingleLawful.{single-lawful}
+use Rattle.checks.specs.Given.{settingsOf}
+use Rattle.checks.specs.declared.Settings.{Settings}
+use Rattle.checks.proofs.Passed.{Accepted}
+use Rattle.layout.specs.Tree.{NodeLists}
+use Rattle.layout.specs.Waiting.{QueueLists, QueueRoom}
+use Rattle.rows.specs.Flat.{Flat, rowCount, Shaped, flatOf, hasResiduals}
+use Rattle.rows.proofs.Whole.{flat-changed}
+use Rattle.model.specs.Rows.{Row}
+use Rattle.model.specs.Learn.{Result}
+use Rattle.model.specs.Operations.{Outcome, accepted, Tree, treeOf}
+use Rattle.rows.proofs.Cells.{length-range}
+use Rattle.lent.specs.Lists.{Lists, lists, lentIn, storedQueue, waitingAt, leavesLent, clearQueue, listsAfter}
+use Rattle.lent.proofs.Read.{room-read}
+use Rattle.leaf.specs.Fitting.{usesOf, Fitting}
+use Rattle.finish.specs.Finished.{FinishedTo}
+use Rattle.finish.specs.declared.Finished.{Finished}
+use Rattle.learn.specs.Learns.{Plantable, Flattened}
+
+-- inside a list it is all the same what stands past its end
+default : {A : Type 0} (l : List A) (i : ℕ) (d e : A) → i < length l → getD l i d ≡ getD l i e
+default [] i d e h = absurd (omega arith)
+default (x ∷ l) zero d e h = refl
+default (x ∷ l) (suc i) d e h = default l i d e (omega arith)
+
+yes-true : {b : Bool} → b ≡ true → T b
+yes-true e = subst T (sym e) tt
+
+module _ {s : Settings} {logs : List Float} (x : Lists) {rows : ℕ} (a : Accepted s logs (lentIn x) rows) (counts : List ℕ) (cleared : counts ≡ replicate (length (x .counts)) 0) where
+  long : length counts ≡ length (x .counts)
+  long = ap length cleared ∙ length-replicate (length (x .counts)) 0
+
+  pub accepted-fitting : Fitting s logs counts (x .rows)
+  unfolding logOf
+  accepted-fitting =
+      let p = a .model in
+      let count = a .row-count in
+      record {
+        settings = p .settings;
+        some = p .predictor;
+        shaped = record {
+          props = omega (arith, p .lists .props);
+          toks = omega (arith, p .lists .toks);
+          res = λ h. elim (p .lists .res) [ inl z ↦ absurd (omega arith) | inr z ↦ z ];
+        };
+        few = p .lists .rows;
+        below = a .tokens;
+        modal = λ e. p .modal (yes-true e);
+        logs-reach = record {
+          long = p .logs-enough;
+          fit = λ c some h. subst (λ (v : Float). T (isBetween (fin false 0 (pos 0)) (fin false 1 (pos 5)) v)) (default logs c nan (singles .nought) (omega (arith, p .logs-enough))) (a .log-fits c some (omega arith));
+        };
+        room = omega (arith, p .rooms .counts, long);
+        zeros = cleared ∙ ap (λ (n : ℕ). replicate n 0) (sym long);
+      }
+
+  queue-room : QueueRoom (s .«max_leaves») (x .queue)
+  unfolding storedQueue
+  queue-room =
+      let q = x .queue in
+      let many = length-range (waitingAt q) 0 (leavesLent (q .words) (q .values) (q .gains)) in
+      let room = a .model .rooms .queue in
+      record { words = omega arith; values = omega arith; gains = omega arith }
+
+  pub accepted-plantable : Plantable s logs counts (x .rows) (x .nodes) (x .queue) rows
+  accepted-plantable =
+      let p = a .model in
+      record {
+        fitting = accepted-fitting;
+        lawful = single-lawful .fits (settingsOf s) logs (usesOf s (x .rows)) (rowCount (x .rows)) (p .settings .price) (p .settings .alphabet .1) (p .lists .rows) (p .logs-enough) (p .logs-fit);
+        logs-small = λ c some h. a .logs-small c some (omega (arith, a .row-count));
+        counted = a .row-count;
+        room = room-read x (2 * s .«max_leaves» - 1) (p .rooms .nodes) (p .rooms .spans);
+        queue-room = queue-room;
+      }
+
+  pub accepted-flattened : Flattened s logs counts (x .rows .props) (x .rows .toks) rows
+  accepted-flattened = record { res = x .rows .res; fitting = accepted-fitting; counted = a .row-count }
+
+-- what was finished, list by list
+pub made-lists : (x : Lists) (made : Result singles) (y : Flat) (n : NodeLists) (q : QueueLists) (counts : List ℕ) (r : Finished) → Shaped (x .rows) → FinishedTo (x .rows) y n r (x .nodes) made
+    → q ≡ clearQueue (x .queue) → counts ≡ replicate (length (x .counts)) 0 → lists y n q counts ≡ listsAfter made x
+unfolding listsAfter
+made-lists x made y n q counts r shaped f queue zeros =
+    let rows : y ≡ flatOf (hasResiduals (x .rows)) (made .rows) = flat-changed {f = λ (l : List Row). made .rows} shaped (record { rows = f .rows; size = f .size }) in
+    λ i. record { rows = rows i; nodes = f .nodes i; queue = queue i; counts = zeros i }
+
+-- and its answer
+pub made-answer : (nodes leaves : ℕ) (bits flatly : Float) (made : Result singles) → nodes ≡ made .count → leaves ≡ made .leaves → bits ≡ made .bits → flatly ≡ made .flat
+    → _≡_ {A = Outcome (Tree singles)} (accepted (record { nodes = nodes; leaves = leaves; bits = bits; flat = flatly })) (accepted (treeOf made))
+made-answer nodes leaves bits flatly made a b c d = λ i. accepted (record { nodes = a i; leaves = b i; bits = c i; flat = d i })

@@ -1,0 +1,106 @@
+use mathlib.Core.Path.{subst, sym}
+use mathlib.Core.List.{List, []}
+use Prim.Native.Nat.{ℕ, _-_}
+use native.Mathlib.Omega.{arith}
+use borrow.Author.Needs.{needs}
+use Rattle.model.specs.Learn.{rootState}
+use Rattle.model.proofs.Root.{noSeeds}
+use Rattle.layout.specs.Tree.{NodeLists, nodeLists}
+use Rattle.layout.specs.Waiting.{QueueLists, queueLists}
+use Rattle.layout.proofs.Held.{room-fewer}
+use Rattle.layout.proofs.Queue.{fewer-room}
+use Rattle.rows.specs.Flat.{Flat, flat, heldIn}
+use Rattle.grow.specs.Grows.{jobIn, Grows}
+use Rattle.learn.proofs.Planting.{none-queued, root-fits, root-number, planted}
+use Rattle.learn.proofs.plant_root.Statement.{statement}
+use Rattle.learn.proofs.plant_root.Tie as tie
+
+make-leaf-requires : tie.Need-make-leaf-requires
+make-leaf-requires c κs = root-fits (c .before .before .before .before .before .before .before .before .before .before .before .pre)
+
+-- what was asked
+module _ (c : tie.After-make-leaf) where
+  abbrev start : tie.Start
+  start = c .before .before .before .before .before .before .before .before .before .before .before .before
+
+put-leaf-requires : tie.Need-put-leaf-requires
+put-leaf-requires c κs =
+    let p = c .before .before .before .before .before .before .before .before .before .before .before .before .before .before .before .before .before .before .before .before .before .pre in
+    let limit = p .fitting .settings .limit in
+    (room-fewer (p .room) (omega arith), omega (arith, p .counted, p .fitting .few))
+
+enqueue-requires : tie.Need-enqueue-requires
+enqueue-requires c κs =
+    let p = c .before .before .before .before .before .before .before .before .before .before .before .before .before .before .before .before .before .before .before .before .before .before .before .before .before .before .before .before .before .before .before .before .pre in
+    let limit = p .fitting .settings .limit in
+    (omega arith, λ o e. fewer-room (p .queue-room) (omega arith))
+
+as-total-requires : tie.Need-as-total-requires
+as-total-requires c κs = let made = c .before .before .before .before .before .before .before .before .before .before .before .before .before .before .before .before .before .before .before .before .before .before .before .before .before .before in root-number (start made .pre) (made .make-leaf .ensures .0)
+
+same-length : tie.Need-same-length
+same-length c = search needs
+
+same-length-2 : tie.Need-same-length-2
+same-length-2 c = search needs
+
+same-length-3 : tie.Need-same-length-3
+same-length-3 c = search needs
+
+same-length-4 : tie.Need-same-length-4
+same-length-4 c = search needs
+
+same-length-5 : tie.Need-same-length-5
+same-length-5 c = search needs
+
+same-length-6 : tie.Need-same-length-6
+same-length-6 c = search needs
+
+same-length-7 : tie.Need-same-length-7
+same-length-7 c = search needs
+
+same-length-8 : tie.Need-same-length-8
+same-length-8 c = search needs
+
+same-length-9 : tie.Need-same-length-9
+same-length-9 c = search needs
+
+returns : tie.Need-returns
+returns c =
+    let made = c .before .before .before .before .before .before .before .before .before .before .before .before .before .before .before .before .before .before .before .before .before .before .before .before .before .before .before in
+    let written = c .before .before .before .before .before .before .before .before .before .before .before .before .before .before .before .before .before .put-leaf in
+    let put-in = c .before .before .before .before .before .before .enqueue in
+    let given = start made .args in
+    let x : Flat = flat (given .props .now) (given .tok .now) (given .res .now) in
+    let y : Flat = flat (given .props .now) (made .make-leaf .last .1 .0) (given .res .now) in
+    let n : NodeLists = nodeLists (given .words .now) (given .values .now) (given .costs .now) (given .spans .now) in
+    let q : QueueLists = queueLists (given .queue-words .now) (given .queue-values .now) (given .queue-gains .now) in
+    let q' : QueueLists = queueLists (put-in .last .0) (put-in .last .1 .0) (put-in .last .1 .1 .0) in
+    let counts : List ℕ = made .make-leaf .last .1 .1 .1 .1 .1 .1 .1 .1 .1 .0 in (
+      subst
+          (λ (m : NodeLists). Grows (given .s) (given .logs .now) counts y m q' (put-in .result) 1 (c .as-total .result) (given .s .«max_leaves» - 1) n
+          (rootState (jobIn (given .s) (given .logs .now) x) (heldIn x)) noSeeds (heldIn x))
+          (sym (written .ensures))
+          (planted (start made .pre) (made .make-leaf .ensures .0) q' (put-in .result) (c .as-total .result) (put-in .ensures .1 .1) (put-in .ensures .0 [] (none-queued q))
+          (put-in .ensures .1 .0) (c .as-total .ensures) counts (made .make-leaf .ensures .1)),
+      made .make-leaf .ensures .1,
+    )
+
+pub plant-root-spec : {M : Type 1} → statement M
+plant-root-spec =
+    tie.close
+    (tie.spec
+    make-leaf-requires
+    put-leaf-requires
+    enqueue-requires
+    as-total-requires
+    same-length
+    same-length-2
+    same-length-3
+    same-length-4
+    same-length-5
+    same-length-6
+    same-length-7
+    same-length-8
+    same-length-9
+    returns)

@@ -1,0 +1,305 @@
+// Learning a tree from rows in lent lists (document 01; the Rust's `learn_ma_tree_in_place`): the checks, flat bits, the root, growth, pruning and settling.
+ghost use mathlib.Core.Path.{_≡_};
+ghost use mathlib.Core.List.{List};
+ghost use Prim.Native.Nat.{_-_};
+ghost use lib.IntN.{ℤ};
+ghost use Rattle.model.specs.Flat.{flatBits};
+ghost use Rattle.model.specs.Rows.{rowsHeld};
+ghost use Rattle.model.specs.Profile.{single};
+ghost use Rattle.model.specs.Learn.{rootState};
+ghost use Rattle.model.specs.Operations.{learn, treeOf, accepted};
+ghost use Rattle.model.proofs.Root.{noSeeds};
+ghost use Rattle.checks.specs.Given.{settingsOf};
+ghost use Rattle.layout.specs.Tree.{nodeLists};
+ghost use Rattle.layout.specs.Waiting.{queueLists};
+ghost use Rattle.lent.specs.Lists.{lists, lentIn, listsAfter, learnLists, clearQueue};
+ghost use Rattle.rows.specs.Flat.{flat, heldIn};
+ghost use Rattle.learn.specs.Answer.{outcomeOf, after};
+ghost use Rattle.grow.specs.Grows.{jobIn, Number, Grows};
+ghost use Rattle.finish.specs.Finished.{FinishedTo};
+ghost use Rattle.learn.specs.Learns.{Plantable, Flattened, resultIn, Learnable};
+use checks::Check;
+use checks::Rooms;
+use checks::Settings;
+use finish::Finished;
+
+// The answer: how many nodes and leaves the tree has, its estimated bits and the flat bits; or a refusal, with the place that it names.
+pub enum Learned {
+    Grown {
+        nodes: u32,
+        leaves: u32,
+        bits: f64,
+        flat: f64,
+    },
+    Refused {
+        number: u32,
+        place: u32,
+    },
+}
+
+// The root's place in the queue, if it waits, and its cost.
+struct Planted {
+    waiting: usize,
+    bits: f64,
+}
+
+// A cost as a total: each single-precision number is one of double precision.
+fn as_total(bits: f32) -> f64
+    requires { ⌜ Number bits ⌝ }
+    ensures { λ r. ⌜ r ≡ bits ⌝ }
+{
+    bits as f64
+}
+
+// One leaf over all rows. It is scored only if a split may follow.
+fn plant_root(
+    props: &[i32],
+    tok: &mut [u8],
+    res: &[i32],
+    words: &mut [u32],
+    values: &mut [i32],
+    costs: &mut [f32],
+    spans: &mut [u32],
+    queue_words: &mut [u32],
+    queue_values: &mut [i32],
+    queue_gains: &mut [f32],
+    counts: &mut [u32],
+    logs: &[f32],
+    s: Settings,
+    rows: usize,
+) -> Planted
+    requires { ⌜ Plantable s (now logs) (now counts) (flat (now props) (now tok) (now res)) (nodeLists (now words) (now values) (now costs) (now spans))
+        (queueLists (now «queue_words») (now «queue_values») (now «queue_gains»)) rows ⌝ }
+    ensures { λ r. ⌜ Grows s (now (logs .entry)) (now (counts .exit)) (flat (now (props .entry)) (now (tok .exit)) (now (res .entry)))
+        (nodeLists (now (words .exit)) (now (values .exit)) (now (costs .exit)) (now (spans .exit)))
+        (queueLists (now («queue_words» .exit)) (now («queue_values» .exit)) (now («queue_gains» .exit))) (r .waiting) 1 (r .bits) (s .«max_leaves» - 1)
+        (nodeLists (now (words .entry)) (now (values .entry)) (now (costs .entry)) (now (spans .entry)))
+        (rootState (jobIn s (now (logs .entry)) (flat (now (props .entry)) (now (tok .entry)) (now (res .entry)))) (heldIn (flat (now (props .entry)) (now (tok .entry)) (now (res .entry)))))
+        noSeeds (heldIn (flat (now (props .entry)) (now (tok .entry)) (now (res .entry)))) ⌝ }
+    ensures { λ _. ⌜ now (counts .exit) ≡ now (counts .entry) ⌝ }
+{
+    let root = leaf::make_leaf(
+        props,
+        tok,
+        res,
+        0,
+        rows,
+        0,
+        1 < s.max_leaves,
+        s,
+        logs,
+        counts,
+    );
+    let info = root.info;
+    nodes::put_leaf(words, values, costs, spans, 0, info, 0, rows);
+    let offer = root.offer;
+    let waiting = queue::enqueue(queue_words, queue_values, queue_gains, 0, 0, 0, offer);
+    Planted {
+        waiting,
+        bits: as_total(info.cost),
+    }
+}
+
+// From the root to the finished tree.
+fn grow_from_root(
+    props: &mut [i32],
+    tok: &mut [u8],
+    res: &mut [i32],
+    words: &mut [u32],
+    values: &mut [i32],
+    costs: &mut [f32],
+    spans: &mut [u32],
+    queue_words: &mut [u32],
+    queue_values: &mut [i32],
+    queue_gains: &mut [f32],
+    counts: &mut [u32],
+    logs: &[f32],
+    s: Settings,
+    rows: usize,
+) -> Finished
+    requires { ⌜ Plantable s (now logs) (now counts) (flat (now props) (now tok) (now res)) (nodeLists (now words) (now values) (now costs) (now spans))
+        (queueLists (now «queue_words») (now «queue_values») (now «queue_gains»)) rows ⌝ }
+    ensures { λ r. ⌜ FinishedTo (flat (now (props .entry)) (now (tok .entry)) (now (res .entry))) (flat (now (props .exit)) (now (tok .exit)) (now (res .exit)))
+        (nodeLists (now (words .exit)) (now (values .exit)) (now (costs .exit)) (now (spans .exit))) r
+        (nodeLists (now (words .entry)) (now (values .entry)) (now (costs .entry)) (now (spans .entry)))
+        (resultIn s (now (logs .entry)) (flat (now (props .entry)) (now (tok .entry)) (now (res .entry)))) ⌝ }
+    ensures { λ _. ⌜ now (counts .exit) ≡ now (counts .entry) ⌝ }
+    ensures { λ _. ⌜ queueLists (now («queue_words» .exit)) (now («queue_values» .exit)) (now («queue_gains» .exit))
+        ≡ clearQueue (queueLists (now («queue_words» .entry)) (now («queue_values» .entry)) (now («queue_gains» .entry))) ⌝ }
+{
+    let root = plant_root(
+        props,
+        tok,
+        res,
+        words,
+        values,
+        costs,
+        spans,
+        queue_words,
+        queue_values,
+        queue_gains,
+        counts,
+        logs,
+        s,
+        rows,
+    );
+    let waiting = root.waiting;
+    let bits = root.bits;
+    let more = s.max_leaves as usize - 1;
+    finish::grow_and_finish(
+        props,
+        tok,
+        res,
+        words,
+        values,
+        costs,
+        spans,
+        queue_words,
+        queue_values,
+        queue_gains,
+        counts,
+        logs,
+        s,
+        waiting,
+        1,
+        bits,
+        more,
+    )
+}
+
+// Flat bits of the rows as first given. The counts are zero, before and after.
+pub fn flat_bits(
+    props: &[i32],
+    tok: &[u8],
+    counts: &mut [u32],
+    logs: &[f32],
+    s: Settings,
+    rows: usize,
+) -> f64
+    requires { ⌜ Flattened s (now logs) (now counts) (now props) (now tok) rows ⌝ }
+    ensures { λ r. ⌜ ((rs : List ℤ) → r ≡ flatBits (settingsOf s) (now (logs .entry)) (rowsHeld (now (props .entry)) (now (tok .entry)) rs)) ⌝ }
+    ensures { λ _. ⌜ now (counts .exit) ≡ now (counts .entry) ⌝ }
+{
+    let alphabet = s.alphabet as usize;
+    let wide = 56 * alphabet;
+    cost::flat_cost(
+        props,
+        tok,
+        rows,
+        alphabet,
+        s.allow_wp,
+        s.allowed_preds as u32,
+        logs,
+        &mut counts[..wide],
+    )
+}
+
+// What follows once the checks have passed.
+fn learn_rows(
+    props: &mut [i32],
+    tok: &mut [u8],
+    res: &mut [i32],
+    words: &mut [u32],
+    values: &mut [i32],
+    costs: &mut [f32],
+    spans: &mut [u32],
+    queue_words: &mut [u32],
+    queue_values: &mut [i32],
+    queue_gains: &mut [f32],
+    counts: &mut [u32],
+    logs: &[f32],
+    s: Settings,
+    rows: usize,
+) -> Learned
+    requires { ⌜ Learnable s (now logs) (lists (flat (now props) (now tok) (now res)) (nodeLists (now words) (now values) (now costs) (now spans))
+        (queueLists (now «queue_words») (now «queue_values») (now «queue_gains»)) (now counts)) rows ⌝ }
+    ensures { λ r. ⌜ outcomeOf r ≡ accepted (treeOf (resultIn s (now (logs .entry)) (flat (now (props .entry)) (now (tok .entry)) (now (res .entry))))) ⌝ }
+    ensures { λ _. ⌜ lists (flat (now (props .exit)) (now (tok .exit)) (now (res .exit)))
+        (nodeLists (now (words .exit)) (now (values .exit)) (now (costs .exit)) (now (spans .exit)))
+        (queueLists (now («queue_words» .exit)) (now («queue_values» .exit)) (now («queue_gains» .exit))) (now (counts .exit))
+        ≡ listsAfter (resultIn s (now (logs .entry)) (flat (now (props .entry)) (now (tok .entry)) (now (res .entry))))
+        (lists (flat (now (props .entry)) (now (tok .entry)) (now (res .entry)))
+        (nodeLists (now (words .entry)) (now (values .entry)) (now (costs .entry)) (now (spans .entry)))
+        (queueLists (now («queue_words» .entry)) (now («queue_values» .entry)) (now («queue_gains» .entry))) (now (counts .entry))) ⌝ }
+{
+    cost::clear(counts);
+    let flat = flat_bits(props, tok, counts, logs, s, rows);
+    let made = grow_from_root(
+        props,
+        tok,
+        res,
+        words,
+        values,
+        costs,
+        spans,
+        queue_words,
+        queue_values,
+        queue_gains,
+        counts,
+        logs,
+        s,
+        rows,
+    );
+    Learned::Grown {
+        nodes: made.nodes,
+        leaves: made.leaves,
+        bits: made.bits,
+        flat,
+    }
+}
+
+// Learns a tree from the rows. A refusal leaves every list as it was.
+pub fn learn_ma_tree_in_place(
+    props: &mut [i32],
+    tok: &mut [u8],
+    res: &mut [i32],
+    words: &mut [u32],
+    values: &mut [i32],
+    costs: &mut [f32],
+    spans: &mut [u32],
+    queue_words: &mut [u32],
+    queue_values: &mut [i32],
+    queue_gains: &mut [f32],
+    counts: &mut [u32],
+    logs: &[f32],
+    s: Settings,
+) -> Learned
+    ensures { λ r. ⌜ after r (lists (flat (now (props .exit)) (now (tok .exit)) (now (res .exit)))
+        (nodeLists (now (words .exit)) (now (values .exit)) (now (costs .exit)) (now (spans .exit)))
+        (queueLists (now («queue_words» .exit)) (now («queue_values» .exit)) (now («queue_gains» .exit))) (now (counts .exit)))
+        ≡ learnLists (settingsOf s) (now (logs .entry)) (lists (flat (now (props .entry)) (now (tok .entry)) (now (res .entry)))
+        (nodeLists (now (words .entry)) (now (values .entry)) (now (costs .entry)) (now (spans .entry)))
+        (queueLists (now («queue_words» .entry)) (now («queue_values» .entry)) (now («queue_gains» .entry))) (now (counts .entry))) ⌝ }
+    ensures { λ r. ⌜ after r (lentIn (lists (flat (now (props .exit)) (now (tok .exit)) (now (res .exit)))
+        (nodeLists (now (words .exit)) (now (values .exit)) (now (costs .exit)) (now (spans .exit)))
+        (queueLists (now («queue_words» .exit)) (now («queue_values» .exit)) (now («queue_gains» .exit))) (now (counts .exit))))
+        ≡ learn single (settingsOf s) (now (logs .entry)) (lentIn (lists (flat (now (props .entry)) (now (tok .entry)) (now (res .entry)))
+        (nodeLists (now (words .entry)) (now (values .entry)) (now (costs .entry)) (now (spans .entry)))
+        (queueLists (now («queue_words» .entry)) (now («queue_values» .entry)) (now («queue_gains» .entry))) (now (counts .entry)))) ⌝ }
+{
+    let rooms = Rooms {
+        nodes: lent::node_room(words, values, costs),
+        spans: spans.len() / 2,
+        queue: lent::queue_room(queue_words, queue_values, queue_gains),
+        counts: counts.len(),
+    };
+    match checks::check_learn(s, props, tok, res, logs, rooms) {
+        Check::Refused { number, place } => Learned::Refused { number, place },
+        Check::Pass(rows) => learn_rows(
+            props,
+            tok,
+            res,
+            words,
+            values,
+            costs,
+            spans,
+            queue_words,
+            queue_values,
+            queue_gains,
+            counts,
+            logs,
+            s,
+            rows,
+        ),
+    }
+}

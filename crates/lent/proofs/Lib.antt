@@ -1,0 +1,2 @@
+-- `Read`: what the model reads in the lists after acceptance.
+pub mod Read

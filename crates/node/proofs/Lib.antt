@@ -1,0 +1,9 @@
+pub mod Orders
+pub mod SpanColumns
+pub mod Planned
+pub mod Folds
+pub mod Rooms
+pub mod Turns
+pub mod Calls
+pub mod Sides
+pub mod Nodes

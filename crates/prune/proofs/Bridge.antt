@@ -1,0 +1,335 @@
+-- The passes over lists that hold a tree are the model's pruning of it. Assumes nothing.
+use mathlib.Core.Path.{_≡_, refl, sym, ap, _∙_, subst}
+use mathlib.Core.Logic.{inl, inr}
+use Prim.Native.Nat.{ℕ, _+_, _-_, _*_, _≤_, _<_}
+use native.Mathlib.Nat.{add-zero}
+use native.Mathlib.Omega.{arith}
+use mathlib.Core.Bool.{Bool, true, false, cond, not, true≢false}
+use mathlib.Core.List.{List, [], _∷_, List·Memᴰ}
+use lib.ListN.{length, getD, length-map, List·getD-map}
+use lib.IntN.{ℤ, pos}
+use lib.Dec.{T, eqb}
+use lib.Ieee.{Float, nan}
+use Rattle.model.specs.Single.{singles}
+use Rattle.model.specs.Tree.{Node, split, leaf, isLeaf}
+use Rattle.model.specs.Grow.{Entry, noEntry, treeNodes}
+use Rattle.model.specs.Prune.{preorder, placeOf, renumbered, moved, prunedNodes, prunedTree}
+use Rattle.model.proofs.Paths.{Forward}
+use Rattle.model.proofs.Family.{ChildOf, Child, Twins, Family}
+use Rattle.model.proofs.Preorder.{place-at, mem-getD}
+use Rattle.model.proofs.Folding.{Folded, folds, length-pruned}
+use Rattle.model.proofs.Pruned.{closed, length-kept, entry-kept, order-short, old-number}
+use Rattle.layout.specs.Layout.{kindAt, propAt, gtAt, leAt, predAt, valAt}
+use Rattle.layout.specs.Tree.{NodeLists, holding, HasRoom, entryWords, entryValues, entryCosts, entrySpans, nodeWords, nodeVal}
+use Rattle.prune.specs.Prices.{AllPriceable, ShowsTree, PricedAs}
+use Rattle.prune.specs.Order.{ShownAs, ShowsNodes, Walkable, Ordered}
+use Rattle.prune.specs.Moves.{wordCells, valueCells, costCells, spanCells, compactedLists, AllMovable}
+use Rattle.prune.specs.Held.{HoldsTree, prunedEntries}
+use Rattle.prune.proofs.Held.{held-length, held-read, held-compacted}
+
+pub words-wide : (e : Entry singles) → length (entryWords e) ≡ 5
+words-wide e = go (e .node)
+  where
+    go : (m : Node) → length (nodeWords m (e .info .pred)) ≡ 5
+    go (split p v g l) = refl
+    go leaf = refl
+
+-- a node's last word is its predictor
+pred-word : (m : Node) (pred : ℕ) → getD (nodeWords m pred) 4 0 ≡ pred
+pred-word (split p v g l) pred = refl
+pred-word leaf pred = refl
+
+module _ {x : NodeLists} {count : ℕ} {price : Float} {tree : List (Entry singles)} {lent : NodeLists} (h : HoldsTree x count price tree lent) where
+  abbrev entry : ℕ → Entry singles
+  entry i = getD tree i noEntry
+
+  -- ---- what the lists show
+  many : length (treeNodes tree) ≡ count
+  many = length-map tree (λ (e : Entry singles). e .node) ∙ sym (h .many)
+
+  word : (i j : ℕ) → i < count → j < 5 → getD (x .words) (i * 5 + j) 0 ≡ getD (entryWords (entry i)) j 0
+  unfolding holding
+  word i j a b = held-read entryWords 5 words-wide tree (lent .words) (x .words) (ap (λ (y : NodeLists). y .words) (h .lists)) (h .room .words) i j 0
+      (omega (arith, h .many)) b
+
+  value : (i j : ℕ) → i < count → j < 2 → getD (x .values) (i * 2 + j) (pos 0) ≡ getD (entryValues (entry i)) j (pos 0)
+  unfolding holding
+  value i j a b = held-read entryValues 2 (λ e. refl) tree (lent .values) (x .values) (ap (λ (y : NodeLists). y .values) (h .lists)) (h .room .values) i j
+      (pos 0) (omega (arith, h .many)) b
+
+  span : (i j : ℕ) → i < count → j < 2 → getD (x .spans) (i * 2 + j) 0 ≡ getD (entrySpans (entry i)) j 0
+  unfolding holding
+  span i j a b = held-read entrySpans 2 (λ e. refl) tree (lent .spans) (x .spans) (ap (λ (y : NodeLists). y .spans) (h .lists)) (h .room .spans) i j 0
+      (omega (arith, h .many)) b
+
+  cost : (i : ℕ) → i < count → getD (x .costs) i nan ≡ entry i .info .cost
+  unfolding holding
+  cost i a = let z : i * 1 + 0 ≡ i = omega arith in let b : length tree * 1 ≤ length (lent .costs) = omega (arith, h .room .costs) in
+      ap (λ (k : ℕ). getD (x .costs) k nan) (sym z)
+      ∙ held-read entryCosts 1 (λ e. refl) tree (lent .costs) (x .costs) (ap (λ (y : NodeLists). y .costs) (h .lists)) b i 0 nan (omega (arith, h .many))
+      (omega arith)
+
+  room : HasRoom count x
+  unfolding holding
+  room = record {
+    words = omega (
+      arith,
+      h .many,
+      h .room .words,
+      held-length entryWords 5 words-wide tree (lent .words) (x .words)
+          (ap (λ (y : NodeLists). y .words) (h .lists)) (h .room .words),
+    );
+    values = omega (
+      arith,
+      h .many,
+      h .room .values,
+      held-length entryValues 2 (λ e. refl) tree (lent .values) (x .values)
+          (ap (λ (y : NodeLists). y .values) (h .lists)) (h .room .values),
+    );
+    costs = let b : length tree * 1 ≤ length (lent .costs) = omega (arith, h .room .costs) in
+        omega (arith, h .many, b, held-length entryCosts 1 (λ e. refl) tree (lent .costs) (x .costs) (ap (λ (y : NodeLists). y .costs) (h .lists)) b);
+    spans = omega (
+      arith,
+      h .many,
+      h .room .spans,
+      held-length entrySpans 2 (λ e. refl) tree (lent .spans) (x .spans)
+          (ap (λ (y : NodeLists). y .spans) (h .lists)) (h .room .spans),
+    );
+  }
+
+  -- the words of node i, by what it is
+  words-of : (i : ℕ) → i < count → (m : Node) → entry i .node ≡ m → (j : ℕ) → j < 5
+      → getD (x .words) (i * 5 + j) 0 ≡ getD (nodeWords m (entry i .info .pred)) j 0
+  words-of i a m z j b = word i j a b ∙ ap (λ (n : Node). getD (nodeWords n (entry i .info .pred)) j 0) z
+
+  kind-of : (i : ℕ) → i < count → (m : Node) → entry i .node ≡ m → kindAt (x .words) i ≡ getD (nodeWords m (entry i .info .pred)) 0 0
+  kind-of i a m z = rw add-zero at (words-of i a m z 0 (omega arith))
+
+  node-is : (i : ℕ) → getD (treeNodes tree) i leaf ≡ entry i .node
+  node-is i = List·getD-map (λ (e : Entry singles). e .node) tree i noEntry
+
+  -- a split's children stand behind it
+  forward : (i : ℕ) → i < count → eqb (kindAt (x .words) i) 1 ≡ true → Forward count i (split 0 (pos 0) (gtAt (x .words) i) (leAt (x .words) i))
+  forward i a is = go (entry i .node) refl
+    where
+      go : (m : Node) → entry i .node ≡ m → Forward count i (split 0 (pos 0) (gtAt (x .words) i) (leAt (x .words) i))
+      go leaf z = absurd (true≢false (sym is ∙ ap (λ (k : ℕ). eqb k 1) (kind-of i a leaf z)))
+      go (split p v g l) z =
+          let f : Forward (length (treeNodes tree)) i (split p v g l) = subst (Forward (length (treeNodes tree)) i) (node-is i ∙ z)
+          (h .family .forward i (omega (arith, many))) in
+          rw (words-of i a (split p v g l) z 2 (omega arith), words-of i a (split p v g l) z 3 (omega arith), ← many) (f .0, f .1, f .2, f .3)
+
+  pub shows-tree : ShowsTree tree (x .words) (x .costs) count
+  shows-tree = record {
+    many = h .many;
+    words-are = word;
+    costs-are = cost;
+    forward = λ i a is. let f = forward i a is in (f .0, f .1);
+  }
+
+  pub all-priceable : (splits : List Bool) → count ≤ length splits → AllPriceable (x .words) (x .values) (x .costs) count price splits
+  all-priceable splits there = record {
+    some = h .some;
+    few = h .few;
+    words-there = room .words;
+    values-there = room .values;
+    costs-there = room .costs;
+    splits-there = there;
+    numbers = λ i a. rw (cost i a) (h .numbers i a);
+    price-number = h .price-number;
+    children = λ i a is. let f = forward i a is in (f .2, f .3);
+  }
+
+  -- ---- the nodes once they are priced
+  abbrev pn : List Node
+  pn = prunedNodes {M = singles} price tree
+
+  length-pn : length pn ≡ count
+  length-pn = length-pruned price tree ∙ many
+
+  folded : (i : ℕ) → Folded (entry i .node) (getD pn i leaf)
+  folded i = rw (node-is i) at (folds {M = singles} price tree i)
+
+  -- a split that is kept is the old one
+  kept-split : (i p : ℕ) (v : ℤ) (g l : ℕ) → getD pn i leaf ≡ split p v g l → entry i .node ≡ split p v g l
+  kept-split i p v g l z = go (folded i)
+    where
+      go : Folded (entry i .node) (getD pn i leaf) → entry i .node ≡ split p v g l
+      go (inl e) = sym e ∙ z
+      go (inr t) = absurd (subst (λ (m : Node). T (isLeaf m)) z t)
+
+  child-old : (a c : ℕ) → Child pn a c → Child (treeNodes tree) a c
+  child-old a c k = go (getD pn a leaf) refl k
+    where
+      go : (m : Node) → getD pn a leaf ≡ m → ChildOf m c → Child (treeNodes tree) a c
+      go leaf z k = absurd k
+      go (split p v g l) z k = rw (node-is a, kept-split a p v g l z) k
+
+  pn-family : Family pn
+  pn-family = record {
+    forward = λ i a. forwards i (rw length-pn at a) (getD pn i leaf) refl;
+    one-parent = λ a b c k m. h .family .one-parent a b c (child-old a c k) (child-old b c m);
+    two-children = λ a. twins a (getD pn a leaf) refl;
+  }
+    where
+      forwards : (i : ℕ) → i < count → (m : Node) → getD pn i leaf ≡ m → Forward (length pn) i (getD pn i leaf)
+      forwards i a leaf z = rw z tt
+      forwards i a (split p v g l) z = rw (z, length-pn, ← many)
+          (subst (Forward (length (treeNodes tree)) i) (node-is i ∙ kept-split i p v g l z) (h .family .forward i (omega (arith, many))))
+
+      twins : (a : ℕ) (m : Node) → getD pn a leaf ≡ m → Twins (getD pn a leaf)
+      twins a leaf z = rw z tt
+      twins a (split p v g l) z = rw z (subst Twins (node-is a ∙ kept-split a p v g l z) (h .family .two-children a))
+
+  module _ {bits : Float} {splits : List Bool} (is : PricedAs price tree bits splits) where
+    split-is : (i : ℕ) → i < count → getD splits i false ≡ not (isLeaf (getD pn i leaf))
+    split-is i a = is .splits-are i (omega (arith, h .many))
+
+    pub shows-nodes : ShowsNodes pn (x .words) splits count
+    shows-nodes = record {
+      many = sym length-pn;
+      shown = λ i a. go i a (getD pn i leaf) refl;
+      family = pn-family;
+    }
+      where
+        go : (i : ℕ) → i < count → (m : Node) → getD pn i leaf ≡ m → ShownAs (getD pn i leaf) (getD splits i false) (gtAt (x .words) i) (leAt (x .words) i)
+        go i a leaf z = rw (split-is i a, z) refl
+        go i a (split p v g l) z =
+            let w = kept-split i p v g l z in
+            rw (split-is i a, z) (refl, words-of i a (split p v g l) w 2 (omega arith), words-of i a (split p v g l) w 3 (omega arith))
+
+    pub walkable : (order places : List ℕ) → count ≤ length splits → count ≤ length order → count ≤ length places
+        → Walkable (x .words) splits count order places
+    walkable order places a b c = record {
+      nodes = pn;
+      shows = shows-nodes;
+      some = h .some;
+      few = h .few;
+      words-there = room .words;
+      splits-there = a;
+      order-there = b;
+      places-there = c;
+    }
+
+    -- ---- the nodes in their new order
+    module _ {order places : List ℕ} {found : ℕ} (done : Ordered pn order places found) where
+      abbrev preorder-of : List ℕ
+      preorder-of = preorder (length pn) pn 0
+
+      rooted : 0 < length tree
+      rooted = omega (arith, h .some, h .many)
+
+      abbrev new : List (Entry singles)
+      new = prunedTree {M = singles} price tree
+
+      pub found-is : found ≡ length new
+      found-is = done .found-all ∙ sym (length-kept price tree (h .family) rooted)
+
+      pub fewer : length new ≤ length tree
+      fewer = omega (arith, order-short {M = singles} price tree (h .family) rooted, length-kept {M = singles} price tree (h .family) rooted)
+
+      old : (q : ℕ) → q < found → getD order q 0 < count
+      old q a = rw (done .order-is q a) (omega (arith, h .many, old-number {M = singles} price tree (h .family) rooted q (omega (arith, done .found-all))))
+
+      pub movable : count ≤ length splits → count ≤ length order → count ≤ length places → AllMovable x splits order places found count
+      movable splits-there order-there places-there = record {
+        words-movable = record {
+          renumbers = record { few = omega (arith, found-is, fewer, h .many); most = h .few; order-there = omega (arith, found-is, fewer, h .many); old = old };
+          words-there = room .words;
+          splits-there = splits-there;
+          children = λ i a s. children i a s (getD pn i leaf) refl;
+        };
+        room = room;
+      }
+        where
+          children : (i : ℕ) → i < count → getD splits i false ≡ true → (m : Node) → getD pn i leaf ≡ m → (gtAt (x .words) i < length places)
+              × (leAt (x .words) i < length places)
+          children i a s leaf z = absurd (true≢false (sym s ∙ split-is i a ∙ ap (λ (m : Node). not (isLeaf m)) z))
+          children i a s (split p v g l) z =
+              let w = kept-split i p v g l z in
+              let one : kindAt (x .words) i ≡ 1 = kind-of i a (split p v g l) w in
+              let f = forward i a (rw one) in
+              (omega (arith, f .2), omega (arith, f .3))
+
+      -- entry q of the pruned tree
+      entry-new : (q : ℕ) → q < found → getD new q noEntry ≡ moved tree pn preorder-of (getD order q 0)
+      entry-new q a = rw (done .order-is q a) (entry-kept price tree (h .family) rooted q (omega (arith, done .found-all)))
+
+      -- a kept node's place in the order is its new number
+      place : (i c : ℕ) → List·Memᴰ i preorder-of → Child pn i c → getD places c 0 ≡ placeOf c preorder-of
+      place i c m k =
+          let p = place-at c preorder-of (closed {M = singles} price tree (h .family) rooted i c m k) in
+          ap (λ (e : ℕ). getD places e 0) (sym (p .1)) ∙ done .places-are (placeOf c preorder-of) (omega (arith, p .0, done .found-all))
+
+      module _ (q : ℕ) (a : q < found) where
+        abbrev i : ℕ
+        i = getD order q 0
+
+        member : List·Memᴰ i preorder-of
+        member = rw (done .order-is q a) (mem-getD preorder-of q (omega (arith, done .found-all)))
+
+        in-count : i < count
+        in-count = old q a
+
+        pred : predAt (x .words) i ≡ entry i .info .pred
+        pred = word i 4 in-count (omega arith) ∙ pred-word (entry i .node) (entry i .info .pred)
+
+        pub new-words : wordCells (x .words) splits order places q ≡ entryWords (getD new q noEntry)
+        unfolding moved
+        new-words = rw (entry-new q a, split-is i in-count) (go (getD pn i leaf) refl)
+          where
+            go : (m : Node) → getD pn i leaf ≡ m
+                → Rattle.prune.specs.Moves.wordsFrom (x .words) (not (isLeaf m)) places i ≡ nodeWords (renumbered preorder-of m) (entry i .info .pred)
+            go leaf z = rw pred
+            go (split p v g l) z =
+                let w = kept-split i p v g l z in
+                let gt : gtAt (x .words) i ≡ g = words-of i in-count (split p v g l) w 2 (omega arith) in
+                let le : leAt (x .words) i ≡ l = words-of i in-count (split p v g l) w 3 (omega arith) in
+                let prop : propAt (x .words) i ≡ p = words-of i in-count (split p v g l) w 1 (omega arith) in
+                rw (pred, gt, le, prop, place i g member (rw z (inl refl)), place i l member (rw z (inr refl)))
+
+        pub new-values : valueCells (x .values) splits order q ≡ entryValues (getD new q noEntry)
+        unfolding moved
+        new-values = rw (entry-new q a, split-is i in-count, value i 1 in-count (omega arith))
+            (ap (λ (v : ℤ). v ∷ entry i .info .offset ∷ []) (go (getD pn i leaf) refl))
+          where
+            val : valAt (x .values) i ≡ nodeVal (entry i .node)
+            val = rw add-zero at (value i 0 in-count (omega arith))
+
+            go : (m : Node) → getD pn i leaf ≡ m → cond (not (isLeaf m)) (valAt (x .values) i) (pos 0) ≡ nodeVal (renumbered preorder-of m)
+            go leaf z = refl
+            go (split p v g l) z = val ∙ ap nodeVal (kept-split i p v g l z)
+
+        pub new-costs : costCells (x .costs) order q ≡ entryCosts (getD new q noEntry)
+        unfolding moved
+        new-costs = rw (entry-new q a, cost i in-count)
+
+        pub new-spans : spanCells (x .spans) order q ≡ entrySpans (getD new q noEntry)
+        unfolding moved
+        new-spans = let first = rw add-zero at (span i 0 in-count (omega arith)) in rw (entry-new q a, first, span i 1 in-count (omega arith))
+
+      pub moved-lists : compactedLists splits order places found count x ≡ holding (prunedEntries price tree) lent
+      unfolding holding
+      moved-lists = rw (found-is, h .many) (λ j. record {
+        words = words-are j;
+        values = values-are j;
+        costs = costs-are j;
+        spans = spans-are j;
+      })
+        where
+          words-are : compactedLists splits order places (length new) (length tree) x .words ≡ holding (prunedEntries price tree) lent .words
+          words-are = held-compacted entryWords 5 words-wide tree (lent .words) (x .words) (ap (λ (y : NodeLists). y .words) (h .lists)) (h .room .words)
+              (wordCells (x .words) splits order places) 0 new fewer refl (λ q a. new-words q (rw found-is a))
+
+          values-are : compactedLists splits order places (length new) (length tree) x .values ≡ holding (prunedEntries price tree) lent .values
+          values-are = held-compacted entryValues 2 (λ e. refl) tree (lent .values) (x .values) (ap (λ (y : NodeLists). y .values) (h .lists)) (h .room .values)
+              (valueCells (x .values) splits order) (pos 0) new fewer refl (λ q a. new-values q (rw found-is a))
+
+          costs-are : compactedLists splits order places (length new) (length tree) x .costs ≡ holding (prunedEntries price tree) lent .costs
+          costs-are = let b : length tree * 1 ≤ length (lent .costs) = omega (arith, h .room .costs) in
+              held-compacted entryCosts 1 (λ e. refl) tree (lent .costs) (x .costs) (ap (λ (y : NodeLists). y .costs) (h .lists)) b
+              (costCells (x .costs) order) (singles .nought) new fewer refl (λ q a. new-costs q (rw found-is a))
+
+          spans-are : compactedLists splits order places (length new) (length tree) x .spans ≡ holding (prunedEntries price tree) lent .spans
+          spans-are = held-compacted entrySpans 2 (λ e. refl) tree (lent .spans) (x .spans) (ap (λ (y : NodeLists). y .spans) (h .lists)) (h .room .spans)
+              (spanCells (x .spans) order) 0 new fewer refl (λ q a. new-spans q (rw found-is a))

@@ -1,0 +1,67 @@
+-- Lists that hold entries hold the first of them too, over themselves: so a pruned tree stands in the lists without the entries that it vacated.
+-- Assumes nothing.
+use mathlib.Core.Path.{_≡_, refl, sym, ap, _∙_}
+use Prim.Native.Nat.{ℕ, _-_, _*_, _≤_}
+use native.Mathlib.Omega.{arith}
+use mathlib.Core.List.{List, _++_, append-assoc}
+use lib.ListN.{length, drop, replicate, length-append}
+use lib.Seq.{drop-append-seam}
+use lib.Ieee.{Float}
+use Rattle.model.specs.Lists.{writtenOver}
+use Rattle.model.specs.Single.{singles}
+use Rattle.model.specs.Grow.{Entry, noEntry}
+use Rattle.model.specs.Prune.{prunedTree}
+use Rattle.layout.specs.Tree.{laid, NodeLists, holding, HasRoom, entryWords, entryValues, entryCosts, entrySpans}
+use Rattle.prune.specs.declared.Pruned.{Pruned}
+use Rattle.prune.specs.Held.{prunedEntries, PrunedAs}
+use Rattle.prune.proofs.Held.{laid-append, laid-length}
+use Rattle.prune.proofs.Bridge.{words-wide}
+
+module _ {A : Type 0} (part : Entry singles → List A) (w : ℕ) (wide : (e : Entry singles) → length (part e) ≡ w) (front back : List (Entry singles))
+    (lent : List A) where
+  abbrev whole : List A
+  whole = writtenOver (laid part (front ++ back)) lent
+
+  parts : whole ≡ laid part front ++ (laid part back ++ drop (length (laid part (front ++ back))) lent)
+  parts =
+      ap (λ (l : List A). l ++ drop (length (laid part (front ++ back))) lent) (laid-append part w wide front back)
+      ∙ append-assoc (laid part front) (laid part back) (drop (length (laid part (front ++ back))) lent)
+
+  first-over : whole ≡ writtenOver (laid part front) whole
+  first-over = parts ∙ ap (λ (l : List A). laid part front ++ l)
+      (sym (ap (drop (length (laid part front))) parts ∙ drop-append-seam (laid part front) (laid part back ++ drop (length (laid part (front ++ back))) lent)))
+
+  first-room : length front * w ≤ length whole
+  first-room =
+      let a = ap length parts in
+      let b = length-append (laid part front) (laid part back ++ drop (length (laid part (front ++ back))) lent) in
+      let c = laid-length part w wide front in
+      omega arith
+
+module _ (front back : List (Entry singles)) (lent : NodeLists) where
+  pub front-held : holding (front ++ back) lent ≡ holding front (holding (front ++ back) lent)
+  unfolding holding
+  front-held = λ j. record {
+    words = first-over entryWords 5 words-wide front back (lent .words) j;
+    values = first-over entryValues 2 (λ e. refl) front back (lent .values) j;
+    costs = first-over entryCosts 1 (λ e. refl) front back (lent .costs) j;
+    spans = first-over entrySpans 2 (λ e. refl) front back (lent .spans) j;
+  }
+
+  pub front-room : HasRoom (length front) (holding (front ++ back) lent)
+  unfolding holding
+  front-room = record {
+    words = first-room entryWords 5 words-wide front back (lent .words);
+    values = first-room entryValues 2 (λ e. refl) front back (lent .values);
+    costs = let a = first-room entryCosts 1 (λ e. refl) front back (lent .costs) in omega arith;
+    spans = first-room entrySpans 2 (λ e. refl) front back (lent .spans);
+  }
+
+-- what pruning leaves, as lists that hold the pruned tree alone
+pub pruned-held : {price : Float} {tree : List (Entry singles)} {lent y : NodeLists} {r : Pruned} → PrunedAs price tree lent y r
+    → (y ≡ holding (prunedTree {M = singles} price tree) (holding (prunedEntries price tree) lent))
+    × HasRoom (length (prunedTree {M = singles} price tree)) (holding (prunedEntries price tree) lent)
+pruned-held {price} {tree} {lent} p =
+    let new = prunedTree {M = singles} price tree in
+    let vacated = replicate (length tree - length new) noEntry in
+    (p .lists ∙ front-held new vacated lent, front-room new vacated lent)

@@ -1,0 +1,6 @@
+-- `Prices`: the pass from the last node back. `Order`: the walk from the root. `Moves`: the lists in the new order.
+-- `Held`: lists that hold a tree to be pruned.
+pub mod Prices
+pub mod Order
+pub mod Moves
+pub mod Held

@@ -1,0 +1,119 @@
+// The queue of waiting leaves, in the order of their node numbers: so the first of the greatest gains has the lowest number.
+ghost use mathlib.Core.Path.{_≡_};
+ghost use mathlib.Core.Bool.{cond};
+ghost use mathlib.Core.List.{List, _++_};
+ghost use Prim.Native.Nat.{_+_, _-_, _≤_, _<_};
+ghost use lib.ListN.{length};
+ghost use Rattle.model.specs.Settings.{maxNodes};
+ghost use Rattle.model.specs.Single.{singles};
+ghost use Rattle.model.specs.Lent.{Waiting};
+ghost use Rattle.layout.specs.Values.{offerIs};
+ghost use Rattle.layout.specs.Waiting.{firstBest, queueLists, Queued, QueueRoom, SameQueue, without, waits};
+ghost use Rattle.queue.specs.Moved.{moveUp};
+ghost use Rattle.queue.specs.Room.{RoomFor};
+use layout::Offer;
+
+// Of two places, and of two gains, the first if the test passes: no branch.
+fn place_if(test: bool, a: usize, b: usize) -> usize
+    ensures { λ r. ⌜ r ≡ cond test a b ⌝ }
+{
+    if test { a } else { b }
+}
+
+fn gain_if(test: bool, a: f32, b: f32) -> f32
+    ensures { λ r. ⌜ r ≡ cond test a b ⌝ }
+{
+    if test { a } else { b }
+}
+
+// The first place with the greatest gain.
+pub fn greatest(gains: &[f32], waiting: usize) -> usize
+    requires { ⌜ waiting ≤ length (now gains) ⌝ }
+    ensures { λ r. ⌜ r ≡ firstBest (now (gains .entry)) waiting ⌝ }
+{
+    if waiting == 0 {
+        return 0;
+    }
+    let mut best: usize = 0;
+    let mut top = gains[0];
+    for k in 1..waiting {
+        let gain = gains[k];
+        let ahead = top < gain;
+        best = place_if(ahead, k, best);
+        top = gain_if(ahead, gain, top);
+    }
+    best
+}
+
+// Takes w cells out at `at`, and moves the m cells behind them up.
+fn move_up_u32(l: &mut [u32], at: usize, w: usize, m: usize)
+    requires { ⌜ at + w + m ≤ length (now l) ⌝ }
+    ensures { λ _. ⌜ now (l .exit) ≡ moveUp at w m (now (l .entry)) ⌝ }
+{
+    for j in 0..m {
+        l[at + j] = l[at + j + w];
+    }
+}
+
+fn move_up_i32(l: &mut [i32], at: usize, w: usize, m: usize)
+    requires { ⌜ at + w + m ≤ length (now l) ⌝ }
+    ensures { λ _. ⌜ now (l .exit) ≡ moveUp at w m (now (l .entry)) ⌝ }
+{
+    for j in 0..m {
+        l[at + j] = l[at + j + w];
+    }
+}
+
+fn move_up_f32(l: &mut [f32], at: usize, w: usize, m: usize)
+    requires { ⌜ at + w + m ≤ length (now l) ⌝ }
+    ensures { λ _. ⌜ now (l .exit) ≡ moveUp at w m (now (l .entry)) ⌝ }
+{
+    for j in 0..m {
+        l[at + j] = l[at + j + w];
+    }
+}
+
+// Takes the leaf at place k out; those behind it keep their order.
+pub fn unqueue(words: &mut [u32], values: &mut [i32], gains: &mut [f32], waiting: usize, k: usize)
+    requires { ⌜ (k < waiting) × QueueRoom waiting (queueLists (now words) (now values) (now gains)) ⌝ }
+    ensures { λ _. ⌜ ((leaves : List (Waiting singles)) → Queued waiting (queueLists (now (words .entry)) (now (values .entry)) (now (gains .entry))) leaves
+        → Queued (waiting - 1) (queueLists (now (words .exit)) (now (values .exit)) (now (gains .exit))) (without k leaves)) ⌝ }
+    ensures { λ _. ⌜ SameQueue (queueLists (now (words .entry)) (now (values .entry)) (now (gains .entry)))
+        (queueLists (now (words .exit)) (now (values .exit)) (now (gains .exit))) ⌝ }
+{
+    let m = waiting - 1 - k;
+    move_up_u32(words, k * 3, 3, m * 3);
+    move_up_i32(values, k, 1, m);
+    move_up_f32(gains, k, 1, m);
+}
+
+// Puts a leaf behind the others, if it offers a split, and returns how many wait.
+pub fn enqueue(
+    words: &mut [u32],
+    values: &mut [i32],
+    gains: &mut [f32],
+    waiting: usize,
+    node: usize,
+    depth: u32,
+    offer: Offer,
+) -> usize
+    requires { ⌜ (node < maxNodes) × RoomFor offer waiting (queueLists (now words) (now values) (now gains)) ⌝ }
+    ensures { λ r. ⌜ ((leaves : List (Waiting singles)) → Queued waiting (queueLists (now (words .entry)) (now (values .entry)) (now (gains .entry))) leaves
+        → Queued r (queueLists (now (words .exit)) (now (values .exit)) (now (gains .exit))) (leaves ++ waits node depth (offerIs offer))) ⌝ }
+    ensures { λ r. ⌜ (r ≡ waiting + length (waits node depth (offerIs offer)))
+        × SameQueue (queueLists (now (words .entry)) (now (values .entry)) (now (gains .entry)))
+        (queueLists (now (words .exit)) (now (values .exit)) (now (gains .exit))) ⌝ }
+{
+    match offer {
+        Offer::Split { prop, val, gain } => {
+            let at = waiting * 3;
+            words[at] = node as u32;
+            words[at + 1] = prop;
+            words[at + 2] = depth;
+            values[waiting] = val;
+            gains[waiting] = gain;
+            waiting + 1
+        }
+        Offer::Nothing => waiting,
+    }
+}

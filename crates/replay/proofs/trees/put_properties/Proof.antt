@@ -1,0 +1,64 @@
+-- `replay::trees::put_properties` is safe and ends. Assumes nothing.
+use mathlib.Core.Path.{_≡_}
+use Prim.Native.Nat.{_-_}
+use lib.ListN.{length}
+use borrow.Author.Needs.{needs}
+use Rattle.replay.proofs.trees.put_properties.Statement.{statement}
+use Rattle.replay.proofs.trees.put_properties.Tie as tie
+
+abbrev Inv-loop : tie.InvT-loop
+Inv-loop props₀ b first at₀ i₀ i-end props at i = length props ≡ i-end
+
+abbrev μ-loop : tie.MeasureT-loop
+μ-loop props₀ b first at₀ i₀ i-end props at i = i-end - i
+
+loop-holds : tie.Need-loop-holds Inv-loop μ-loop
+loop-holds c = search needs
+
+word-requires : tie.Need-word-requires Inv-loop μ-loop
+word-requires c κs = search needs
+
+signed-requires : tie.Need-signed-requires Inv-loop μ-loop
+signed-requires c κs = search needs
+
+mul-t10 : tie.Need-mul-t10 Inv-loop μ-loop
+mul-t10 c = search needs
+
+slice-set-from-props : tie.Need-slice-set-from-props Inv-loop μ-loop
+slice-set-from-props c = search needs
+
+after-requires : tie.Need-after-requires Inv-loop μ-loop
+after-requires c κs = search needs
+
+add-i : tie.Need-add-i Inv-loop μ-loop
+add-i c = search needs
+
+loop-less : tie.Need-loop-less Inv-loop μ-loop
+loop-less c = search needs
+
+loop-again : tie.Need-loop-again Inv-loop μ-loop
+loop-again c = search needs
+
+same-length : tie.Need-same-length Inv-loop μ-loop
+same-length c = search needs
+
+returns : tie.Need-returns Inv-loop μ-loop
+returns c = search needs
+
+pub put-properties-spec : {M : Type 1} → statement M
+put-properties-spec =
+    tie.close
+    (tie.spec
+    Inv-loop
+    μ-loop
+    loop-holds
+    word-requires
+    signed-requires
+    mul-t10
+    slice-set-from-props
+    after-requires
+    add-i
+    loop-less
+    loop-again
+    same-length
+    returns)

@@ -1,0 +1,101 @@
+-- Counts and histograms of the two sides of a threshold. Assumes nothing.
+use mathlib.Core.Path.{_≡_, refl, sym, ap, _∙_}
+use mathlib.Core.Bool.{Bool, true, false, cond, not}
+use mathlib.Core.List.{List, [], _∷_, _++_, map}
+use Prim.Native.Nat.{ℕ, zero, suc, _+_, _-_, _≤_, _<_}
+use native.Mathlib.Omega.{arith}
+use native.Mathlib.Decide.{ℕ-discrete}
+use borrow.Author.Tests.{eq-eqb, ne-eqb}
+use lib.Dec.{eqb}
+use lib.ListN.{length, getD, take, drop, take-append-drop}
+use Rattle.model.specs.Lists.{range, countIf, keep}
+use Rattle.model.specs.Rows.{Row, tokOf}
+use Rattle.model.specs.Cost.{hasToken, histogram}
+use Rattle.cost.specs.Counted.{rowsIn}
+
+module _ {A : Type 0} where
+  -- the two parts have all
+  pub count-sides : (q b : A → Bool) (xs : List A) → countIf q (keep (λ (x : A). not (b x)) xs) + countIf q (keep b xs) ≡ countIf q xs
+  count-sides q b [] = refl
+  count-sides q b (x ∷ xs) = go (b x) (count-sides q b xs)
+    where
+      go : (t : Bool) → countIf q (keep (λ (x : A). not (b x)) xs) + countIf q (keep b xs) ≡ countIf q xs
+          → countIf q (cond (not t) (x ∷ keep (λ (x : A). not (b x)) xs) (keep (λ (x : A). not (b x)) xs)) + countIf q (cond t (x ∷ keep b xs) (keep b xs)) ≡ cond (q x) 1 0 + countIf q xs
+      go true h = omega arith
+      go false h = omega arith
+
+  pub length-sides : (b : A → Bool) (xs : List A) → length (keep (λ (x : A). not (b x)) xs) + length (keep b xs) ≡ length xs
+  length-sides b [] = refl
+  length-sides b (x ∷ xs) = go (b x) (length-sides b xs)
+    where
+      go : (t : Bool) → length (keep (λ (x : A). not (b x)) xs) + length (keep b xs) ≡ length xs
+          → length (cond (not t) (x ∷ keep (λ (x : A). not (b x)) xs) (keep (λ (x : A). not (b x)) xs)) + length (cond t (x ∷ keep b xs) (keep b xs)) ≡ suc (length xs)
+      go true h = omega arith
+      go false h = omega arith
+
+  -- what holds of each element of a list, by place
+  abbrev pub All : (A → Type 0) → A → List A → Type 0
+  All P d xs = (k : ℕ) → k < length xs → P (getD xs k d)
+
+  -- holds of each element that is kept
+  pub all-keep : (P : A → Type 0) (d : A) (b : A → Bool) (xs : List A) → All P d xs → All P d (keep b xs)
+  all-keep P d b [] h = h
+  all-keep P d b (x ∷ xs) h = go (b x) (all-keep P d b xs (λ k l. h (suc k) (omega arith)))
+    where
+      here : All P d (keep b xs) → All P d (x ∷ keep b xs)
+      here ih zero l = h 0 (omega arith)
+      here ih (suc k) l = ih k (omega arith)
+
+      go : (t : Bool) → All P d (keep b xs) → All P d (cond t (x ∷ keep b xs) (keep b xs))
+      go true ih = here ih
+      go false ih = ih
+
+-- ---- how many rows counts have
+
+pub rowsIn-append : (xs ys : List ℕ) → rowsIn (xs ++ ys) ≡ rowsIn xs + rowsIn ys
+unfolding rowsIn
+rowsIn-append [] ys = omega arith
+rowsIn-append (x ∷ xs) ys = omega (arith, rowsIn-append xs ys)
+
+pub rowsIn-parts : (n : ℕ) (xs : List ℕ) → rowsIn (take n xs) + rowsIn (drop n xs) ≡ rowsIn xs
+rowsIn-parts n xs = sym (rowsIn-append (take n xs) (drop n xs)) ∙ ap rowsIn (take-append-drop n xs)
+
+pub rowsIn-none : (h : List ℕ) → ((t : ℕ) → t < length h → getD h t 0 ≡ 0) → rowsIn h ≡ 0
+unfolding rowsIn
+rowsIn-none [] z = refl
+rowsIn-none (c ∷ cs) z = omega (arith, z 0 (omega arith), rowsIn-none cs (λ t l. z (suc t) (omega arith)))
+
+rowsIn-sum : (f g : ℕ → ℕ) (xs : List ℕ) → rowsIn (map (λ (t : ℕ). f t + g t) xs) ≡ rowsIn (map f xs) + rowsIn (map g xs)
+unfolding rowsIn
+rowsIn-sum f g [] = refl
+rowsIn-sum f g (x ∷ xs) = omega (arith, rowsIn-sum f g xs)
+
+rowsIn-zeros : (xs : List ℕ) → rowsIn (map (λ (t : ℕ). 0) xs) ≡ 0
+unfolding rowsIn
+rowsIn-zeros [] = refl
+rowsIn-zeros (x ∷ xs) = omega (arith, rowsIn-zeros xs)
+
+-- a number is found once in a range that it lies in
+rowsIn-past : (v first n : ℕ) → v < first → rowsIn (map (λ (t : ℕ). cond (eqb v t) 1 0) (range first n)) ≡ 0
+unfolding rowsIn
+rowsIn-past v first zero h = refl
+rowsIn-past v first (suc n) h = rw (ne-eqb v first (λ e. omega arith)) (let ih = rowsIn-past v (suc first) n (omega arith) in omega arith)
+
+rowsIn-one : (v first n : ℕ) → first ≤ v → v < first + n → rowsIn (map (λ (t : ℕ). cond (eqb v t) 1 0) (range first n)) ≡ 1
+unfolding rowsIn
+rowsIn-one v first zero l h = absurd (omega arith)
+rowsIn-one v first (suc n) l h = elim (ℕ-discrete v first) [
+  | yes e ↦ rw (eq-eqb v first e) (let past = rowsIn-past v (suc first) n (omega arith) in omega arith)
+  | no e ↦ rw (ne-eqb v first e) (let ih = rowsIn-one v (suc first) n (omega arith) (omega arith) in omega arith)
+]
+
+-- a histogram counts each row once, if the tokens are below the alphabet
+pub histogram-counts : (alphabet p : ℕ) (d : Row) (rows : List Row) → All (λ (r : Row). tokOf r p < alphabet) d rows → rowsIn (histogram alphabet p rows) ≡ length rows
+unfolding histogram
+histogram-counts alphabet p d [] h = rowsIn-zeros (range 0 alphabet)
+histogram-counts alphabet p d (r ∷ rs) h =
+    let s = rowsIn-sum (λ (t : ℕ). cond (hasToken p t r) 1 0) (λ (t : ℕ). countIf (hasToken p t) rs) (range 0 alphabet) in
+    let own = h 0 (omega arith) in
+    let one = rowsIn-one (tokOf r p) 0 alphabet (omega arith) (omega arith) in
+    let ih = histogram-counts alphabet p d rs (λ k l. h (suc k) (omega arith)) in
+    omega arith

@@ -1,0 +1,4 @@
+pub mod Windows
+pub mod Bins
+pub mod Sides
+pub mod Scored

@@ -1,0 +1,2 @@
+-- `Leaves`: the mode step on the leaves' spans.
+pub mod Leaves

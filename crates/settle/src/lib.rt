@@ -1,0 +1,59 @@
+// Settling: the mode step once more on each leaf's span, since pruning may have joined the rows of several leaves.
+ghost use mathlib.Core.Path.{_≡_};
+ghost use mathlib.Core.List.{List};
+ghost use lib.IntN.{ℤ};
+ghost use Rattle.model.specs.Single.{singles};
+ghost use Rattle.model.specs.Grow.{Entry};
+ghost use Rattle.model.specs.Settle.{settled};
+ghost use Rattle.layout.specs.Tree.{NodeLists};
+ghost use Rattle.rows.specs.Flat.{flat, Changed};
+ghost use Rattle.settle.specs.Leaves.{leafTokens, LeafSettles, Settleable, HoldsLeaves};
+
+// A node's words are kind, property, gt, le and predictor; its span is two rows.
+const NODE_WORDS: usize = 5;
+
+const SPAN_ROWS: usize = 2;
+
+// The mode step on the span of node i, if it is a leaf.
+fn settle_leaf(
+    words: &[u32],
+    spans: &[u32],
+    i: usize,
+    uses: bool,
+    tok: &mut [u8],
+    res: &[i32],
+    counts: &mut [u32],
+)
+    requires { ⌜ LeafSettles (now words) (now spans) i uses (now tok) (now res) (now counts) ⌝ }
+    ensures { λ _. ⌜ now (tok .exit) ≡ leafTokens (now (words .entry)) (now (spans .entry)) uses (now (res .entry)) i (now (tok .entry)) ⌝ }
+    ensures { λ _. ⌜ now (counts .exit) ≡ now (counts .entry) ⌝ }
+{
+    if words[i * NODE_WORDS] == 1 {
+        return;
+    }
+    let at = i * SPAN_ROWS;
+    let first = spans[at] as usize;
+    let end = spans[at + 1] as usize;
+    mode::mode_step(uses, tok, res, first, end, counts);
+}
+
+// Makes the zero predictor's tokens anew on each leaf's span, in ascending order of the nodes' numbers. The first 4,096 counts are 0, before and after.
+pub fn settle_leaves(
+    words: &[u32],
+    spans: &[u32],
+    count: usize,
+    uses: bool,
+    tok: &mut [u8],
+    res: &[i32],
+    counts: &mut [u32],
+)
+    requires { ⌜ Settleable (now words) (now spans) count uses (now tok) (now res) (now counts) ⌝ }
+    ensures { λ _. ⌜ ((tree : List (Entry singles)) (lent : NodeLists) (props : List ℤ)
+        → HoldsLeaves (now (words .entry)) (now (spans .entry)) count uses (flat props (now (tok .entry)) (now (res .entry))) tree lent
+        → Changed (settled uses tree) (flat props (now (tok .entry)) (now (res .entry))) (flat props (now (tok .exit)) (now (res .entry)))) ⌝ }
+    ensures { λ _. ⌜ now (counts .exit) ≡ now (counts .entry) ⌝ }
+{
+    for i in 0..count {
+        settle_leaf(words, spans, i, uses, tok, res, counts);
+    }
+}

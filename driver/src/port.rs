@@ -1,0 +1,337 @@
+//! The port: what crate `capi` exports, behind slices. A part of the learner that
+//! asks something of its caller is either held to it here or unsafe to call.
+
+/// Tokens of a row.
+const PREDICTORS: usize = 14;
+/// Properties of a row.
+const PROPERTIES: usize = 24;
+/// Numbers of the count space that the mode step and the candidates use.
+const COUNTS: usize = 4_096;
+/// Most candidates.
+pub const CANDIDATES: usize = 32;
+/// Most rows.
+const ROWS: usize = 65_536;
+
+/// A value's token and its extra bits.
+#[repr(C)]
+pub struct Encoding {
+    pub token: u32,
+    pub extra_count: u32,
+    pub extra_bits: u32,
+}
+
+/// A token's value; number 0 says that there is one.
+#[repr(C)]
+pub struct Read {
+    pub number: u32,
+    pub value: u32,
+}
+
+/// The leaf of a lookup; number 0 says that there is one.
+#[repr(C)]
+pub struct Leaf {
+    pub number: u32,
+    pub place: u32,
+    pub leaf: u32,
+    pub pred: u32,
+}
+
+/// How many were written; number 0 says that the call was accepted.
+#[repr(C)]
+pub struct Count {
+    pub number: u32,
+    pub place: u32,
+    pub count: u32,
+}
+
+mod c {
+    use super::{Count, Encoding, Leaf, Read};
+
+    // Each slice is a pointer and a length.
+    unsafe extern "C" {
+        pub safe fn ostrovuc_pack_signed(value: i32) -> u32;
+        pub safe fn ostrovuc_uint_encode(value: u32) -> Encoding;
+        pub safe fn ostrovuc_token_value(token: u32, extra: u32) -> Read;
+        pub fn ostrovuc_evenly_sampled_indices(
+            rows: usize,
+            target: usize,
+            out: *mut u32,
+            out_length: usize,
+        ) -> Count;
+        pub fn ostrovuc_lookup(
+            words: *const u32,
+            words_length: usize,
+            values: *const i32,
+            values_length: usize,
+            count: u32,
+            props: *const i32,
+            props_length: usize,
+        ) -> Leaf;
+        pub fn ostrovuc_leaf_contexts(
+            words: *const u32,
+            words_length: usize,
+            values: *const i32,
+            values_length: usize,
+            count: u32,
+            contexts: *mut u32,
+            contexts_length: usize,
+            queue: *mut u32,
+            queue_length: usize,
+        ) -> Count;
+        pub fn ostrovuc_partition(
+            props: *mut i32,
+            props_length: usize,
+            tok: *mut u8,
+            tok_length: usize,
+            res: *mut i32,
+            res_length: usize,
+            first: usize,
+            end: usize,
+            prop: usize,
+            threshold: i32,
+        ) -> usize;
+        pub fn ostrovuc_mode_step(
+            tok: *mut u8,
+            tok_length: usize,
+            res: *const i32,
+            res_length: usize,
+            first: usize,
+            end: usize,
+            counts: *mut u32,
+            counts_length: usize,
+        ) -> i32;
+        pub fn ostrovuc_pick_candidates(
+            props: *const i32,
+            props_length: usize,
+            first: usize,
+            end: usize,
+            prop: usize,
+            max_candidates: usize,
+            flags: *mut u32,
+            flags_length: usize,
+            cands: *mut i32,
+            cands_length: usize,
+        ) -> usize;
+        pub fn ostrovuc_count_tokens(
+            tok: *const u8,
+            tok_length: usize,
+            first: usize,
+            end: usize,
+            alphabet: usize,
+            hist: *mut u32,
+            hist_length: usize,
+        );
+        pub fn ostrovuc_hist_entropy_bits(
+            hist: *const u32,
+            hist_length: usize,
+            total: u32,
+            logs: *const f32,
+            logs_length: usize,
+        ) -> f32;
+    }
+}
+
+pub fn pack_signed(value: i32) -> u32 {
+    c::ostrovuc_pack_signed(value)
+}
+
+pub fn uint_encode(value: u32) -> Encoding {
+    c::ostrovuc_uint_encode(value)
+}
+
+pub fn token_value(token: u32, extra: u32) -> Read {
+    c::ostrovuc_token_value(token, extra)
+}
+
+pub fn evenly_sampled_indices(rows: usize, target: usize, out: &mut [u32]) -> Count {
+    // SAFETY: the pointer and the length are a slice's.
+    unsafe { c::ostrovuc_evenly_sampled_indices(rows, target, out.as_mut_ptr(), out.len()) }
+}
+
+/// A node's words are kind, property, gt, le and predictor; its values are
+/// threshold and offset.
+pub fn lookup(words: &[u32], values: &[i32], count: u32, props: &[i32]) -> Leaf {
+    // SAFETY: the pointers and the lengths are slices'.
+    unsafe {
+        c::ostrovuc_lookup(
+            words.as_ptr(),
+            words.len(),
+            values.as_ptr(),
+            values.len(),
+            count,
+            props.as_ptr(),
+            props.len(),
+        )
+    }
+}
+
+pub fn leaf_contexts(
+    words: &[u32],
+    values: &[i32],
+    count: u32,
+    contexts: &mut [u32],
+    queue: &mut [u32],
+) -> Count {
+    // SAFETY: the pointers and the lengths are slices'.
+    unsafe {
+        c::ostrovuc_leaf_contexts(
+            words.as_ptr(),
+            words.len(),
+            values.as_ptr(),
+            values.len(),
+            count,
+            contexts.as_mut_ptr(),
+            contexts.len(),
+            queue.as_mut_ptr(),
+            queue.len(),
+        )
+    }
+}
+
+/// The rows of a job in flat lists.
+pub struct Rows {
+    pub props: Vec<i32>,
+    pub tok: Vec<u8>,
+    /// One a row, or none.
+    pub res: Vec<i32>,
+}
+
+impl Rows {
+    pub fn count(&self) -> usize {
+        self.props.len() / PROPERTIES
+    }
+
+    fn are_shaped(&self) -> bool {
+        let rows = self.count();
+        self.props.len() == rows * PROPERTIES
+            && self.tok.len() == rows * PREDICTORS
+            && (self.res.is_empty() || self.res.len() == rows)
+    }
+
+    /// Moves the span's rows whose property is above the threshold to its front;
+    /// gives where the others begin.
+    pub fn partition(&mut self, first: usize, end: usize, prop: usize, threshold: i32) -> usize {
+        assert!(self.are_shaped() && first <= end && end <= self.count() && prop < PROPERTIES);
+        // SAFETY: the pointers and the lengths are lists', and `Divisible` is asserted.
+        unsafe {
+            c::ostrovuc_partition(
+                self.props.as_mut_ptr(),
+                self.props.len(),
+                self.tok.as_mut_ptr(),
+                self.tok.len(),
+                self.res.as_mut_ptr(),
+                self.res.len(),
+                first,
+                end,
+                prop,
+                threshold,
+            )
+        }
+    }
+}
+
+/// Count space whose numbers are 0. The exports give it back as they got it.
+pub struct Counts([u32; COUNTS]);
+
+impl Default for Counts {
+    fn default() -> Self {
+        Self([0; COUNTS])
+    }
+}
+
+/// The mode of the rows from first to end; their zero-predictor tokens are made anew.
+pub fn mode_step(
+    tok: &mut [u8],
+    res: &[i32],
+    first: usize,
+    end: usize,
+    counts: &mut Counts,
+) -> i32 {
+    assert!(first <= end && end <= res.len() && res.len() <= ROWS);
+    assert!(tok.len() == res.len() * PREDICTORS);
+    // SAFETY: the pointers and the lengths are slices'. `Rebasable` is asserted but for
+    // the zeros, which `Counts` has.
+    unsafe {
+        c::ostrovuc_mode_step(
+            tok.as_mut_ptr(),
+            tok.len(),
+            res.as_ptr(),
+            res.len(),
+            first,
+            end,
+            counts.0.as_mut_ptr(),
+            counts.0.len(),
+        )
+    }
+}
+
+/// The candidate thresholds of a property over the rows from first to end, written to the
+/// front of `cands`.
+pub fn pick_candidates<'a>(
+    props: &[i32],
+    first: usize,
+    end: usize,
+    prop: usize,
+    max_candidates: usize,
+    counts: &mut Counts,
+    cands: &'a mut [i32; CANDIDATES],
+) -> &'a [i32] {
+    assert!(first <= end && end <= props.len() / PROPERTIES && prop < PROPERTIES);
+    // SAFETY: the pointers and the lengths are slices'. `Pickable` is asserted but for
+    // the zeros, which `Counts` has.
+    let found = unsafe {
+        c::ostrovuc_pick_candidates(
+            props.as_ptr(),
+            props.len(),
+            first,
+            end,
+            prop,
+            max_candidates,
+            counts.0.as_mut_ptr(),
+            counts.0.len(),
+            cands.as_mut_ptr(),
+            cands.len(),
+        )
+    };
+    &cands[..found]
+}
+
+/// Counts each predictor's tokens in the rows from first to end.
+///
+/// # Safety
+///
+/// The rows are there, at most 65,536, their tokens below the alphabet, and `hist` holds
+/// 14 zeros for each token of the alphabet.
+pub unsafe fn count_tokens(
+    tok: &[u8],
+    first: usize,
+    end: usize,
+    alphabet: usize,
+    hist: &mut [u32],
+) {
+    // SAFETY: the pointers and the lengths are slices'; the caller sees to the rest.
+    unsafe {
+        c::ostrovuc_count_tokens(
+            tok.as_ptr(),
+            tok.len(),
+            first,
+            end,
+            alphabet,
+            hist.as_mut_ptr(),
+            hist.len(),
+        );
+    }
+}
+
+/// The entropy of a histogram over the lent logarithms.
+///
+/// # Safety
+///
+/// The counts, at most 256 of them, sum to no more than the total, which is at most 65,536
+/// and below the length of `logs`.
+pub unsafe fn hist_entropy_bits(hist: &[u32], total: u32, logs: &[f32]) -> f32 {
+    // SAFETY: the pointers and the lengths are slices'; the caller sees to the rest.
+    unsafe {
+        c::ostrovuc_hist_entropy_bits(hist.as_ptr(), hist.len(), total, logs.as_ptr(), logs.len())
+    }
+}
