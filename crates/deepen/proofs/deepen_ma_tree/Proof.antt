@@ -1,0 +1,166 @@
+-- `deepen::deepen_ma_tree` meets its contract: a refusal is the checks' own, with the lists untouched; a pass is what `deepen_sound` ensures. Assumes nothing.
+use mathlib.Core.Path.{_≡_, sym, refl, _∙_}
+use mathlib.Core.Option.{none}
+use borrow.Author.Needs.{needs}
+use Rattle.layout.specs.Tree.{nodeLists}
+use Rattle.layout.specs.Waiting.{queueLists}
+use Rattle.rows.specs.Flat.{flat}
+use Rattle.model.specs.Profile.{single}
+use Rattle.model.specs.Lent.{rowCount}
+use Rattle.model.specs.Refuse.{isShortOfSeedRoom, refusedBefore}
+use Rattle.checks.specs.Given.{settingsOf, checkOf}
+use Rattle.checks.proofs.Passed.{deepen-passed, deepen-refused}
+use Rattle.lent.specs.Lists.{Lists, lists, lentIn}
+use Rattle.learn.specs.Answer.{outcomeOf}
+use Rattle.learn.proofs.Answering.{lends-rooms}
+use Rattle.deepen.proofs.Answering.{both, refused-lists}
+use Rattle.deepen.proofs.deepen_ma_tree.Statement.{statement}
+use Rattle.deepen.proofs.deepen_ma_tree.Tie as tie
+
+node-room-requires : tie.Need-node-room-requires
+node-room-requires c κs = search needs
+
+queue-room-requires : tie.Need-queue-room-requires
+queue-room-requires c κs = search needs
+
+check-deepen-requires : tie.Need-check-deepen-requires
+check-deepen-requires c κs = search needs
+
+enum-known-number : tie.Need-enum-known-number
+enum-known-number c = search needs
+
+enum-known-rows : tie.Need-enum-known-rows
+enum-known-rows c = search needs
+
+-- what was asked, and what the checks answer
+module _ (c : tie.After-check-deepen) where
+  abbrev start : tie.Start
+  start = c .before .before .before .before .before .before .before .before .before .before .before .before .before .before .before .before .before .before .before .before
+
+  abbrev x : Lists
+  x =
+      let given = start .args in
+      lists (flat (given .props .now) (given .tok .now) (given .res .now)) (nodeLists (given .words .now) (given .values .now) (given .costs .now) (given .spans .now))
+      (queueLists (given .queue-words .now) (given .queue-values .now) (given .queue-gains .now)) (given .counts .now)
+
+  answer : c .check-deepen .result ≡ checkOf (rowCount (lentIn x)) (refusedBefore single (settingsOf (start .args .s)) (start .args .logs .now) (lentIn x) (isShortOfSeedRoom (start .args .count) (lentIn x)) none)
+  answer = c .check-deepen .ensures (lentIn x) (lends-rooms x _ (c .before .before .before .before .before .before .before .before .node-room .ensures) refl (c .before .before .before .before .queue-room .ensures) refl)
+
+deepen-sound-requires : tie.Need-deepen-sound-requires
+deepen-sound-requires c κs =
+    let checked = c .before .before .before .before .before .before .before .before .before .before .before .before .before .before in
+    let passed = c .before .before .before .before .before .before .before .before .before .before .before .before .rows .given in
+    let given = start checked .args in
+    let p = deepen-passed (given .s) (given .logs .now) (lentIn (x checked)) (given .count) (passed .0 .0) (sym (answer checked) ∙ passed .1) in
+    record { left = p .0; accepted = p .1; seed-rooms = p .2 }
+
+same-length : tie.Need-same-length
+same-length c = search needs
+
+same-length-2 : tie.Need-same-length-2
+same-length-2 c = search needs
+
+same-length-3 : tie.Need-same-length-3
+same-length-3 c = search needs
+
+same-length-4 : tie.Need-same-length-4
+same-length-4 c = search needs
+
+same-length-5 : tie.Need-same-length-5
+same-length-5 c = search needs
+
+same-length-6 : tie.Need-same-length-6
+same-length-6 c = search needs
+
+same-length-7 : tie.Need-same-length-7
+same-length-7 c = search needs
+
+same-length-8 : tie.Need-same-length-8
+same-length-8 c = search needs
+
+same-length-9 : tie.Need-same-length-9
+same-length-9 c = search needs
+
+returns : tie.Need-returns
+returns c =
+    let checked = c .before .before .before in
+    let told = c .before .number .given in
+    let given = start checked .args in
+    both (given .s) (given .logs .now) (given .count) (x checked) _ (x checked)
+    (refused-lists (given .s) (given .logs .now) (given .count) (x checked) (told .0 .0) (told .0 .1 .0)
+    (deepen-refused (given .s) (given .logs .now) (lentIn (x checked)) (given .count) (told .0 .0) (told .0 .1 .0) (sym (answer checked) ∙ told .1)))
+
+same-length-10 : tie.Need-same-length-10
+same-length-10 c = search needs
+
+same-length-11 : tie.Need-same-length-11
+same-length-11 c = search needs
+
+same-length-12 : tie.Need-same-length-12
+same-length-12 c = search needs
+
+same-length-13 : tie.Need-same-length-13
+same-length-13 c = search needs
+
+same-length-14 : tie.Need-same-length-14
+same-length-14 c = search needs
+
+same-length-15 : tie.Need-same-length-15
+same-length-15 c = search needs
+
+same-length-16 : tie.Need-same-length-16
+same-length-16 c = search needs
+
+same-length-17 : tie.Need-same-length-17
+same-length-17 c = search needs
+
+same-length-18 : tie.Need-same-length-18
+same-length-18 c = search needs
+
+same-length-19 : tie.Need-same-length-19
+same-length-19 c = search needs
+
+same-length-20 : tie.Need-same-length-20
+same-length-20 c = search needs
+
+returns-2 : tie.Need-returns-2
+returns-2 c =
+    let checked = c .before .before .before .before .before .before .before .before .before .before .before .before .before .before .before .before .before .before .before .before .before .before .before .before .before .before .before .before .before .before .before .before .before in
+    let made = c .before .before .before .before .before .before .before .before .before .before .before .before .before .before .before .before .before .before .deepen-sound in
+    let given = start checked .args in
+    let y = lists (flat (made .last .0) (made .last .1 .0) (made .last .1 .1 .0)) (nodeLists (made .last .1 .1 .1 .0) (made .last .1 .1 .1 .1 .0) (made .last .1 .1 .1 .1 .1 .0) (made .last .1 .1 .1 .1 .1 .1 .0))
+    (queueLists (made .last .1 .1 .1 .1 .1 .1 .1 .0) (made .last .1 .1 .1 .1 .1 .1 .1 .1 .0) (made .last .1 .1 .1 .1 .1 .1 .1 .1 .1 .0)) (made .last .1 .1 .1 .1 .1 .1 .1 .1 .1 .1 .0) in
+    both (given .s) (given .logs .now) (given .count) (x checked) (outcomeOf (made .result)) y (made .ensures)
+
+pub deepen-ma-tree-spec : {M : Type 1} → statement M
+deepen-ma-tree-spec =
+    tie.close
+    (tie.spec
+    node-room-requires
+    queue-room-requires
+    check-deepen-requires
+    enum-known-number
+    enum-known-rows
+    deepen-sound-requires
+    same-length
+    same-length-2
+    same-length-3
+    same-length-4
+    same-length-5
+    same-length-6
+    same-length-7
+    same-length-8
+    same-length-9
+    returns
+    same-length-10
+    same-length-11
+    same-length-12
+    same-length-13
+    same-length-14
+    same-length-15
+    same-length-16
+    same-length-17
+    same-length-18
+    same-length-19
+    same-length-20
+    returns-2)

@@ -1,0 +1,107 @@
+-- `deepen::deepen_rows` meets its contract: flat bits of the rows as first given, and then the finished tree. Assumes nothing.
+use mathlib.Core.Path.{_∙_}
+use borrow.Author.Needs.{needs}
+use Rattle.model.specs.Learn.{finished, resultOf}
+use Rattle.model.specs.Deepen.{deepened}
+use Rattle.layout.specs.Tree.{nodeLists}
+use Rattle.layout.specs.Waiting.{queueLists}
+use Rattle.rows.specs.Flat.{flat}
+use Rattle.lent.specs.Lists.{Lists, lists}
+use Rattle.learn.proofs.Accepting.{accepted-fitting, accepted-flattened, made-lists, made-answer}
+use Rattle.deepen.specs.Deepens.{deepenedIn}
+use Rattle.deepen.proofs.Seeding.{accepted-seedable}
+use Rattle.deepen.proofs.deepen_rows.Statement.{statement}
+use Rattle.deepen.proofs.deepen_rows.Tie as tie
+
+clear-requires : tie.Need-clear-requires
+clear-requires c κs = search needs
+
+-- what was asked
+module _ (c : tie.After-clear) where
+  abbrev start : tie.Start
+  start = c .before .before .before .before .before .before .before .before .before .before
+
+  abbrev x : Lists
+  x =
+      let given = start .args in
+      lists (flat (given .props .now) (given .tok .now) (given .res .now)) (nodeLists (given .words .now) (given .values .now) (given .costs .now) (given .spans .now))
+      (queueLists (given .queue-words .now) (given .queue-values .now) (given .queue-gains .now)) (given .counts .now)
+
+flat-bits-requires : tie.Need-flat-bits-requires
+flat-bits-requires c κs = let cleared = c .before .before .before .before .before in accepted-flattened (x cleared) (start cleared .pre .accepted) (cleared .clear .last .0) (cleared .clear .ensures)
+
+grow-from-seed-requires : tie.Need-grow-from-seed-requires
+grow-from-seed-requires c κs =
+    let cleared = c .before .before .before .before .before .before .before .before .before .before .before .before .before .before .before .before .before .before .before in
+    let summed = c .before .before .before .before .before .before .before .before .before .before .before .before .before .flat-bits in
+    accepted-seedable (x cleared) (start cleared .pre) (summed .last .1 .1 .0) (summed .ensures .1 ∙ cleared .clear .ensures)
+
+same-length : tie.Need-same-length
+same-length c = search needs
+
+same-length-2 : tie.Need-same-length-2
+same-length-2 c = search needs
+
+same-length-3 : tie.Need-same-length-3
+same-length-3 c = search needs
+
+same-length-4 : tie.Need-same-length-4
+same-length-4 c = search needs
+
+same-length-5 : tie.Need-same-length-5
+same-length-5 c = search needs
+
+same-length-6 : tie.Need-same-length-6
+same-length-6 c = search needs
+
+same-length-7 : tie.Need-same-length-7
+same-length-7 c = search needs
+
+same-length-8 : tie.Need-same-length-8
+same-length-8 c = search needs
+
+same-length-9 : tie.Need-same-length-9
+same-length-9 c = search needs
+
+same-length-10 : tie.Need-same-length-10
+same-length-10 c = search needs
+
+same-length-11 : tie.Need-same-length-11
+same-length-11 c = c .before .before .before .before .before .before .before .before .before .before .before .before .before .before .before .before .before .before .grow-from-seed .kept .1 .1 .1 .1 .1 .1 .1 .1 .1 .1 .0 ∙ c .before .before .before .before .before .before .before .before .before .before .before .before .before .before .before .before .before .before .before .before .before .before .before .before .before .before .before .before .before .before .before .before .flat-bits .kept .1 .1 .0 ∙ c .before .before .before .before .before .before .before .before .before .before .before .before .before .before .before .before .before .before .before .before .before .before .before .before .before .before .before .before .before .before .before .before .before .before .before .before .before .before .clear .kept .0
+
+returns : tie.Need-returns
+unfolding deepened finished resultOf
+returns c =
+    let cleared = c .before .before .before .before .before .before .before .before .before .before .before .before .before .before .before .before .before .before .before .before .before .before .before .before .before .before .before .before .before .before .before .before .before .before .before .before .before .before in
+    let summed = c .before .before .before .before .before .before .before .before .before .before .before .before .before .before .before .before .before .before .before .before .before .before .before .before .before .before .before .before .before .before .before .before .flat-bits in
+    let grown = c .before .before .before .before .before .before .before .before .before .before .before .before .before .before .before .before .before .before .grow-from-seed in
+    let given = start cleared .args in
+    let made = deepenedIn (given .s) (given .logs .now) (given .count) (x cleared .rows) (x cleared .nodes) in
+    let f = grown .ensures .0 in (
+      made-answer (grown .result .nodes) (grown .result .leaves) (grown .result .bits) (summed .result) made (f .counted) (f .leaves) (f .summed) (summed .ensures .0 (given .res .now)),
+      made-lists (x cleared) made (flat (grown .last .0) (grown .last .1 .0) (grown .last .1 .1 .0))
+          (nodeLists (grown .last .1 .1 .1 .0) (grown .last .1 .1 .1 .1 .0) (grown .last .1 .1 .1 .1 .1 .0) (grown .last .1 .1 .1 .1 .1 .1 .0))
+          (queueLists (grown .last .1 .1 .1 .1 .1 .1 .1 .0) (grown .last .1 .1 .1 .1 .1 .1 .1 .1 .0) (grown .last .1 .1 .1 .1 .1 .1 .1 .1 .1 .0)) (grown .last .1 .1 .1 .1 .1 .1 .1 .1 .1 .1 .0) (grown .result)
+          (accepted-fitting (x cleared) (start cleared .pre .accepted) (cleared .clear .last .0) (cleared .clear .ensures) .shaped) f
+          (grown .ensures .1 .1) (grown .ensures .1 .0 ∙ summed .ensures .1 ∙ cleared .clear .ensures),
+    )
+
+pub deepen-rows-spec : {M : Type 1} → statement M
+deepen-rows-spec =
+    tie.close
+    (tie.spec
+    clear-requires
+    flat-bits-requires
+    grow-from-seed-requires
+    same-length
+    same-length-2
+    same-length-3
+    same-length-4
+    same-length-5
+    same-length-6
+    same-length-7
+    same-length-8
+    same-length-9
+    same-length-10
+    same-length-11
+    returns)

@@ -1,0 +1,94 @@
+-- `seed::plant_leaf` meets its contract: what the leaf came to is written, waits if it offers a split, and its cost is added. Assumes nothing.
+use mathlib.Core.Path.{refl}
+use Rattle.seed.proofs.Planting.{made-widens, offer-room}
+use borrow.Author.Needs.{needs}
+use Rattle.seed.proofs.plant_leaf.Statement.{statement}
+use Rattle.seed.proofs.plant_leaf.Tie as tie
+
+-- ---- from each call back to the one before it
+abbrev entry : tie.After-make-leaf → tie.Start
+entry c = c .before .before .before .before .before .before .before .before .before .before .before
+
+abbrev making : tie.After-put-leaf → tie.After-make-leaf
+making c = c .before .before .before .before .before .before .before .before .before .before
+
+abbrev putting : tie.After-enqueue → tie.After-put-leaf
+putting c = c .before .before .before .before .before .before .before .before .before .before .before
+
+make-leaf-requires : tie.Need-make-leaf-requires
+make-leaf-requires c κs = search needs
+
+put-leaf-requires : tie.Need-put-leaf-requires
+put-leaf-requires c κs = search needs
+
+enqueue-requires : tie.Need-enqueue-requires
+enqueue-requires c κs =
+    let made = making (c .before .before .before .before .before .before .before .before .before .before) in
+    (entry made .pre .few, offer-room (made .make-leaf .ensures .0) (entry made .pre .queue-room))
+
+float-to-float-bits : tie.Need-float-to-float-bits
+float-to-float-bits c =
+    let made = making (putting (c .before .before .before .before .before .before)) in
+    made-widens (made .make-leaf .ensures .0) (entry made .pre .fitting) (entry made .pre .logs-small) (entry made .pre .spanned)
+
+same-length : tie.Need-same-length
+same-length c = search needs
+
+same-length-2 : tie.Need-same-length-2
+same-length-2 c = search needs
+
+same-length-3 : tie.Need-same-length-3
+same-length-3 c = search needs
+
+same-length-4 : tie.Need-same-length-4
+same-length-4 c = search needs
+
+same-length-5 : tie.Need-same-length-5
+same-length-5 c = search needs
+
+same-length-6 : tie.Need-same-length-6
+same-length-6 c = search needs
+
+same-length-7 : tie.Need-same-length-7
+same-length-7 c = search needs
+
+same-length-8 : tie.Need-same-length-8
+same-length-8 c = search needs
+
+same-length-9 : tie.Need-same-length-9
+same-length-9 c = search needs
+
+returns : tie.Need-returns
+returns c =
+    let queued = c .before .before .before .before .before .before .before in
+    let made = making (putting queued) .make-leaf in
+    let learnt = queued .enqueue .ensures in
+    record {
+      leaf = made .result;
+      made = made .ensures .0;
+      nodes = putting queued .put-leaf .ensures;
+      queued = learnt .0;
+      many = learnt .1 .0;
+      queue = learnt .1 .1;
+      summed = refl;
+      zeros = made .ensures .1;
+    }
+
+pub plant-leaf-spec : {M : Type 1} → statement M
+plant-leaf-spec =
+    tie.close
+    (tie.spec
+    make-leaf-requires
+    put-leaf-requires
+    enqueue-requires
+    float-to-float-bits
+    same-length
+    same-length-2
+    same-length-3
+    same-length-4
+    same-length-5
+    same-length-6
+    same-length-7
+    same-length-8
+    same-length-9
+    returns)

@@ -1,0 +1,93 @@
+-- `seed::plant_seed` meets its contract: the rows ordered by leaf, and then the nodes planted. Assumes nothing.
+use Rattle.model.specs.Rows.{rowsHeld}
+use Rattle.seed.proofs.Starting.{orderable, plantable, plants, seeded, seeded-zeros}
+use borrow.Author.Needs.{needs}
+use Rattle.seed.proofs.plant_seed.Statement.{statement}
+use Rattle.seed.proofs.plant_seed.Tie as tie
+
+-- ---- from each call back to the one before it
+abbrev entry : tie.After-order-by-leaf → tie.Start
+entry c = c .before .before .before .before .before .before .before .before .before .before .before .before .before .before .before .before .before
+
+abbrev ordering : tie.After-plant-nodes-arg11 → tie.After-order-by-leaf
+ordering c =
+    c .before .before .before .before .before .before .before .before .before .before .before .before .before .before .before .before .before .before .before
+
+add-leaves : tie.Need-add-leaves
+add-leaves c = search needs
+
+cast-score-split : tie.Need-cast-score-split
+cast-score-split c = search needs
+
+order-by-leaf-requires : tie.Need-order-by-leaf-requires
+order-by-leaf-requires c κs =
+    let start = c .before .before .before .before .before .before .before .before .before .before .before .before .before .before .before .before in
+    orderable (start .pre)
+
+plant-nodes-requires : tie.Need-plant-nodes-requires
+plant-nodes-requires c κs =
+    let ordered = ordering c .order-by-leaf .ensures in
+    plantable (entry (ordering c) .pre) (ordered .1) (ordered .0)
+
+same-length : tie.Need-same-length
+same-length c = search needs
+
+same-length-2 : tie.Need-same-length-2
+same-length-2 c = search needs
+
+same-length-3 : tie.Need-same-length-3
+same-length-3 c = search needs
+
+same-length-4 : tie.Need-same-length-4
+same-length-4 c = search needs
+
+same-length-5 : tie.Need-same-length-5
+same-length-5 c = search needs
+
+same-length-6 : tie.Need-same-length-6
+same-length-6 c = search needs
+
+same-length-7 : tie.Need-same-length-7
+same-length-7 c = search needs
+
+same-length-8 : tie.Need-same-length-8
+same-length-8 c = search needs
+
+same-length-9 : tie.Need-same-length-9
+same-length-9 c = search needs
+
+same-length-10 : tie.Need-same-length-10
+same-length-10 c = search needs
+
+same-length-11 : tie.Need-same-length-11
+same-length-11 c = search needs
+
+returns : tie.Need-returns
+returns c =
+    let done = c .before .before .before .before .before .before .before .before .before .before .before .before .before .before .before .before in
+    let start = entry (ordering (done .before)) in
+    let ordered = ordering (done .before) .order-by-leaf .ensures in
+    let given = rowsHeld (start .args .props .now) (start .args .tok .now) (start .args .res .now) in
+    let planted = done .plant-nodes .ensures given (plants (start .pre) (ordered .1) (ordered .0)) in
+    (seeded (start .pre) (ordered .1) (ordered .0) planted, seeded-zeros (start .pre) (ordered .1) (ordered .0) planted)
+
+pub plant-seed-spec : {M : Type 1} → statement M
+plant-seed-spec =
+    tie.close
+    (tie.spec
+    add-leaves
+    cast-score-split
+    order-by-leaf-requires
+    plant-nodes-requires
+    same-length
+    same-length-2
+    same-length-3
+    same-length-4
+    same-length-5
+    same-length-6
+    same-length-7
+    same-length-8
+    same-length-9
+    same-length-10
+    same-length-11
+    returns)

@@ -1,0 +1,72 @@
+-- A seed's rows in the order of its leaves, and its leaves' spans in the span list (document 01, "Deepening": rows ordered by leaf number, stably).
+-- Assumes nothing.
+use Prim.Native.Nat.{ℕ, suc, _+_, _*_, _≤_, _<_}
+use mathlib.Core.Path.{_≡_}
+use mathlib.Core.List.{List, map}
+use lib.ListN.{length, getD, drop, replicate}
+use lib.IntN.{ℤ}
+use Rattle.model.specs.Lists.{range}
+use Rattle.model.specs.Settings.{maxRows, maxNodes}
+use Rattle.model.specs.Single.{singles}
+use Rattle.model.specs.Rows.{Row}
+use Rattle.model.specs.Tree.{Node, Record}
+use Rattle.model.specs.Lent.{treeIn}
+use Rattle.layout.specs.Tree.{NodeLists}
+use Rattle.lent.specs.Lists.{storedNodes, spanAt}
+use Rattle.order.specs.Order.{orderedBy, firstOf}
+use Rattle.order.specs.Leaves.{leafNumbers}
+use Rattle.rows.specs.Cells.{span}
+use Rattle.rows.specs.Flat.{Flat, heldIn, rowCount, Shaped, SameSize}
+use Rattle.tree.specs.Trees.{nodeAt, SoundTree}
+
+-- the seed: the first nodes of the node lists
+abbrev pub seedIn : ℕ → NodeLists → List (Record singles)
+seedIn count n = treeIn count (storedNodes n)
+
+-- its nodes alone, which hang on words and thresholds only
+abbrev pub nodesIn : ℕ → List ℕ → List ℤ → List Node
+nodesIn count words values = map (nodeAt words values) (range 0 count)
+
+-- the number of the leaf that each row reaches
+abbrev pub numbersIn : ℕ → List ℕ → List ℤ → List Row → List ℕ
+numbersIn count words values rows = leafNumbers (nodesIn count words values) rows
+
+-- a sound seed with its rows, room for its spans, and room to order the rows in: count space that is all 0
+pub record Orderable (x : Flat) (words : List ℕ) (values : List ℤ) (spans counts : List ℕ) (rows count : ℕ) : Type 0 where
+  pub shaped : Shaped x
+  pub few : rowCount x ≤ maxRows
+  pub counted : rows ≡ rowCount x
+  pub sound : SoundTree words count
+  pub values-there : count * 2 ≤ length values
+  pub spans-there : count * 2 ≤ length spans
+  pub space : rows + 2 * count ≤ length counts
+  pub zeros : counts ≡ replicate (length counts) 0
+
+-- the spans of the rows with number 0, 1, .. stand at the front of the span list, and what lies past them is as it was
+pub record SpansOf (numbers : List ℕ) (count : ℕ) (spans spans' : List ℕ) : Type 0 where
+  pub long : length spans' ≡ length spans
+  pub there : (i : ℕ) → i < count → spanAt spans' i ≡ span (firstOf numbers i) (firstOf numbers (suc i))
+  pub rest : drop (count * 2) spans' ≡ drop (count * 2) spans
+
+-- y has the rows of x, ordered by their numbers
+pub record OrderedBy (numbers : List ℕ) (count : ℕ) (x y : Flat) (spans spans' : List ℕ) : Type 0 where
+  pub rows : heldIn y ≡ orderedBy numbers count (heldIn x)
+  pub size : SameSize x y
+  pub spans-are : SpansOf numbers count spans spans'
+
+-- two numbers for each of `count` entries, the first ones in front of the second ones, and room for them in pairs
+pub record Paired (count : ℕ) (space spans : List ℕ) : Type 0 where
+  pub given : length space ≡ count + count
+  pub room : count * 2 ≤ length spans
+
+-- the first n of them stand in pairs
+pub record Pairs (n count : ℕ) (space spans spans' : List ℕ) : Type 0 where
+  pub long : length spans' ≡ length spans
+  pub first : (i : ℕ) → i < n → getD spans' (i * 2) 0 ≡ getD space i 0
+  pub second : (i : ℕ) → i < n → getD spans' (i * 2 + 1) 0 ≡ getD space (count + i) 0
+  pub rest : drop (count * 2) spans' ≡ drop (count * 2) spans
+
+-- a sound seed, and a list of zeros that has a place for the depth of each node of any seed
+pub record DepthsFit (words : List ℕ) (count : ℕ) (out : List ℕ) : Type 0 where
+  pub sound : SoundTree words count
+  pub zeros : out ≡ replicate maxNodes 0

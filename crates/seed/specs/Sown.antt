@@ -1,0 +1,147 @@
+-- A seed's nodes planted one after the other: what the lists hold after some of them (document 01, "Deepening"). Assumes nothing.
+use Prim.Native.Nat.{ℕ, suc, _+_, _≤_, _<_}
+use mathlib.Core.Path.{_≡_}
+use mathlib.Core.Bool.{Bool, true, false, cond}
+use mathlib.Core.List.{List, [], _++_}
+use mathlib.Core.Option.{none}
+use lib.ListN.{length, getD, take, drop}
+use lib.Ieee.{Float, nan, add, binary64}
+use lib.Dec.{eqb}
+use Rattle.model.specs.Settings.{maxNodes}
+use Rattle.model.specs.Single.{singles}
+use Rattle.model.specs.Rows.{Row}
+use Rattle.model.specs.Tree.{Node, split, leaf, Info, Record, nodesOf, faultOf}
+use Rattle.model.specs.Learn.{leafCount}
+use Rattle.model.specs.Profile.{single, jobOf}
+use Rattle.model.specs.Job.{Job}
+use Rattle.model.specs.Grow.{Entry, State}
+use Rattle.model.specs.Lent.{Waiting}
+use Rattle.model.specs.Deepen.{depthsOf, seedSplit, emptyLeaf, withSeedNode, seedFrom}
+use Rattle.model.proofs.Bounded.{LogsWithin}
+use Rattle.checks.specs.Given.{settingsOf}
+use Rattle.checks.specs.declared.Settings.{Settings}
+use Rattle.layout.specs.declared.Leaf.{Leaf}
+use Rattle.layout.specs.Values.{offerIs}
+use Rattle.layout.specs.Layout.{kindAt, predAt, offsetAt}
+use Rattle.layout.specs.Tree.{NodeLists, holding, HasRoom, put, leafWith}
+use Rattle.layout.specs.Waiting.{QueueLists, Queued, QueueRoom, SameQueue, queueOf, waits}
+use Rattle.lent.specs.Lists.{spanAt}
+use Rattle.order.specs.Order.{orderedBy, firstOf}
+use Rattle.order.specs.Leaves.{leafNumbers}
+use Rattle.rows.specs.Cells.{span}
+use Rattle.rows.specs.Flat.{Flat, heldIn, rowCount, Spanned, SameSize}
+use Rattle.tree.specs.Trees.{nodeAt}
+use Rattle.leaf.specs.Fitting.{usesOf, Fitting}
+use Rattle.leaf.specs.Made.{MadeLeaf}
+use Rattle.seed.specs.Ordered.{seedIn}
+use Rattle.seed.specs.declared.Sum.{Sum}
+
+-- the model's state after the first i nodes of the seed
+unfoldable pub seededTo : Job singles → List (Record singles) → List Row → ℕ → State singles
+seededTo j seed rows i =
+    let nodes = nodesOf seed in
+    seedFrom j nodes (depthsOf nodes) rows 0 (take i seed) (record { rows = []; tree = []; bits = singles .noTotal })
+
+-- The lists hold the state `st`, over what was lent; behind its rows stand those of the leaves still to come. What waits is kept only if leaves are scored
+pub record Sown (s : Settings) (logs : List Float) (counts : List ℕ) (x : Flat) (n : NodeLists) (q : QueueLists) (sum : Sum) (scored uses : Bool)
+    (lent : NodeLists) (st : State singles) (left : List Row) : Type 0 where
+  pub fitting : Fitting s logs counts x
+  pub modes : usesOf s x ≡ uses
+  pub rows : heldIn x ≡ st .rows ++ left
+  pub nodes : n ≡ holding (st .tree) lent
+  pub queued : scored ≡ true → Queued (sum .waiting) q (queueOf (st .tree))
+  pub idle : scored ≡ false → sum .waiting ≡ 0
+  pub summed : sum .bits ≡ st .bits
+
+-- what stands beside node i in the lists
+abbrev pub infoAt : NodeLists → ℕ → Info singles
+infoAt n i = record { cost = getD (n .costs) i nan; pred = predAt (n .words) i; offset = offsetAt (n .values) i }
+
+-- ---- one node
+
+-- a split or a leaf without rows, as it stands in the node lists
+abbrev pub keptNode : Node → Info singles → Entry singles
+keptNode (split prop val gt le) i = seedSplit (split prop val gt le) 0
+keptNode leaf i = emptyLeaf i 0
+
+-- a leaf over the rows from first to end can be evaluated as node i, and there is room for it, and in the queue if it is scored
+pub record LeafReady (s : Settings) (logs : List Float) (counts : List ℕ) (x : Flat) (n : NodeLists) (q : QueueLists) (sum : Sum) (i first end : ℕ)
+    (scored : Bool) : Type 0 where
+  pub fitting : Fitting s logs counts x
+  pub logs-small : LogsWithin (rowCount x) logs
+  pub spanned : Spanned (span first end) x
+  pub room : HasRoom (i + 1) n
+  pub few : i < maxNodes
+  pub queue-room : scored ≡ true → QueueRoom (sum .waiting + 1) q
+
+-- it was: what it came to is written, waits if it offers a split, and its cost is added
+pub record LeafPlanted (s : Settings) (logs : List Float) (counts counts' : List ℕ) (x y : Flat) (n n' : NodeLists) (q q' : QueueLists) (sum sum' : Sum)
+    (i first end depth : ℕ) (scored : Bool) : Type 0 where
+  pub leaf : Leaf
+  pub made : MadeLeaf scored s logs depth (span first end) x y leaf
+  pub nodes : n' ≡ put i (leafWith (leaf .info) first end) n
+  pub queued : (leaves : List (Waiting singles)) → Queued (sum .waiting) q leaves → Queued (sum' .waiting) q' (leaves ++ waits i depth (offerIs (leaf .offer)))
+  pub many : sum' .waiting ≡ sum .waiting + length (waits i depth (offerIs (leaf .offer)))
+  pub queue : SameQueue q q'
+  pub summed : sum' .bits ≡ add binary64 (sum .bits) (leaf .info .cost)
+  pub zeros : counts' ≡ counts
+
+-- node i can be planted: its span is one of the lists, and there is room for it, and in the queue if it is a leaf that is scored
+pub record NodeFits (s : Settings) (logs : List Float) (counts : List ℕ) (x : Flat) (n : NodeLists) (q : QueueLists) (sum : Sum) (i : ℕ)
+    (scored : Bool) : Type 0 where
+  pub fitting : Fitting s logs counts x
+  pub logs-small : LogsWithin (rowCount x) logs
+  pub spanned : Spanned (spanAt (n .spans) i) x
+  pub room : HasRoom (i + 1) n
+  pub few : i < maxNodes
+  pub queue-room : scored ≡ true → eqb (kindAt (n .words) i) 1 ≡ false → QueueRoom (sum .waiting + 1) q
+
+-- node i is the next of the state, and its span holds the rows `mine`; a split has none
+pub record NextIs (n : NodeLists) (i : ℕ) (lent : NodeLists) (st : State singles) (mine : List Row) : Type 0 where
+  pub counted : length (st .tree) ≡ i
+  pub first : spanAt (n .spans) i .first ≡ length (st .rows)
+  pub end : spanAt (n .spans) i .end ≡ length (st .rows) + length mine
+  pub bare : eqb (kindAt (n .words) i) 1 ≡ true → mine ≡ []
+  pub room : HasRoom (i + 1) lent
+
+-- every state that the lists held has gained node i, as the model gains it
+pub record NodePlanted (s : Settings) (logs : List Float) (counts counts' : List ℕ) (x y : Flat) (n n' : NodeLists) (q q' : QueueLists) (sum sum' : Sum)
+    (i depth : ℕ) (scored : Bool) : Type 0 where
+  pub size : SameSize x y
+  pub queue : SameQueue q q'
+  pub zeros : counts' ≡ counts
+  pub risen : sum' .waiting ≤ sum .waiting + cond (eqb (kindAt (n .words) i) 1) 0 1
+  pub sown : (uses : Bool) (lent : NodeLists) (st : State singles) (mine left : List Row) → Sown s logs counts x n q sum scored uses lent st (mine ++ left)
+      → NextIs n i lent st mine
+      → Sown s logs counts' y n' q' sum' scored uses lent
+      (withSeedNode (jobOf single (settingsOf s) logs uses) (nodeAt (n .words) (n .values) i) (infoAt n i) depth mine st) left
+
+-- ---- all nodes
+
+-- the rows stand in the order of the seed's leaves, whose spans stand in the span list; they were given in another order
+pub record Plants (s : Settings) (logs : List Float) (counts : List ℕ) (x : Flat) (n : NodeLists) (q : QueueLists) (count : ℕ) (scored : Bool)
+    (given : List Row) : Type 0 where
+  pub fitting : Fitting s logs counts x
+  pub logs-small : LogsWithin (rowCount x) logs
+  pub room : HasRoom count n
+  pub sound : faultOf (seedIn count n) ≡ none
+  pub rows : heldIn x ≡ orderedBy (leafNumbers (nodesOf (seedIn count n)) given) count given
+  pub many : length given ≡ rowCount x
+  pub spans : (i : ℕ) → i < count → spanAt (n .spans) i ≡ span (firstOf (leafNumbers (nodesOf (seedIn count n)) given) i)
+      (firstOf (leafNumbers (nodesOf (seedIn count n)) given) (suc i))
+  pub queue-room : scored ≡ true → QueueRoom (leafCount (nodesOf (seedIn count n))) q
+
+-- there are such rows
+pub record Plantable (s : Settings) (logs : List Float) (counts : List ℕ) (x : Flat) (n : NodeLists) (q : QueueLists) (count : ℕ) (scored : Bool) : Type 0 where
+  pub given : List Row
+  pub plants : Plants s logs counts x n q count scored given
+
+-- the first i nodes of the seed are planted
+pub record PlantedTo (s : Settings) (logs : List Float) (counts counts' : List ℕ) (x y : Flat) (n n' : NodeLists) (q q' : QueueLists) (sum : Sum)
+    (count i : ℕ) (scored : Bool) (given : List Row) : Type 0 where
+  pub size : SameSize x y
+  pub queue : SameQueue q q'
+  pub zeros : counts' ≡ counts
+  pub few : sum .waiting ≤ leafCount (take i (nodesOf (seedIn count n)))
+  pub sown : Sown s logs counts' y n' q' sum scored (usesOf s x) n (seededTo (jobOf single (settingsOf s) logs (usesOf s x)) (seedIn count n) given i)
+      (drop (firstOf (leafNumbers (nodesOf (seedIn count n)) given) i) (heldIn x))
