@@ -1,9 +1,10 @@
 //! Times the port against the original, in one process and on the same rows:
 //!
-//!     gen digits-65536 SEED 1 | bench
+//!     bench [learning] < jobs
 //!
-//! The original is compiled from the oracle's copy, by the same names; learning and
-//! scoring come in as further rows beside `parts`.
+//! The jobs are of learning. Each one is learned whole; the parts are timed on each that
+//! has 65,536 rows and residuals, unless `learning` alone is asked for. The original is
+//! compiled from the oracle's copy, by the same names.
 
 #[path = "lent.rs"]
 mod adaptive_quant;
@@ -16,6 +17,7 @@ mod coder_scratch;
 #[path = "../../oracle/src/oracle/entropy.rs"]
 #[allow(dead_code, unused_imports)]
 mod entropy;
+mod learning;
 #[path = "../../oracle/target/generated/ma_tree/mod.rs"]
 #[allow(dead_code, unused_imports)]
 mod ma_tree;
@@ -36,13 +38,14 @@ use std::io::{self, BufReader};
 use std::process::ExitCode;
 use stream::{Damaged, Job, read_message};
 
+const ROWS: usize = 65_536;
+
 fn main() -> ExitCode {
-    match read_sheet() {
-        Ok(sheet) => {
-            timing::heading();
-            parts::all(&sheet);
-            ExitCode::SUCCESS
-        }
+    let learning_alone = std::env::args()
+        .nth(1)
+        .is_some_and(|word| word == "learning");
+    match run(learning_alone) {
+        Ok(()) => ExitCode::SUCCESS,
         Err(damaged) => {
             eprintln!("bench: {damaged}");
             ExitCode::FAILURE
@@ -50,11 +53,18 @@ fn main() -> ExitCode {
     }
 }
 
-fn read_sheet() -> Result<Sheet, Damaged> {
+fn run(learning_alone: bool) -> Result<(), Damaged> {
     let mut input = BufReader::new(io::stdin().lock());
-    let message = read_message(&mut input)?;
-    match message.as_ref().map(Job::read).transpose()? {
-        Some(Job::Learn(job)) => Ok(Sheet::of(job)),
-        _ => Err(Damaged("a job of learning is wanted".into())),
+    timing::heading();
+    while let Some(message) = read_message(&mut input)? {
+        let Job::Learn(job) = Job::read(&message)? else {
+            return Err(Damaged("a job of learning is wanted".into()));
+        };
+        let sheet = Sheet::of(&job);
+        if !learning_alone && sheet.len() == ROWS && sheet.res.len() == ROWS {
+            parts::all(&sheet);
+        }
+        learning::learning(&sheet, &job.settings);
     }
+    Ok(())
 }

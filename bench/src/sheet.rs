@@ -13,22 +13,18 @@ pub struct Sheet {
 }
 
 impl Sheet {
-    pub fn of(job: Learning) -> Self {
-        assert!(
-            !job.residuals.is_empty(),
-            "a sheet with residuals is wanted"
-        );
+    pub fn of(job: &Learning) -> Self {
         Self {
             props: job.properties.as_chunks().0.to_vec(),
             tok: job.tokens.as_chunks().0.to_vec(),
-            res: job.residuals,
+            res: job.residuals.clone(),
             alphabet: job.settings.alphabet as usize,
-            logs: job.logarithms.leak(),
+            logs: job.logarithms.clone().leak(),
         }
     }
 
     pub fn len(&self) -> usize {
-        self.res.len()
+        self.props.len()
     }
 
     /// The original's rows, in 32 bits as the port's are.
@@ -43,8 +39,11 @@ impl Sheet {
     /// The original's rows in 16 bits, as it holds them where they fit.
     pub fn narrow(&self) -> MaSamples {
         let mut samples = MaSamples::with_capacity(self.len());
-        for ((&props, &tok), &res) in self.props.iter().zip(&self.tok).zip(&self.res) {
-            samples.push_val(props, tok, res);
+        for (row, (&props, &tok)) in self.props.iter().zip(&self.tok).enumerate() {
+            match self.res.get(row) {
+                Some(&res) => samples.push_val(props, tok, res),
+                None => samples.push(props, tok),
+            }
         }
         samples
     }

@@ -1,14 +1,15 @@
 //! The driver: reads jobs on standard input, writes what the port answers on standard
-//! output. A job of a kind that the port does not have gets an empty body.
+//! output.
 //!
 //!     driver < jobs > answers
 
+mod learning;
 mod operations;
 
 use port::Counts;
 use std::io::{self, BufReader, BufWriter, Write};
 use std::process::ExitCode;
-use stream::{Damaged, Job, Message, read_message, write_message};
+use stream::{Damaged, Job, read_message, write_message};
 
 fn main() -> ExitCode {
     if std::env::args().len() != 1 {
@@ -29,14 +30,8 @@ fn answer_all() -> Result<(), Damaged> {
     let mut output = BufWriter::with_capacity(1 << 20, io::stdout().lock());
     let mut counts = Counts::default();
     while let Some(message) = read_message(&mut input)? {
-        let answer = match operations::answer(Job::read(&message)?, &mut counts) {
-            Some(answer) => answer.message(),
-            None => Message {
-                kind: message.kind,
-                body: Vec::new(),
-            },
-        };
-        write_message(&mut output, &answer)?;
+        let answer = operations::answer(Job::read(&message)?, &mut counts);
+        write_message(&mut output, &answer.message())?;
     }
     output.flush()?;
     Ok(())

@@ -1,6 +1,7 @@
 //! From a job to the port's answer: lays the job out as the port wants it, and the
 //! answer as the stream does.
 
+use crate::learning;
 use port::{CANDIDATES, Counts, Rows};
 use stream::{
     Answer, Contexts, ContextsJob, Found, Job, Kind, LookupJob, PREDICTORS, PROPERTIES, Record,
@@ -8,12 +9,12 @@ use stream::{
 };
 
 /// What a queue entry prints as that is neither zero nor untouched.
-const OTHER: u32 = 4_294_967_294;
+pub const OTHER: u32 = 4_294_967_294;
 
-/// `None` for a kind that the port does not have yet: learning, deepening, pruning.
-pub fn answer(job: Job, counts: &mut Counts) -> Option<Answer> {
-    Some(match job {
-        Job::Learn(_) | Job::Deepen(_) | Job::Prune(_) => return None,
+pub fn answer(job: Job, counts: &mut Counts) -> Answer {
+    match job {
+        Job::Learn(job) => Answer::Learned(learning::learn(job, false)),
+        Job::Deepen(job) => Answer::Deepened(learning::learn(job, true)),
         Job::Lookup(job) => Answer::Found(lookup(&job)),
         Job::Contexts(job) => Answer::Contexts(contexts(&job)),
         Job::Sample(job) => Answer::Sampled(sample(&job)),
@@ -23,18 +24,19 @@ pub fn answer(job: Job, counts: &mut Counts) -> Option<Answer> {
         Job::Mode(residuals) => mode(&residuals, counts),
         Job::Candidates(column, limit) => candidates(&column, limit, counts),
         Job::Partition(column, threshold) => partition(&column, threshold),
-    })
+        Job::Prune(job) => Answer::Pruned(learning::prune(&job)),
+    }
 }
 
 /// A node list as the port holds it: five words and two values a node. What a node
 /// costs is read by neither lookup nor contexts.
-struct Nodes {
-    words: Vec<u32>,
-    values: Vec<i32>,
+pub struct Nodes {
+    pub words: Vec<u32>,
+    pub values: Vec<i32>,
 }
 
 impl Nodes {
-    fn of(records: &[Record]) -> Self {
+    pub fn of(records: &[Record]) -> Self {
         let words = |r: &Record| [u32::from(r.kind == Kind::Split), r.prop, r.gt, r.le, r.pred];
         Self {
             words: records.iter().flat_map(words).collect(),
@@ -75,13 +77,19 @@ fn contexts(job: &ContextsJob) -> Contexts {
 }
 
 fn queue_runs(queue: &[u32], fill: u32) -> Runs {
-    let mut runs: Vec<(u32, u32)> = Vec::new();
-    for &entry in queue {
-        let printed = if entry == 0 || entry == fill {
+    let printed = |&entry: &u32| {
+        if entry == 0 || entry == fill {
             entry
         } else {
             OTHER
-        };
+        }
+    };
+    runs(queue.iter().map(printed))
+}
+
+pub fn runs(entries: impl Iterator<Item = u32>) -> Runs {
+    let mut runs: Vec<(u32, u32)> = Vec::new();
+    for printed in entries {
         match runs.last_mut() {
             Some((value, length)) if *value == printed => *length += 1,
             _ => runs.push((printed, 1)),

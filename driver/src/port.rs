@@ -44,11 +44,120 @@ pub struct Count {
     pub count: u32,
 }
 
+/// A learned tree; number 0 says that there is one.
+#[repr(C)]
+pub struct LearnedTree {
+    pub number: u32,
+    pub place: u32,
+    pub nodes: u32,
+    pub leaves: u32,
+    pub bits: f64,
+    pub flat: f64,
+}
+
+/// How many nodes pruning leaves, and their estimated bits.
+#[repr(C)]
+pub struct PrunedTree {
+    pub nodes: usize,
+    pub bits: f64,
+}
+
+/// The settings of learning, in document 01's order.
+#[derive(Clone, Copy)]
+pub struct Settings {
+    pub alphabet: u32,
+    pub max_leaves: u32,
+    pub split_cost_bits: f32,
+    pub prune_leaf_bits: f32,
+    pub min_node: u32,
+    pub side_preds: u32,
+    pub max_candidates: u32,
+    pub allow_wp: bool,
+    pub allowed_preds: u16,
+    pub modal_offsets: bool,
+    pub settle: bool,
+}
+
 mod c {
-    use super::{Count, Encoding, Leaf, Read};
+    use super::{Count, Encoding, Leaf, LearnedTree, PrunedTree, Read};
 
     // Each slice is a pointer and a length.
     unsafe extern "C" {
+        pub fn ostrovuc_learn(
+            props: *mut i32,
+            props_length: usize,
+            tok: *mut u8,
+            tok_length: usize,
+            res: *mut i32,
+            res_length: usize,
+            words: *mut u32,
+            words_length: usize,
+            values: *mut i32,
+            values_length: usize,
+            costs: *mut f32,
+            costs_length: usize,
+            spans: *mut u32,
+            spans_length: usize,
+            queue_words: *mut u32,
+            queue_words_length: usize,
+            queue_values: *mut i32,
+            queue_values_length: usize,
+            queue_gains: *mut f32,
+            queue_gains_length: usize,
+            counts: *mut u32,
+            counts_length: usize,
+            logs: *const f32,
+            logs_length: usize,
+            alphabet: u32,
+            max_leaves: u32,
+            split_cost_bits: f32,
+            prune_leaf_bits: f32,
+            min_node: u32,
+            side_preds: u32,
+            max_candidates: u32,
+            allow_wp: bool,
+            allowed_preds: u16,
+            modal_offsets: bool,
+            settle: bool,
+        ) -> LearnedTree;
+        pub fn ostrovuc_deepen(
+            props: *mut i32,
+            props_length: usize,
+            tok: *mut u8,
+            tok_length: usize,
+            res: *mut i32,
+            res_length: usize,
+            words: *mut u32,
+            words_length: usize,
+            values: *mut i32,
+            values_length: usize,
+            costs: *mut f32,
+            costs_length: usize,
+            spans: *mut u32,
+            spans_length: usize,
+            queue_words: *mut u32,
+            queue_words_length: usize,
+            queue_values: *mut i32,
+            queue_values_length: usize,
+            queue_gains: *mut f32,
+            queue_gains_length: usize,
+            counts: *mut u32,
+            counts_length: usize,
+            logs: *const f32,
+            logs_length: usize,
+            alphabet: u32,
+            max_leaves: u32,
+            split_cost_bits: f32,
+            prune_leaf_bits: f32,
+            min_node: u32,
+            side_preds: u32,
+            max_candidates: u32,
+            allow_wp: bool,
+            allowed_preds: u16,
+            modal_offsets: bool,
+            settle: bool,
+            count: u32,
+        ) -> LearnedTree;
         pub safe fn ostrovuc_pack_signed(value: i32) -> u32;
         pub safe fn ostrovuc_uint_encode(value: u32) -> Encoding;
         pub safe fn ostrovuc_token_value(token: u32, extra: u32) -> Read;
@@ -78,6 +187,18 @@ mod c {
             queue: *mut u32,
             queue_length: usize,
         ) -> Count;
+        pub fn ostrovuc_prune(
+            words: *mut u32,
+            words_length: usize,
+            values: *mut i32,
+            values_length: usize,
+            costs: *mut f32,
+            costs_length: usize,
+            spans: *mut u32,
+            spans_length: usize,
+            count: usize,
+            price: f32,
+        ) -> PrunedTree;
         pub fn ostrovuc_partition(
             props: *mut i32,
             props_length: usize,
@@ -227,6 +348,137 @@ impl Rows {
                 threshold,
             )
         }
+    }
+}
+
+/// What learning is lent besides the rows. A node has five words (kind, property, gt, le,
+/// predictor), two values (threshold, offset), a cost and a span of two rows; a waiting
+/// leaf three words, a value and a gain.
+pub struct Lent {
+    pub words: Vec<u32>,
+    pub values: Vec<i32>,
+    pub costs: Vec<f32>,
+    pub spans: Vec<u32>,
+    pub queue_words: Vec<u32>,
+    pub queue_values: Vec<i32>,
+    pub queue_gains: Vec<f32>,
+    pub counts: Vec<u32>,
+}
+
+pub fn learn(rows: &mut Rows, lent: &mut Lent, logs: &[f32], s: Settings) -> LearnedTree {
+    // SAFETY: the pointers and the lengths are lists'; nothing more is asked.
+    unsafe {
+        c::ostrovuc_learn(
+            rows.props.as_mut_ptr(),
+            rows.props.len(),
+            rows.tok.as_mut_ptr(),
+            rows.tok.len(),
+            rows.res.as_mut_ptr(),
+            rows.res.len(),
+            lent.words.as_mut_ptr(),
+            lent.words.len(),
+            lent.values.as_mut_ptr(),
+            lent.values.len(),
+            lent.costs.as_mut_ptr(),
+            lent.costs.len(),
+            lent.spans.as_mut_ptr(),
+            lent.spans.len(),
+            lent.queue_words.as_mut_ptr(),
+            lent.queue_words.len(),
+            lent.queue_values.as_mut_ptr(),
+            lent.queue_values.len(),
+            lent.queue_gains.as_mut_ptr(),
+            lent.queue_gains.len(),
+            lent.counts.as_mut_ptr(),
+            lent.counts.len(),
+            logs.as_ptr(),
+            logs.len(),
+            s.alphabet,
+            s.max_leaves,
+            s.split_cost_bits,
+            s.prune_leaf_bits,
+            s.min_node,
+            s.side_preds,
+            s.max_candidates,
+            s.allow_wp,
+            s.allowed_preds,
+            s.modal_offsets,
+            s.settle,
+        )
+    }
+}
+
+pub fn deepen(
+    rows: &mut Rows,
+    lent: &mut Lent,
+    logs: &[f32],
+    s: Settings,
+    count: u32,
+) -> LearnedTree {
+    // SAFETY: the pointers and the lengths are lists'; nothing more is asked.
+    unsafe {
+        c::ostrovuc_deepen(
+            rows.props.as_mut_ptr(),
+            rows.props.len(),
+            rows.tok.as_mut_ptr(),
+            rows.tok.len(),
+            rows.res.as_mut_ptr(),
+            rows.res.len(),
+            lent.words.as_mut_ptr(),
+            lent.words.len(),
+            lent.values.as_mut_ptr(),
+            lent.values.len(),
+            lent.costs.as_mut_ptr(),
+            lent.costs.len(),
+            lent.spans.as_mut_ptr(),
+            lent.spans.len(),
+            lent.queue_words.as_mut_ptr(),
+            lent.queue_words.len(),
+            lent.queue_values.as_mut_ptr(),
+            lent.queue_values.len(),
+            lent.queue_gains.as_mut_ptr(),
+            lent.queue_gains.len(),
+            lent.counts.as_mut_ptr(),
+            lent.counts.len(),
+            logs.as_ptr(),
+            logs.len(),
+            s.alphabet,
+            s.max_leaves,
+            s.split_cost_bits,
+            s.prune_leaf_bits,
+            s.min_node,
+            s.side_preds,
+            s.max_candidates,
+            s.allow_wp,
+            s.allowed_preds,
+            s.modal_offsets,
+            s.settle,
+            count,
+        )
+    }
+}
+
+/// Prunes the tree of the first `count` nodes at a price.
+///
+/// # Safety
+///
+/// The lists hold a sound tree of `count` nodes, with 0 for what a leaf does not have; no
+/// cost is NaN, and neither is the price.
+pub unsafe fn prune(lent: &mut Lent, count: usize, price: f32) -> PrunedTree {
+    // SAFETY: the pointers and the lengths are lists'; the caller sees to the rest.
+    unsafe {
+        c::ostrovuc_prune(
+            lent.words.as_mut_ptr(),
+            lent.words.len(),
+            lent.values.as_mut_ptr(),
+            lent.values.len(),
+            lent.costs.as_mut_ptr(),
+            lent.costs.len(),
+            lent.spans.as_mut_ptr(),
+            lent.spans.len(),
+            count,
+            price,
+        )
     }
 }
 

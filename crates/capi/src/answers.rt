@@ -4,8 +4,9 @@ ghost use mathlib.Core.Path.{_≡_};
 ghost use Rattle.model.specs.Token.{answerOf};
 ghost use Rattle.rows.specs.Sampled.{outcomeOf};
 ghost use Rattle.tree.specs.Answers.{leafFound, contextsCounted};
-ghost use Rattle.capi.specs.Answers.{valueIn, foundIn, countIn, plannedIn};
+ghost use Rattle.capi.specs.Answers.{valueIn, foundIn, countIn, learnedIn, plannedIn};
 use candidates::Plan;
+use learn::Learned;
 use model::TokenValue;
 use rows::Sampled;
 use tree::answers::Contexts;
@@ -41,6 +42,24 @@ pub struct Count {
     pub number: u32,
     pub place: u32,
     pub count: u32,
+}
+
+// A learned tree: how many nodes and leaves it has, its estimated bits and the flat bits.
+#[repr(C)]
+pub struct LearnedTree {
+    pub number: u32,
+    pub place: u32,
+    pub nodes: u32,
+    pub leaves: u32,
+    pub bits: f64,
+    pub flat: f64,
+}
+
+// How many nodes pruning leaves, and their estimated bits.
+#[repr(C)]
+pub struct PrunedTree {
+    pub nodes: usize,
+    pub bits: f64,
 }
 
 pub fn value_answer(r: TokenValue) -> Read
@@ -104,6 +123,34 @@ pub fn sampled_answer(r: Sampled) -> Count
             number,
             place,
             count: 0,
+        },
+    }
+}
+
+pub fn learned_answer(r: Learned) -> LearnedTree
+    ensures { λ a. ⌜ a ≡ learnedIn r ⌝ }
+{
+    match r {
+        Learned::Grown {
+            nodes,
+            leaves,
+            bits,
+            flat,
+        } => LearnedTree {
+            number: 0,
+            place: 0,
+            nodes,
+            leaves,
+            bits,
+            flat,
+        },
+        Learned::Refused { number, place } => LearnedTree {
+            number,
+            place,
+            nodes: 0,
+            leaves: 0,
+            bits: 0.0,
+            flat: 0.0,
         },
     }
 }

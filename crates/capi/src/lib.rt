@@ -1,5 +1,5 @@
-// The exports for C and Rust: slices come as pointer and length. Learning and deepening belong here once they are joined (their answers are structs
-// beside those of `answers`); the single leaves are for the driver that compares with the Rust, and for the benchmark.
+// The exports for C and Rust: a slice comes as two arguments, pointer and length. Deepening belongs here once it is joined; the single leaves are
+// for the driver that compares with the Rust, and for the benchmark.
 ghost use mathlib.Core.Path.{_≡_};
 ghost use mathlib.Core.List.{List};
 ghost use Prim.Native.Nat.{_*_};
@@ -11,7 +11,8 @@ ghost use Rattle.model.specs.Single.{singles};
 ghost use Rattle.model.specs.Lists.{writtenOver};
 ghost use Rattle.model.specs.Candidates.{candidatesOf};
 ghost use Rattle.model.specs.Cost.{logOf, entropyFrom};
-ghost use Rattle.model.specs.Operations.{lookup, leafContexts, sample};
+ghost use Rattle.model.specs.Operations.{learn, deepen, lookup, leafContexts, sample};
+ghost use Rattle.model.specs.Profile.{single};
 ghost use Rattle.rows.specs.Flat.{flat};
 ghost use Rattle.rows.specs.Cells.{span};
 ghost use Rattle.rows.specs.Parted.{Divisible, Partitioned};
@@ -22,14 +23,23 @@ ghost use Rattle.candidates.specs.Plan.{Pickable};
 ghost use Rattle.cost.specs.Counted.{Counted};
 ghost use Rattle.cost.specs.Histograms.{SpanFits, CountsSpan};
 ghost use Rattle.layout.specs.Layout.{storedIn};
-ghost use Rattle.capi.specs.Answers.{valueIn, foundIn, countIn};
+ghost use Rattle.checks.specs.Given.{settingsOf};
+ghost use Rattle.layout.specs.Tree.{NodeLists, nodeLists};
+ghost use Rattle.layout.specs.Waiting.{queueLists};
+ghost use Rattle.lent.specs.Lists.{lists, lentIn, learnLists, deepenLists};
+ghost use Rattle.model.specs.Grow.{Entry};
+ghost use Rattle.prune.specs.Held.{Prunable, HoldsTree, PrunedAs};
+ghost use Rattle.capi.specs.Answers.{valueIn, foundIn, countIn, treeIn};
 
 pub mod answers;
 
 use answers::Count;
 use answers::Encoding;
 use answers::Leaf;
+use answers::LearnedTree;
+use answers::PrunedTree;
 use answers::Read;
+use checks::Settings;
 
 // ---- operations: no condition on what is handed in
 
@@ -97,7 +107,289 @@ pub extern "C" fn ostrovuc_leaf_contexts(
     answers::contexts_answer(tree::leaf_contexts(words, values, count, contexts, queue))
 }
 
+// A node's words and values are as in `ostrovuc_lookup`, with a cost each and a span of two rows; a waiting leaf has three words, a value and a gain. A refusal leaves
+// every list as it was.
+#[no_mangle]
+pub extern "C" fn ostrovuc_learn(
+    props: &mut [i32],
+    tok: &mut [u8],
+    res: &mut [i32],
+    words: &mut [u32],
+    values: &mut [i32],
+    costs: &mut [f32],
+    spans: &mut [u32],
+    queue_words: &mut [u32],
+    queue_values: &mut [i32],
+    queue_gains: &mut [f32],
+    counts: &mut [u32],
+    logs: &[f32],
+    alphabet: u32,
+    max_leaves: u32,
+    split_cost_bits: f32,
+    prune_leaf_bits: f32,
+    min_node: u32,
+    side_preds: u32,
+    max_candidates: u32,
+    allow_wp: bool,
+    allowed_preds: u16,
+    modal_offsets: bool,
+    settle: bool,
+) -> LearnedTree
+    ensures { λ r. ⌜ r ≡ treeIn (learnLists (settingsOf (record {
+      alphabet = alphabet;
+      «max_leaves» = «max_leaves»;
+      «split_cost_bits» = «split_cost_bits»;
+      «prune_leaf_bits» = «prune_leaf_bits»;
+      «min_node» = «min_node»;
+      «side_preds» = «side_preds»;
+      «max_candidates» = «max_candidates»;
+      «allow_wp» = «allow_wp»;
+      «allowed_preds» = «allowed_preds»;
+      «modal_offsets» = «modal_offsets»;
+      settle = settle;
+    })) (now (logs .entry))
+        (lists (flat (now (props .entry)) (now (tok .entry)) (now (res .entry)))
+        (nodeLists (now (words .entry)) (now (values .entry)) (now (costs .entry)) (now (spans .entry)))
+        (queueLists (now («queue_words» .entry)) (now («queue_values» .entry)) (now («queue_gains» .entry))) (now (counts .entry))) .outcome) ⌝ }
+    ensures { λ _. ⌜ lists (flat (now (props .exit)) (now (tok .exit)) (now (res .exit)))
+        (nodeLists (now (words .exit)) (now (values .exit)) (now (costs .exit)) (now (spans .exit)))
+        (queueLists (now («queue_words» .exit)) (now («queue_values» .exit)) (now («queue_gains» .exit))) (now (counts .exit))
+        ≡ learnLists (settingsOf (record {
+          alphabet = alphabet;
+          «max_leaves» = «max_leaves»;
+          «split_cost_bits» = «split_cost_bits»;
+          «prune_leaf_bits» = «prune_leaf_bits»;
+          «min_node» = «min_node»;
+          «side_preds» = «side_preds»;
+          «max_candidates» = «max_candidates»;
+          «allow_wp» = «allow_wp»;
+          «allowed_preds» = «allowed_preds»;
+          «modal_offsets» = «modal_offsets»;
+          settle = settle;
+        })) (now (logs .entry))
+        (lists (flat (now (props .entry)) (now (tok .entry)) (now (res .entry)))
+        (nodeLists (now (words .entry)) (now (values .entry)) (now (costs .entry)) (now (spans .entry)))
+        (queueLists (now («queue_words» .entry)) (now («queue_values» .entry)) (now («queue_gains» .entry))) (now (counts .entry))) .lent ⌝ }
+    ensures { λ r. ⌜ r ≡ treeIn (learn single (settingsOf (record {
+      alphabet = alphabet;
+      «max_leaves» = «max_leaves»;
+      «split_cost_bits» = «split_cost_bits»;
+      «prune_leaf_bits» = «prune_leaf_bits»;
+      «min_node» = «min_node»;
+      «side_preds» = «side_preds»;
+      «max_candidates» = «max_candidates»;
+      «allow_wp» = «allow_wp»;
+      «allowed_preds» = «allowed_preds»;
+      «modal_offsets» = «modal_offsets»;
+      settle = settle;
+    })) (now (logs .entry))
+        (lentIn (lists (flat (now (props .entry)) (now (tok .entry)) (now (res .entry)))
+        (nodeLists (now (words .entry)) (now (values .entry)) (now (costs .entry)) (now (spans .entry)))
+        (queueLists (now («queue_words» .entry)) (now («queue_values» .entry)) (now («queue_gains» .entry))) (now (counts .entry)))) .outcome) ⌝ }
+    ensures { λ _. ⌜ lentIn (lists (flat (now (props .exit)) (now (tok .exit)) (now (res .exit)))
+        (nodeLists (now (words .exit)) (now (values .exit)) (now (costs .exit)) (now (spans .exit)))
+        (queueLists (now («queue_words» .exit)) (now («queue_values» .exit)) (now («queue_gains» .exit))) (now (counts .exit)))
+        ≡ learn single (settingsOf (record {
+          alphabet = alphabet;
+          «max_leaves» = «max_leaves»;
+          «split_cost_bits» = «split_cost_bits»;
+          «prune_leaf_bits» = «prune_leaf_bits»;
+          «min_node» = «min_node»;
+          «side_preds» = «side_preds»;
+          «max_candidates» = «max_candidates»;
+          «allow_wp» = «allow_wp»;
+          «allowed_preds» = «allowed_preds»;
+          «modal_offsets» = «modal_offsets»;
+          settle = settle;
+        })) (now (logs .entry))
+        (lentIn (lists (flat (now (props .entry)) (now (tok .entry)) (now (res .entry)))
+        (nodeLists (now (words .entry)) (now (values .entry)) (now (costs .entry)) (now (spans .entry)))
+        (queueLists (now («queue_words» .entry)) (now («queue_values» .entry)) (now («queue_gains» .entry))) (now (counts .entry)))) .lent ⌝ }
+{
+    let s = Settings {
+        alphabet,
+        max_leaves,
+        split_cost_bits,
+        prune_leaf_bits,
+        min_node,
+        side_preds,
+        max_candidates,
+        allow_wp,
+        allowed_preds,
+        modal_offsets,
+        settle,
+    };
+    answers::learned_answer(learn::learn_ma_tree_in_place(
+        props,
+        tok,
+        res,
+        words,
+        values,
+        costs,
+        spans,
+        queue_words,
+        queue_values,
+        queue_gains,
+        counts,
+        logs,
+        s,
+    ))
+}
+
+// Deepens the tree of the first `count` nodes; the lists are as in `ostrovuc_learn`.
+#[no_mangle]
+pub extern "C" fn ostrovuc_deepen(
+    props: &mut [i32],
+    tok: &mut [u8],
+    res: &mut [i32],
+    words: &mut [u32],
+    values: &mut [i32],
+    costs: &mut [f32],
+    spans: &mut [u32],
+    queue_words: &mut [u32],
+    queue_values: &mut [i32],
+    queue_gains: &mut [f32],
+    counts: &mut [u32],
+    logs: &[f32],
+    alphabet: u32,
+    max_leaves: u32,
+    split_cost_bits: f32,
+    prune_leaf_bits: f32,
+    min_node: u32,
+    side_preds: u32,
+    max_candidates: u32,
+    allow_wp: bool,
+    allowed_preds: u16,
+    modal_offsets: bool,
+    settle: bool,
+    count: u32,
+) -> LearnedTree
+    ensures { λ r. ⌜ r ≡ treeIn (deepenLists (settingsOf (record {
+      alphabet = alphabet;
+      «max_leaves» = «max_leaves»;
+      «split_cost_bits» = «split_cost_bits»;
+      «prune_leaf_bits» = «prune_leaf_bits»;
+      «min_node» = «min_node»;
+      «side_preds» = «side_preds»;
+      «max_candidates» = «max_candidates»;
+      «allow_wp» = «allow_wp»;
+      «allowed_preds» = «allowed_preds»;
+      «modal_offsets» = «modal_offsets»;
+      settle = settle;
+    })) (now (logs .entry)) count
+        (lists (flat (now (props .entry)) (now (tok .entry)) (now (res .entry)))
+        (nodeLists (now (words .entry)) (now (values .entry)) (now (costs .entry)) (now (spans .entry)))
+        (queueLists (now («queue_words» .entry)) (now («queue_values» .entry)) (now («queue_gains» .entry))) (now (counts .entry))) .outcome) ⌝ }
+    ensures { λ _. ⌜ lists (flat (now (props .exit)) (now (tok .exit)) (now (res .exit)))
+        (nodeLists (now (words .exit)) (now (values .exit)) (now (costs .exit)) (now (spans .exit)))
+        (queueLists (now («queue_words» .exit)) (now («queue_values» .exit)) (now («queue_gains» .exit))) (now (counts .exit))
+        ≡ deepenLists (settingsOf (record {
+          alphabet = alphabet;
+          «max_leaves» = «max_leaves»;
+          «split_cost_bits» = «split_cost_bits»;
+          «prune_leaf_bits» = «prune_leaf_bits»;
+          «min_node» = «min_node»;
+          «side_preds» = «side_preds»;
+          «max_candidates» = «max_candidates»;
+          «allow_wp» = «allow_wp»;
+          «allowed_preds» = «allowed_preds»;
+          «modal_offsets» = «modal_offsets»;
+          settle = settle;
+        })) (now (logs .entry)) count
+        (lists (flat (now (props .entry)) (now (tok .entry)) (now (res .entry)))
+        (nodeLists (now (words .entry)) (now (values .entry)) (now (costs .entry)) (now (spans .entry)))
+        (queueLists (now («queue_words» .entry)) (now («queue_values» .entry)) (now («queue_gains» .entry))) (now (counts .entry))) .lent ⌝ }
+    ensures { λ r. ⌜ r ≡ treeIn (deepen single (settingsOf (record {
+      alphabet = alphabet;
+      «max_leaves» = «max_leaves»;
+      «split_cost_bits» = «split_cost_bits»;
+      «prune_leaf_bits» = «prune_leaf_bits»;
+      «min_node» = «min_node»;
+      «side_preds» = «side_preds»;
+      «max_candidates» = «max_candidates»;
+      «allow_wp» = «allow_wp»;
+      «allowed_preds» = «allowed_preds»;
+      «modal_offsets» = «modal_offsets»;
+      settle = settle;
+    })) (now (logs .entry)) count
+        (lentIn (lists (flat (now (props .entry)) (now (tok .entry)) (now (res .entry)))
+        (nodeLists (now (words .entry)) (now (values .entry)) (now (costs .entry)) (now (spans .entry)))
+        (queueLists (now («queue_words» .entry)) (now («queue_values» .entry)) (now («queue_gains» .entry))) (now (counts .entry)))) .outcome) ⌝ }
+    ensures { λ _. ⌜ lentIn (lists (flat (now (props .exit)) (now (tok .exit)) (now (res .exit)))
+        (nodeLists (now (words .exit)) (now (values .exit)) (now (costs .exit)) (now (spans .exit)))
+        (queueLists (now («queue_words» .exit)) (now («queue_values» .exit)) (now («queue_gains» .exit))) (now (counts .exit)))
+        ≡ deepen single (settingsOf (record {
+          alphabet = alphabet;
+          «max_leaves» = «max_leaves»;
+          «split_cost_bits» = «split_cost_bits»;
+          «prune_leaf_bits» = «prune_leaf_bits»;
+          «min_node» = «min_node»;
+          «side_preds» = «side_preds»;
+          «max_candidates» = «max_candidates»;
+          «allow_wp» = «allow_wp»;
+          «allowed_preds» = «allowed_preds»;
+          «modal_offsets» = «modal_offsets»;
+          settle = settle;
+        })) (now (logs .entry)) count
+        (lentIn (lists (flat (now (props .entry)) (now (tok .entry)) (now (res .entry)))
+        (nodeLists (now (words .entry)) (now (values .entry)) (now (costs .entry)) (now (spans .entry)))
+        (queueLists (now («queue_words» .entry)) (now («queue_values» .entry)) (now («queue_gains» .entry))) (now (counts .entry)))) .lent ⌝ }
+{
+    let s = Settings {
+        alphabet,
+        max_leaves,
+        split_cost_bits,
+        prune_leaf_bits,
+        min_node,
+        side_preds,
+        max_candidates,
+        allow_wp,
+        allowed_preds,
+        modal_offsets,
+        settle,
+    };
+    answers::learned_answer(deepen::deepen_ma_tree(
+        props,
+        tok,
+        res,
+        words,
+        values,
+        costs,
+        spans,
+        queue_words,
+        queue_values,
+        queue_gains,
+        counts,
+        logs,
+        s,
+        count,
+    ))
+}
+
 // ---- parts of the learner, for tests and benchmark alone: what a `requires` says is the caller's to see to, since C proves nothing
+
+// The tree of the first `count` entries, pruned at a price.
+#[no_mangle]
+pub extern "C" fn ostrovuc_prune(
+    words: &mut [u32],
+    values: &mut [i32],
+    costs: &mut [f32],
+    spans: &mut [u32],
+    count: usize,
+    price: f32,
+) -> PrunedTree
+    requires { ⌜ Prunable (nodeLists (now words) (now values) (now costs) (now spans)) count price ⌝ }
+    ensures { λ r. ⌜ ((tree : List (Entry singles)) (lent : NodeLists)
+        → HoldsTree (nodeLists (now (words .entry)) (now (values .entry)) (now (costs .entry)) (now (spans .entry))) count price tree lent
+        → PrunedAs price tree lent (nodeLists (now (words .exit)) (now (values .exit)) (now (costs .exit)) (now (spans .exit)))
+        (record { nodes = r .nodes; bits = r .bits })) ⌝ }
+{
+    let pruned = prune::prune_tree(words, values, costs, spans, count, price);
+    PrunedTree {
+        nodes: pruned.nodes,
+        bits: pruned.bits,
+    }
+}
 
 // Where the rows begin whose property is not above the threshold.
 #[no_mangle]

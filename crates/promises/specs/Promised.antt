@@ -1,0 +1,42 @@
+-- Demand 3, whole, about runs of the public operations (00-demands; document 01, "Demand 3's words"). `Kept`, `OneMore`, `SpansHold` and `TokensFresh` are the model's
+-- (Promise), field by field; they speak of what the operations answer and of what they leave in the lent lists. Assumes nothing.
+use Prim.Native.Nat.{ℕ, suc}
+use mathlib.Core.Path.{_≡_}
+use mathlib.Core.List.{List}
+use lib.IntN.{ℤ}
+use lib.Ieee.{Float}
+use Rattle.model.specs.Settings as model
+use Rattle.model.specs.Single.{singles}
+use Rattle.model.specs.Profile.{single}
+use Rattle.model.specs.Operations.{Tree, lookup}
+use Rattle.model.specs.Promise.{Unpruned, Kept, OneMoreOrAlike}
+use Rattle.checks.specs.Given.{settingsOf}
+use Rattle.checks.specs.declared.Settings.{Settings}
+use Rattle.layout.specs.Tree.{NodeLists, HasRoom}
+use Rattle.learn.specs.declared.Learned.{Learned}
+use Rattle.learn.specs.declared.Learned.the-variants.{Grown}
+use Rattle.lent.specs.Lists.{Lists, lentIn, storedNodes}
+use Rattle.tree.specs.Answers.{leafFound}
+use Rattle.tree.specs.declared.answers.Lookup.{Lookup}
+use Rattle.promises.specs.Runs.{Learning, Deepening, LookingUp}
+
+-- an accepted answer: node count, leaf count, estimated bits, flat bits
+abbrev pub answered : Tree singles → Learned
+answered a = Grown (a .nodes) (a .leaves) (a .bits) (a .flat)
+
+-- settings that differ only in the limit, k and k + 1
+abbrev pub OneLeafMore : Settings → Settings → Type 0
+OneLeafMore s t = settingsOf t ≡ model.withLimit (suc (s .«max_leaves»)) (settingsOf s)
+
+pub record Promised : Type 0 where
+  -- of two accepted unpruned learnings that differ only in the limit: alike in everything, or in everything but one more split
+  pub learn-more : (s t : Settings) (logs : List Float) (x y z : Lists) (a b : Tree singles) → Unpruned single (settingsOf s) → OneLeafMore s t
+      → Learning s logs x (answered a) y → Learning t logs x (answered b) z → OneMoreOrAlike single (settingsOf s) (lentIn x) a (lentIn y) b (lentIn z)
+  -- of two accepted unpruned deepenings of one seed likewise
+  pub deepen-more : (s t : Settings) (logs : List Float) (count : ℕ) (x y z : Lists) (a b : Tree singles) → Unpruned single (settingsOf s) → OneLeafMore s t
+      → Deepening s logs count x (answered a) y → Deepening t logs count x (answered b) z → OneMoreOrAlike single (settingsOf s) (lentIn x) a (lentIn y) b (lentIn z)
+  -- every leaf's span holds the rows handed in whose lookup reaches it, each as often; every zero-predictor token is the one worked afresh
+  pub learn-kept : (s : Settings) (logs : List Float) (x y : Lists) (a : Tree singles) → Learning s logs x (answered a) y → Kept single (settingsOf s) (lentIn x) a (lentIn y)
+  pub deepen-kept : (s : Settings) (logs : List Float) (count : ℕ) (x y : Lists) (a : Tree singles) → Deepening s logs count x (answered a) y → Kept single (settingsOf s) (lentIn x) a (lentIn y)
+  -- the lookup that these speak of is the one that the operation answers
+  pub looked-up : (n : NodeLists) (count : ℕ) (ps : List ℤ) (r : Lookup) → HasRoom count n → LookingUp n count ps r → leafFound r ≡ lookup (storedNodes n) count ps
