@@ -29,6 +29,58 @@ pub fn all(sheet: &Sheet) {
     for each in SPANS {
         candidates(sheet, each);
     }
+    for rows in [256, 4_096, 65_536] {
+        scoring(sheet, rows, true);
+        scoring(sheet, rows, false);
+    }
+}
+
+/// Side predictors: as many as the encoder takes.
+const SIDES: [usize; 4] = [0, 1, 2, 5];
+
+/// One property scored over the first rows; the original with its tables from values to bins, and without.
+fn scoring(sheet: &Sheet, rows: usize, tables: bool) {
+    let (props, tok) = (&sheet.props[..rows], &sheet.tok[..rows]);
+    let alphabet = sheet.alphabet;
+    let mut scratch = CoderScratch::default();
+    let (mut bins, mut room) = (Vec::new(), vec![0; SIDES.len() * alphabet * (CANDIDATES + 2)]);
+    let sides = SIDES.map(|p| p as u32);
+    for prop in COLUMNS {
+        let planned = hooks::Scoring::of(props, tok, prop, &SIDES, alphabet, tables, &mut scratch);
+        let Some(scoring) = planned else { continue };
+        let node = scoring.node();
+        // SAFETY: `node` was counted over these rows, whose tokens are below the alphabet.
+        let windows = unsafe { port::Windows::of(node, &sides, alphabet) };
+        let name = if tables { "with tables" } else { "without tables" };
+        row(
+            &format!("scoring {rows} rows, property {prop}, Rust {name}"),
+            || {
+                let (time, _, score) = timed((), |()| {
+                    scoring.score(props, tok, &mut bins, &mut scratch)
+                });
+                (time, score.map(|(value, cost)| (value, cost.to_bits())))
+            },
+            || {
+                let (time, _, score) = timed((), |()| {
+                    // SAFETY: as above; the original's candidates ascend, and the room is zeros.
+                    unsafe {
+                        port::score_property(
+                            props.as_flattened(),
+                            tok.as_flattened(),
+                            prop,
+                            scoring.candidates(),
+                            &windows,
+                            alphabet,
+                            node,
+                            sheet.logs,
+                            &mut room,
+                        )
+                    }
+                });
+                (time, score.map(|(value, cost)| (value, cost.to_bits())))
+            },
+        );
+    }
 }
 
 fn partition(sheet: &Sheet, each: usize) {

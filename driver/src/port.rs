@@ -78,8 +78,16 @@ pub struct Settings {
     pub settle: bool,
 }
 
+/// The best threshold of a property and its cost.
+#[repr(C)]
+pub struct Scored {
+    pub found: u32,
+    pub threshold: i32,
+    pub cost: f32,
+}
+
 mod c {
-    use super::{Count, Encoding, Leaf, LearnedTree, PrunedTree, Read};
+    use super::{Count, Encoding, Leaf, LearnedTree, PrunedTree, Read, Scored};
 
     // Each slice is a pointer and a length.
     unsafe extern "C" {
@@ -158,6 +166,41 @@ mod c {
             settle: bool,
             count: u32,
         ) -> LearnedTree;
+        pub fn ostrovuc_set_windows(
+            node: *const u32,
+            node_length: usize,
+            preds: *const u32,
+            preds_length: usize,
+            firsts: *mut u32,
+            firsts_length: usize,
+            offs: *mut u32,
+            offs_length: usize,
+            alphabet: usize,
+        );
+        pub fn ostrovuc_score_property(
+            props: *const i32,
+            props_length: usize,
+            tok: *const u8,
+            tok_length: usize,
+            cands: *const i32,
+            cands_length: usize,
+            preds: *const u32,
+            preds_length: usize,
+            firsts: *const u32,
+            firsts_length: usize,
+            offs: *const u32,
+            offs_length: usize,
+            node: *const u32,
+            node_length: usize,
+            logs: *const f32,
+            logs_length: usize,
+            room: *mut u32,
+            room_length: usize,
+            first: usize,
+            end: usize,
+            prop: usize,
+            alphabet: usize,
+        ) -> Scored;
         pub safe fn ostrovuc_pack_signed(value: i32) -> u32;
         pub safe fn ostrovuc_uint_encode(value: u32) -> Encoding;
         pub safe fn ostrovuc_token_value(token: u32, extra: u32) -> Read;
@@ -586,4 +629,91 @@ pub unsafe fn hist_entropy_bits(hist: &[u32], total: u32, logs: &[f32]) -> f32 {
     unsafe {
         c::ostrovuc_hist_entropy_bits(hist.as_ptr(), hist.len(), total, logs.as_ptr(), logs.len())
     }
+}
+
+/// A node's side predictors, with their windows in its histograms.
+pub struct Windows {
+    preds: Vec<u32>,
+    firsts: Vec<u32>,
+    offs: Vec<u32>,
+}
+
+impl Windows {
+    /// # Safety
+    ///
+    /// `node` is 14 histograms of the alphabet, which is at most 256; the predictors, at most
+    /// 14, are below 14.
+    pub unsafe fn of(node: &[u32], preds: &[u32], alphabet: usize) -> Self {
+        let (mut firsts, mut offs) = (vec![0; preds.len()], vec![0; preds.len() + 1]);
+        // SAFETY: the pointers and the lengths are lists'; the caller sees to the rest.
+        unsafe {
+            c::ostrovuc_set_windows(
+                node.as_ptr(),
+                node.len(),
+                preds.as_ptr(),
+                preds.len(),
+                firsts.as_mut_ptr(),
+                firsts.len(),
+                offs.as_mut_ptr(),
+                offs.len(),
+                alphabet,
+            );
+        }
+        let preds = preds.to_vec();
+        Self {
+            preds,
+            firsts,
+            offs,
+        }
+    }
+}
+
+/// The best of a property's candidates over all rows.
+///
+/// # Safety
+///
+/// There are 24 properties and 14 tokens a row, at most 65,536 rows; the tokens are below the
+/// alphabet, `node` counts them, and the windows are of `node`; the candidates, at most 32, ascend; the
+/// logarithms reach the number of rows, each from 0 to 32; the room is zeros and has as many numbers as
+/// predictors × alphabet × (candidates + 2).
+#[allow(clippy::too_many_arguments)]
+pub unsafe fn score_property(
+    props: &[i32],
+    tok: &[u8],
+    prop: usize,
+    cands: &[i32],
+    windows: &Windows,
+    alphabet: usize,
+    node: &[u32],
+    logs: &[f32],
+    room: &mut [u32],
+) -> Option<(i32, f32)> {
+    // SAFETY: the pointers and the lengths are slices'; the caller sees to the rest.
+    let scored = unsafe {
+        c::ostrovuc_score_property(
+            props.as_ptr(),
+            props.len(),
+            tok.as_ptr(),
+            tok.len(),
+            cands.as_ptr(),
+            cands.len(),
+            windows.preds.as_ptr(),
+            windows.preds.len(),
+            windows.firsts.as_ptr(),
+            windows.firsts.len(),
+            windows.offs.as_ptr(),
+            windows.offs.len(),
+            node.as_ptr(),
+            node.len(),
+            logs.as_ptr(),
+            logs.len(),
+            room.as_mut_ptr(),
+            room.len(),
+            0,
+            props.len() / PROPERTIES,
+            prop,
+            alphabet,
+        )
+    };
+    (scored.found == 1).then_some((scored.threshold, scored.cost))
 }

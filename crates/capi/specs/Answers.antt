@@ -12,6 +12,10 @@ use Rattle.capi.specs.declared.answers.Read.{Read}
 use Rattle.capi.specs.declared.answers.Leaf.{Leaf}
 use Rattle.capi.specs.declared.answers.Count.{Count}
 use Rattle.capi.specs.declared.answers.LearnedTree.{LearnedTree}
+use Rattle.capi.specs.declared.answers.Scored.{Scored}
+use Rattle.model.specs.Score.{Score, nothing, threshold}
+use mathlib.Core.Bool.{cond}
+use lib.Dec.{eqb}
 
 -- the value of a token, or number 10
 abbrev pub valueIn : TokenAnswer → Read
@@ -40,3 +44,7 @@ learnedIn r = treeIn (outcomeOf r)
 abbrev pub plannedIn : Plan → ℕ
 plannedIn (Candidates n) = n
 plannedIn Nothing = 0
+
+-- the score that an answer stands for
+abbrev pub scoreOut : Scored → Score singles
+scoreOut a = cond (eqb (a .found) 1) (threshold (a .threshold) (a .cost)) nothing

@@ -4,11 +4,13 @@ ghost use mathlib.Core.Path.{_≡_};
 ghost use Rattle.model.specs.Token.{answerOf};
 ghost use Rattle.rows.specs.Sampled.{outcomeOf};
 ghost use Rattle.tree.specs.Answers.{leafFound, contextsCounted};
-ghost use Rattle.capi.specs.Answers.{valueIn, foundIn, countIn, learnedIn, plannedIn};
+ghost use Rattle.score.specs.Scored.{scoreIs};
+ghost use Rattle.capi.specs.Answers.{valueIn, foundIn, countIn, learnedIn, plannedIn, scoreOut};
 use candidates::Plan;
 use learn::Learned;
 use model::TokenValue;
 use rows::Sampled;
+use score::Score;
 use tree::answers::Contexts;
 use tree::answers::Lookup;
 
@@ -162,5 +164,30 @@ pub fn plan_answer(r: Plan) -> usize
     match r {
         Plan::Candidates(n) => n,
         Plan::Nothing => 0,
+    }
+}
+
+// The best threshold of a property and its cost; found is 0 where there is none.
+#[repr(C)]
+pub struct Scored {
+    pub found: u32,
+    pub threshold: i32,
+    pub cost: f32,
+}
+
+pub fn scored_answer(r: Score) -> Scored
+    ensures { λ a. ⌜ scoreOut a ≡ scoreIs r ⌝ }
+{
+    match r {
+        Score::Nothing => Scored {
+            found: 0,
+            threshold: 0,
+            cost: 0.0,
+        },
+        Score::Threshold(threshold, cost) => Scored {
+            found: 1,
+            threshold,
+            cost,
+        },
     }
 }

@@ -29,7 +29,15 @@ ghost use Rattle.layout.specs.Waiting.{queueLists};
 ghost use Rattle.lent.specs.Lists.{lists, lentIn, learnLists, deepenLists};
 ghost use Rattle.model.specs.Grow.{Entry};
 ghost use Rattle.prune.specs.Held.{Prunable, HoldsTree, PrunedAs};
-ghost use Rattle.capi.specs.Answers.{valueIn, foundIn, countIn, treeIn};
+ghost use Prim.Native.Nat.{ℕ, _≤_};
+ghost use lib.IntN.{ℤ};
+ghost use Rattle.model.specs.Settings as model;
+ghost use Rattle.model.specs.Score.{scoreOf};
+ghost use Rattle.model.specs.Rows.{rowsOf, within};
+ghost use Rattle.cost.specs.Histograms.{spanOf};
+ghost use Rattle.score.specs.Windows.{Windowable, Windows};
+ghost use Rattle.score.specs.Scored.{Scorable, Spare};
+ghost use Rattle.capi.specs.Answers.{valueIn, foundIn, countIn, treeIn, scoreOut};
 
 pub mod answers;
 
@@ -39,6 +47,7 @@ use answers::Leaf;
 use answers::LearnedTree;
 use answers::PrunedTree;
 use answers::Read;
+use answers::Scored;
 use checks::Settings;
 
 // ---- operations: no condition on what is handed in
@@ -476,4 +485,60 @@ pub extern "C" fn ostrovuc_hist_entropy_bits(hist: &[u32], total: u32, logs: &[f
     ensures { λ r. ⌜ r ≡ entropyFrom singles (now (logs .entry)) (logOf singles (now (logs .entry)) total) (singles .nought) (now (hist .entry)) ⌝ }
 {
     cost::hist_entropy_bits(hist, total, logs)
+}
+
+// The windows of the side predictors in a node's histograms.
+#[no_mangle]
+pub extern "C" fn ostrovuc_set_windows(
+    node: &[u32],
+    preds: &[u32],
+    firsts: &mut [u32],
+    offs: &mut [u32],
+    alphabet: usize,
+)
+    requires { ⌜ Windowable (now node) alphabet (now preds) (now firsts) (now offs) ⌝ }
+    ensures { λ _. ⌜ Windows (now (node .entry)) alphabet (now (preds .entry)) (now (firsts .exit)) (now (offs .exit)) ⌝ }
+{
+    score::set_windows(node, alphabet, preds, firsts, offs)
+}
+
+// The best of the candidates of a property over the rows from first to end.
+#[no_mangle]
+pub extern "C" fn ostrovuc_score_property(
+    props: &[i32],
+    tok: &[u8],
+    cands: &[i32],
+    preds: &[u32],
+    firsts: &[u32],
+    offs: &[u32],
+    node: &[u32],
+    logs: &[f32],
+    room: &mut [u32],
+    first: usize,
+    end: usize,
+    prop: usize,
+    alphabet: usize,
+) -> Scored
+    requires { ⌜ Scorable (now props) (now tok) first end prop (now cands) (now preds) alphabet (now node) (now logs) ⌝ }
+    requires { ⌜ Windows (now node) alphabet (now preds) (now firsts) (now offs) ⌝ }
+    requires { ⌜ Spare (length (now preds)) alphabet (length (now cands)) (now room) ⌝ }
+    ensures { λ r. ⌜ ((t : model.Settings singles) (rows : ℕ) (rs : List ℤ) → t .alphabet ≡ alphabet → end ≤ rows → scoreOut r ≡ scoreOf t (now (logs .entry)) (now (preds .entry)) prop
+        (within (spanOf first end) (rowsOf rows (now (props .entry)) (now (tok .entry)) rs)) (now (cands .entry))) ⌝ }
+    ensures { λ _. ⌜ now (room .exit) ≡ now (room .entry) ⌝ }
+{
+    answers::scored_answer(score::score_property(
+        props,
+        tok,
+        first,
+        end,
+        prop,
+        cands,
+        preds,
+        firsts,
+        offs,
+        alphabet,
+        node,
+        logs,
+        room,
+    ))
 }

@@ -90,3 +90,40 @@ pub fn fill(list: &mut [u32], value: u32) {
         list[i] = value;
     }
 }
+
+// The float of a pattern. A NaN is given for a NaN's; no stored answer has one.
+pub fn float(p: u32) -> f32 {
+    if p % 2147483648 <= 2139095040 {
+        f32::from_bits(p)
+    } else {
+        0.0 / 0.0
+    }
+}
+
+pub fn double(p: u64) -> f64 {
+    if p % 9223372036854775808 <= 9218868437227405312 {
+        f64::from_bits(p)
+    } else {
+        0.0 / 0.0
+    }
+}
+
+// Whether two floats are alike, NaN being like NaN.
+pub fn same_float(x: f32, y: f32) -> bool {
+    (x == y) | ((x != x) & (y != y))
+}
+
+// After one more float, and after a double.
+pub fn expect_float(b: &[u8], c: Check, value: f32) -> Check {
+    Check {
+        at: after(c.at, 1),
+        same: c.same & (float(word(b, c.at)) == value),
+    }
+}
+
+pub fn expect_double(b: &[u8], c: Check, value: f64) -> Check {
+    Check {
+        at: after(c.at, 2),
+        same: c.same & (double(long(b, c.at)) == value),
+    }
+}

@@ -15,7 +15,7 @@ const FEW: u32 = 64;
 
 const MANY: u32 = 2064;
 
-fn put_residuals(res: &mut [i32], b: &[u8], first: usize) {
+pub fn put_numbers(res: &mut [i32], b: &[u8], first: usize) {
     let mut at = first;
     for i in 0..res.len() {
         res[i] = signed(word(b, at));
@@ -38,7 +38,7 @@ pub fn mode_step(b: &[u8], job: usize, answer: Check) -> Check {
         return missed(answer);
     }
     let mut res = rooms::residuals();
-    put_residuals(&mut res, b, after(job, 1));
+    put_numbers(&mut res, b, after(job, 1));
     let mut tok = rooms::tokens();
     let mut counts = rooms::counts();
     let mode = mode::rebase_zero(&mut tok, &res, 0, n as usize, &mut counts);
@@ -52,7 +52,7 @@ fn put_number(list: &mut [i32], at: usize, value: i32) {
     }
 }
 
-fn number(list: &[i32], at: usize) -> i32 {
+pub fn number(list: &[i32], at: usize) -> i32 {
     if at < list.len() { list[at] } else { 0 }
 }
 
@@ -78,7 +78,7 @@ fn narrow(n: usize) -> u32 {
     if n < 4294967296 { n as u32 } else { 0 }
 }
 
-fn expect_candidates(b: &[u8], c: Check, cands: &[i32], n: usize) -> Check {
+pub fn expect_numbers(b: &[u8], c: Check, cands: &[i32], n: usize) -> Check {
     let mut all = expect(b, c, narrow(n));
     for i in 0..n {
         all = expect(b, all, entropy::pattern(number(cands, i)));
@@ -106,7 +106,7 @@ pub fn pick_candidates(b: &[u8], job: usize, answer: Check) -> Check {
     let mut cands = rooms::candidates();
     let r = candidates::pick_candidates(&props, 0, n as usize, 7, limit, &mut flags, &mut cands);
     let m = planned(r);
-    expect_candidates(b, answer, &cands, m)
+    expect_numbers(b, answer, &cands, m)
 }
 
 pub fn partition(b: &[u8], job: usize, answer: Check) -> Check {

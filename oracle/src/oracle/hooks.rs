@@ -130,6 +130,87 @@ pub(crate) fn entropy(hist: &[u32], total: u32) -> f32 {
     hist_entropy_bits(hist, total)
 }
 
+/// One property planned for scoring, for the benchmark: what the original makes once a node.
+pub(crate) struct Scoring {
+    plan: SplitPlan,
+    luts: Vec<u8>,
+    preds: Vec<usize>,
+    alphabet: usize,
+    window: SymbolWindow,
+    node: Vec<u32>,
+    extra_bits: [u64; NUM_MA_PREDS],
+}
+
+impl Scoring {
+    /// `None` if the property has no candidates. Without tables each value's bin is searched for.
+    pub(crate) fn of(
+        rows: &[[i32; NUM_MA_PROPS]],
+        tokens: &[[u8; NUM_MA_PREDS]],
+        prop: usize,
+        preds: &[usize],
+        alphabet: usize,
+        tables: bool,
+        scratch: &mut CoderScratch,
+    ) -> Option<Self> {
+        renew_logs(scratch);
+        let scratch = &mut scratch.ma_property;
+        scratch.prepare(alphabet);
+        let mut node = vec![0; NUM_MA_PREDS * alphabet];
+        count_tokens(&mut node, alphabet, tokens);
+        let mut extra_bits = [0; NUM_MA_PREDS];
+        for (bits, hist) in extra_bits.iter_mut().zip(node.chunks_exact(alphabet)) {
+            *bits = raw_bits_from_hist(hist);
+        }
+        let window = SymbolWindow::new(preds, alphabet, &node);
+        let mut luts = Vec::new();
+        let stride = window.bin_stride;
+        let mut plan = plan_split(rows, prop, MAX_CANDIDATES, stride, 0, &mut luts, scratch)?;
+        plan.use_lut &= tables;
+        Some(Self {
+            plan,
+            luts,
+            preds: preds.to_vec(),
+            alphabet,
+            window,
+            node,
+            extra_bits,
+        })
+    }
+
+    pub(crate) fn candidates(&self) -> &[i32] {
+        &self.plan.cands[..self.plan.ncand as usize]
+    }
+
+    pub(crate) fn node(&self) -> &[u32] {
+        &self.node
+    }
+
+    /// The scan of the rows, then the walk over the candidates.
+    pub(crate) fn score(
+        &self,
+        rows: &[[i32; NUM_MA_PROPS]],
+        tokens: &[[u8; NUM_MA_PREDS]],
+        bins: &mut Vec<u32>,
+        scratch: &mut CoderScratch,
+    ) -> Option<(i32, f32)> {
+        bins.clear();
+        bins.resize(self.plan.hist_len(), 0);
+        let plan = std::slice::from_ref(&self.plan);
+        scan_split_plans(rows, tokens, plan, &self.luts, &self.preds, &self.window, bins);
+        score_split_plan(
+            &self.plan,
+            &self.preds,
+            self.alphabet,
+            &self.window,
+            bins,
+            &self.node,
+            &self.extra_bits,
+            rows.len() as u32,
+            &mut scratch.ma_property,
+        )
+    }
+}
+
 /// Prunes a tree at any price. Gives the estimated bits.
 pub(crate) fn prune(nodes: &mut Vec<Record>, spans: &mut Vec<Span>, price: f32) -> f64 {
     let mut tree: Vec<_> = nodes.iter().map(node_of).collect();

@@ -1,10 +1,10 @@
--- `replay::parts::put_residuals` is safe and ends. Assumes nothing.
+-- `replay::parts::put_numbers` is safe and ends. Assumes nothing.
 use mathlib.Core.Path.{_≡_}
 use Prim.Native.Nat.{_-_}
 use lib.ListN.{length}
 use borrow.Author.Needs.{needs}
-use Rattle.replay.proofs.parts.put_residuals.Statement.{statement}
-use Rattle.replay.proofs.parts.put_residuals.Tie as tie
+use Rattle.replay.proofs.parts.put_numbers.Statement.{statement}
+use Rattle.replay.proofs.parts.put_numbers.Tie as tie
 
 abbrev Inv-loop : tie.InvT-loop
 Inv-loop res₀ b first at₀ i₀ i-end res at i = length res ≡ i-end
@@ -45,8 +45,8 @@ same-length c = search needs
 returns : tie.Need-returns Inv-loop μ-loop
 returns c = search needs
 
-pub put-residuals-spec : {M : Type 1} → statement M
-put-residuals-spec =
+pub put-numbers-spec : {M : Type 1} → statement M
+put-numbers-spec =
     tie.close
     (tie.spec
     Inv-loop

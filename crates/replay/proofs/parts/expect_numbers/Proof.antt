@@ -1,8 +1,8 @@
--- `replay::parts::expect_candidates` is safe and ends. Assumes nothing.
+-- `replay::parts::expect_numbers` is safe and ends. Assumes nothing.
 use Prim.Native.Nat.{_-_}
 use borrow.Author.Needs.{needs}
-use Rattle.replay.proofs.parts.expect_candidates.Statement.{statement}
-use Rattle.replay.proofs.parts.expect_candidates.Tie as tie
+use Rattle.replay.proofs.parts.expect_numbers.Statement.{statement}
+use Rattle.replay.proofs.parts.expect_numbers.Tie as tie
 
 abbrev Inv-loop : tie.InvT-loop
 Inv-loop b cands n all₀ i₀ all i = Unit {0}
@@ -40,8 +40,8 @@ loop-again c = search needs
 returns : tie.Need-returns Inv-loop μ-loop
 returns c = search needs
 
-pub expect-candidates-spec : {M : Type 1} → statement M
-expect-candidates-spec =
+pub expect-numbers-spec : {M : Type 1} → statement M
+expect-numbers-spec =
     tie.close
     (tie.spec
     Inv-loop
