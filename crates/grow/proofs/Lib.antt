@@ -1,4 +1,4 @@
--- For callers: `Root` begins learning, `Seeded` deepening; `Numbers` has what the model's laws on steps ask of a job.
+-- For callers: `Numbers` has what the model's laws on steps ask of a job.
 -- For the functions here: `Parting` and `Dividing`: the rows of a split. `Choosing`: the leaf that is split. `Stepping`: one split of the code is one step of
 -- the model; `Coding`: the same in the code's words. `Growth`: the loop.
 pub mod Parting
@@ -8,5 +8,3 @@ pub mod Choosing
 pub mod Stepping
 pub mod Coding
 pub mod Growth
-pub mod Root
-pub mod Seeded

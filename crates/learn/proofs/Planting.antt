@@ -38,7 +38,6 @@ use Rattle.rows.specs.Cells.{span}
 use Rattle.rows.specs.Flat.{Flat, heldIn, rowCount, Spanned, SameSize}
 use Rattle.rows.proofs.Cells.{length-held}
 use Rattle.rows.proofs.Shapes.{count-still, size-then}
-use Rattle.lent.specs.Lists.{clearQueue}
 use Rattle.model.specs.Learn.{Result}
 use Rattle.finish.specs.Finished.{FinishedTo}
 use Rattle.finish.specs.declared.Finished.{Finished}
@@ -145,7 +144,3 @@ module _ {s : Settings} {logs : List Float} {counts : List ℕ} {x : Flat} {n : 
 -- lists as long before as after planting
 pub finished-from : {x x' y : Flat} {n lent : NodeLists} {r : Finished} {made : Result singles} → SameSize x x' → FinishedTo x' y n r lent made → FinishedTo x y n r lent made
 finished-from size f = record { rows = f .rows; size = size-then size (f .size); nodes = f .nodes; counted = f .counted; leaves = f .leaves; summed = f .summed }
-
-pub clear-same : {q p : QueueLists} → SameQueue q p → clearQueue p ≡ clearQueue q
-unfolding clearQueue
-clear-same s = rw (s .words, s .values, s .gains)

@@ -7,7 +7,8 @@ use Rattle.model.proofs.Root.{noSeeds}
 use Rattle.layout.specs.Tree.{nodeLists}
 use Rattle.rows.specs.Flat.{flat, heldIn}
 use Rattle.grow.specs.Grows.{jobIn}
-use Rattle.learn.proofs.Planting.{finished-from, clear-same}
+use Rattle.finish.proofs.Finishing.{clear-same}
+use Rattle.learn.proofs.Planting.{finished-from}
 use Rattle.learn.proofs.grow_from_root.Statement.{statement}
 use Rattle.learn.proofs.grow_from_root.Tie as tie
 
