@@ -130,18 +130,10 @@ fn params_of(s: &Settings) -> MaLearnParams {
     }
 }
 
+/// Settling, which the original does not have, is off.
 fn port_settings(s: &Settings) -> port::Settings {
     port::Settings {
-        alphabet: s.alphabet,
-        max_leaves: s.limit,
-        split_cost_bits: s.split_cost,
-        prune_leaf_bits: s.price,
-        min_node: s.smallest_node,
-        side_preds: s.side_predictors,
-        max_candidates: s.candidates,
-        allow_wp: s.weighted,
-        allowed_preds: s.allowed,
-        modal_offsets: s.modal_offsets,
         settle: false,
+        ..port::Settings::from(s)
     }
 }

@@ -13,7 +13,7 @@ const QUEUE_WORDS: usize = 3;
 pub fn learn(job: Learning, deepens: bool) -> Learned {
     let fill = job.fill;
     let mut lent = lent_to(&job);
-    let settings = settings_of(&job.settings);
+    let settings = Settings::from(&job.settings);
     let mut rows = Rows {
         props: job.properties,
         tok: job.tokens,
@@ -98,22 +98,6 @@ fn lent_to(job: &Learning) -> Lent {
         queue_values: vec![job.fill as i32; queue],
         queue_gains: vec![f32::from_bits(job.fill); queue],
         counts: vec![job.fill; job.count_entries as usize],
-    }
-}
-
-fn settings_of(s: &stream::Settings) -> Settings {
-    Settings {
-        alphabet: s.alphabet,
-        max_leaves: s.limit,
-        split_cost_bits: s.split_cost,
-        prune_leaf_bits: s.price,
-        min_node: s.smallest_node,
-        side_preds: s.side_predictors,
-        max_candidates: s.candidates,
-        allow_wp: s.weighted,
-        allowed_preds: s.allowed,
-        modal_offsets: s.modal_offsets,
-        settle: s.settling,
     }
 }
 

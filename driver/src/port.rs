@@ -78,6 +78,24 @@ pub struct Settings {
     pub settle: bool,
 }
 
+impl From<&stream::Settings> for Settings {
+    fn from(s: &stream::Settings) -> Self {
+        Self {
+            alphabet: s.alphabet,
+            max_leaves: s.limit,
+            split_cost_bits: s.split_cost,
+            prune_leaf_bits: s.price,
+            min_node: s.smallest_node,
+            side_preds: s.side_predictors,
+            max_candidates: s.candidates,
+            allow_wp: s.weighted,
+            allowed_preds: s.allowed,
+            modal_offsets: s.modal_offsets,
+            settle: s.settling,
+        }
+    }
+}
+
 /// The best threshold of a property and its cost.
 #[repr(C)]
 pub struct Scored {
@@ -408,47 +426,53 @@ pub struct Lent {
     pub counts: Vec<u32>,
 }
 
+/// Calls an export with the lists of rows, the lent lists, the logarithms and the settings.
+macro_rules! call {
+    ($export:path, $rows:expr, $lent:expr, $logs:expr, $s:expr $(, $more:expr)*) => {
+        // SAFETY: the pointers and the lengths are lists'; nothing more is asked.
+        unsafe { $export(
+            $rows.props.as_mut_ptr(),
+            $rows.props.len(),
+            $rows.tok.as_mut_ptr(),
+            $rows.tok.len(),
+            $rows.res.as_mut_ptr(),
+            $rows.res.len(),
+            $lent.words.as_mut_ptr(),
+            $lent.words.len(),
+            $lent.values.as_mut_ptr(),
+            $lent.values.len(),
+            $lent.costs.as_mut_ptr(),
+            $lent.costs.len(),
+            $lent.spans.as_mut_ptr(),
+            $lent.spans.len(),
+            $lent.queue_words.as_mut_ptr(),
+            $lent.queue_words.len(),
+            $lent.queue_values.as_mut_ptr(),
+            $lent.queue_values.len(),
+            $lent.queue_gains.as_mut_ptr(),
+            $lent.queue_gains.len(),
+            $lent.counts.as_mut_ptr(),
+            $lent.counts.len(),
+            $logs.as_ptr(),
+            $logs.len(),
+            $s.alphabet,
+            $s.max_leaves,
+            $s.split_cost_bits,
+            $s.prune_leaf_bits,
+            $s.min_node,
+            $s.side_preds,
+            $s.max_candidates,
+            $s.allow_wp,
+            $s.allowed_preds,
+            $s.modal_offsets,
+            $s.settle,
+            $($more,)*
+        ) }
+    };
+}
+
 pub fn learn(rows: &mut Rows, lent: &mut Lent, logs: &[f32], s: Settings) -> LearnedTree {
-    // SAFETY: the pointers and the lengths are lists'; nothing more is asked.
-    unsafe {
-        c::ostrovuc_learn(
-            rows.props.as_mut_ptr(),
-            rows.props.len(),
-            rows.tok.as_mut_ptr(),
-            rows.tok.len(),
-            rows.res.as_mut_ptr(),
-            rows.res.len(),
-            lent.words.as_mut_ptr(),
-            lent.words.len(),
-            lent.values.as_mut_ptr(),
-            lent.values.len(),
-            lent.costs.as_mut_ptr(),
-            lent.costs.len(),
-            lent.spans.as_mut_ptr(),
-            lent.spans.len(),
-            lent.queue_words.as_mut_ptr(),
-            lent.queue_words.len(),
-            lent.queue_values.as_mut_ptr(),
-            lent.queue_values.len(),
-            lent.queue_gains.as_mut_ptr(),
-            lent.queue_gains.len(),
-            lent.counts.as_mut_ptr(),
-            lent.counts.len(),
-            logs.as_ptr(),
-            logs.len(),
-            s.alphabet,
-            s.max_leaves,
-            s.split_cost_bits,
-            s.prune_leaf_bits,
-            s.min_node,
-            s.side_preds,
-            s.max_candidates,
-            s.allow_wp,
-            s.allowed_preds,
-            s.modal_offsets,
-            s.settle,
-        )
-    }
+    call!(c::ostrovuc_learn, rows, lent, logs, s)
 }
 
 pub fn deepen(
@@ -458,47 +482,7 @@ pub fn deepen(
     s: Settings,
     count: u32,
 ) -> LearnedTree {
-    // SAFETY: the pointers and the lengths are lists'; nothing more is asked.
-    unsafe {
-        c::ostrovuc_deepen(
-            rows.props.as_mut_ptr(),
-            rows.props.len(),
-            rows.tok.as_mut_ptr(),
-            rows.tok.len(),
-            rows.res.as_mut_ptr(),
-            rows.res.len(),
-            lent.words.as_mut_ptr(),
-            lent.words.len(),
-            lent.values.as_mut_ptr(),
-            lent.values.len(),
-            lent.costs.as_mut_ptr(),
-            lent.costs.len(),
-            lent.spans.as_mut_ptr(),
-            lent.spans.len(),
-            lent.queue_words.as_mut_ptr(),
-            lent.queue_words.len(),
-            lent.queue_values.as_mut_ptr(),
-            lent.queue_values.len(),
-            lent.queue_gains.as_mut_ptr(),
-            lent.queue_gains.len(),
-            lent.counts.as_mut_ptr(),
-            lent.counts.len(),
-            logs.as_ptr(),
-            logs.len(),
-            s.alphabet,
-            s.max_leaves,
-            s.split_cost_bits,
-            s.prune_leaf_bits,
-            s.min_node,
-            s.side_preds,
-            s.max_candidates,
-            s.allow_wp,
-            s.allowed_preds,
-            s.modal_offsets,
-            s.settle,
-            count,
-        )
-    }
+    call!(c::ostrovuc_deepen, rows, lent, logs, s, count)
 }
 
 /// Prunes the tree of the first `count` nodes at a price.

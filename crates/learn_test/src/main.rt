@@ -3,7 +3,6 @@
 ghost use Prim.Native.Nat.{_≤_};
 
 mod rooms;
-mod tally;
 
 use checks::Settings;
 use learn::Learned;

@@ -2,7 +2,6 @@
 // example. It prints how many cases of each kind were tried, how many came out wrong, and the first
 // of these.
 mod decoder;
-mod tally;
 
 use decoder::Config;
 use model::TokenValue;
