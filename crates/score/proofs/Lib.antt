@@ -1,7 +1,7 @@
 pub mod Tallies
 pub mod Lanes
-pub mod Bins
-pub mod Windows
+pub mod Binning
+pub mod Windowing
 pub mod Sweeps
 pub mod Counting
 pub mod Scores

@@ -24,12 +24,12 @@ use Rattle.cost.proofs.Sums.{getD-there, entropy-zeros}
 use Rattle.cost.proofs.Histograms.{histogram-length, histogram-rows}
 use Rattle.score.specs.declared.Score as answer
 use Rattle.score.specs.declared.Score.the-variants.{Nothing, Threshold}
-use Rattle.score.specs.declared.Sides.{Sides}
+use Rattle.score.specs.declared.sides.Sides.{Sides}
 use Rattle.score.specs.Bins.{widthOf}
 use Rattle.score.specs.Sides.{rest, costsOf, lowerCost, lowerSides, noSides, SideCounted}
 use Rattle.score.specs.Scored.{scoreIs, run, laneAt, lowestTo, scoredSides, sizeAt, scoredAt, scoredTo, Extras, Ready}
 use Rattle.score.proofs.Sweeps.{rest-length, rest-at}
-use Rattle.score.proofs.Windows.{histogram-at}
+use Rattle.score.proofs.Windowing.{histogram-at}
 use Rattle.score.proofs.Counting.{count-sides, rowsIn-parts, rowsIn-none}
 
 -- ---- the lower of two scores, by cases

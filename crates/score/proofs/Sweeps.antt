@@ -18,7 +18,7 @@ use Rattle.model.specs.Token.{extraCount}
 use Rattle.model.specs.Cost.{extraFrom}
 use Rattle.cost.specs.Counted.{rowsIn}
 use Rattle.cost.proofs.Sums.{count-le-rows, extra-from-16}
-use Rattle.score.specs.declared.Sides.{Sides}
+use Rattle.score.specs.declared.sides.Sides.{Sides}
 use Rattle.score.specs.Sides.{rest, entropiesOf, costsOf, SideCounted}
 
 -- ---- the other side's counts

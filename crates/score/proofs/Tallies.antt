@@ -14,7 +14,7 @@ use lib.Seq.{getD-set-same, getD-set-other}
 use Rattle.model.specs.Settings.{toksPerRow, maxRows}
 use Rattle.cost.specs.Histograms.{bumped, tallied}
 use Rattle.cost.proofs.Blocks.{tallied-length, tallied-low}
-use Rattle.score.specs.declared.Lane.{Lane}
+use Rattle.score.specs.declared.bins.Lane.{Lane}
 use Rattle.score.specs.Bins.{talliedRows, summed, laneCell, laneOf, placeIn, Low, TokenFits, InLanes}
 
 -- how many of the first n numbers pass the test, and a sum over them

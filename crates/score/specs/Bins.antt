@@ -10,7 +10,7 @@ use lib.ListN.{length, getD, set}
 use Rattle.model.specs.Lists.{countIf}
 use Rattle.model.specs.Settings.{propsPerRow, toksPerRow, maxRows}
 use Rattle.cost.specs.Histograms.{tallied}
-use Rattle.score.specs.declared.Lane.{Lane}
+use Rattle.score.specs.declared.bins.Lane.{Lane}
 
 -- one more in the cells f k 0, .., f k (lanes - 1) of each of n rows
 unfoldable pub talliedRows : (ℕ → ℕ → ℕ) → ℕ → ℕ → List ℕ → List ℕ

@@ -16,7 +16,7 @@ use Rattle.cost.specs.Counted.{rowsIn, LogsReach}
 use Rattle.cost.specs.Histograms.{part, SpanFits, CountsSpan}
 use Rattle.score.specs.declared.Score.{Score}
 use Rattle.score.specs.declared.Score.the-variants.{Nothing, Threshold}
-use Rattle.score.specs.declared.Sides.{Sides}
+use Rattle.score.specs.declared.sides.Sides.{Sides}
 use Rattle.score.specs.Bins.{Ascends, widthOf}
 use Rattle.score.specs.Sides.{costsOf, lowerSides, noSides, SideCounted}
 

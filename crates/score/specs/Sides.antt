@@ -10,7 +10,7 @@ use Rattle.model.specs.Settings.{maxRows}
 use Rattle.model.specs.Single.{singles}
 use Rattle.model.specs.Cost.{entropyFrom, extraFrom}
 use Rattle.cost.specs.Counted.{rowsIn}
-use Rattle.score.specs.declared.Sides.{Sides}
+use Rattle.score.specs.declared.sides.Sides.{Sides}
 
 -- the node's counts without those of one side
 unfoldable pub rest : List ℕ → List ℕ → List ℕ

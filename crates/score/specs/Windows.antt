@@ -8,7 +8,7 @@ use lib.Dec.{eqb}
 use lib.ListN.{length, getD}
 use Rattle.model.specs.Settings.{toksPerRow}
 use Rattle.cost.specs.Histograms.{part}
-use Rattle.score.specs.declared.Window.{Window}
+use Rattle.score.specs.declared.windows.Window.{Window}
 
 -- with one token more, if it is counted
 unfoldable pub widened : Window → ℕ → ℕ → Window
