@@ -27,6 +27,7 @@ pub const PRED_WEIGHTED: usize = 6;
 pub const MAX_ROWS: usize = 65536;
 
 // The settings of a job, in 01's order and under the names of the Rust's `MaLearnParams`.
+#[repr(C)]
 pub struct Settings {
     pub alphabet: u32,
     pub max_leaves: u32,

@@ -2,6 +2,7 @@
 // flat lists of numbers is said in specs/.
 
 // The cost of a node in bits, its predictor and its offset.
+#[repr(C)]
 pub struct NodeInfo {
     pub cost: f32,
     pub pred: u32,
