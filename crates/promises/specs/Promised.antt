@@ -8,21 +8,18 @@ use lib.Ieee.{Float}
 use Rattle.model.specs.Settings as model
 use Rattle.model.specs.Single.{singles}
 use Rattle.model.specs.Profile.{single}
-use Rattle.model.specs.Operations.{Tree, lookup}
+use Rattle.model.specs.Operations.{Tree, Found, accepted, lookup}
 use Rattle.model.specs.Promise.{Unpruned, Kept, OneMoreOrAlike}
 use Rattle.checks.specs.Given.{settingsOf}
 use Rattle.checks.specs.declared.Settings.{Settings}
-use Rattle.layout.specs.Tree.{NodeLists, HasRoom}
-use Rattle.learn.specs.declared.Learned.{Learned}
-use Rattle.learn.specs.declared.Learned.the-variants.{Grown}
-use Rattle.lent.specs.Lists.{Lists, lentIn, storedNodes}
-use Rattle.tree.specs.Answers.{leafFound}
-use Rattle.tree.specs.declared.answers.Lookup.{Lookup}
+use Rattle.ma_tree.specs.Answers.{treeIn, foundIn}
+use Rattle.ma_tree.specs.Lists.{Lists, lentIn}
+use Rattle.ma_tree.specs.declared.answers.LearnedTree.{LearnedTree}
 use Rattle.promises.specs.Runs.{Learning, Deepening, LookingUp}
 
--- an accepted answer: node count, leaf count, estimated bits, flat bits
-abbrev pub answered : Tree singles → Learned
-answered a = Grown (a .nodes) (a .leaves) (a .bits) (a .flat)
+-- an accepted answer: number 0, then node count, leaf count, estimated bits, flat bits
+abbrev pub answered : Tree singles → LearnedTree
+answered a = treeIn (accepted a)
 
 -- settings that differ only in the limit, k and k + 1
 abbrev pub OneLeafMore : Settings → Settings → Type 0
@@ -39,4 +36,4 @@ pub record Promised : Type 0 where
   pub learn-kept : (s : Settings) (logs : List Float) (x y : Lists) (a : Tree singles) → Learning s logs x (answered a) y → Kept single (settingsOf s) (lentIn x) a (lentIn y)
   pub deepen-kept : (s : Settings) (logs : List Float) (count : ℕ) (x y : Lists) (a : Tree singles) → Deepening s logs count x (answered a) y → Kept single (settingsOf s) (lentIn x) a (lentIn y)
   -- the lookup that these speak of is the one that the operation answers
-  pub looked-up : (n : NodeLists) (count : ℕ) (ps : List ℤ) (r : Lookup) → HasRoom count n → LookingUp n count ps r → leafFound r ≡ lookup (storedNodes n) count ps
+  pub looked-up : (x : Lists) (count : ℕ) (ps : List ℤ) (f : Found) → LookingUp (x .nodes) count ps (foundIn (accepted f)) → lookup (lentIn x .nodes) count ps ≡ accepted f

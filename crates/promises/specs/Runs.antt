@@ -1,28 +1,29 @@
--- What the contracts of the public operations ensure of a run, word for word: learning (crate `learn`, `learn_ma_tree_in_place`), deepening (crate `deepen`,
--- `deepen_ma_tree`) and lookup (crate `tree`, `lookup`). A run takes settings, logarithms and lists x, answers r, and leaves the lists y. Assumes nothing.
+-- What the contracts of the public operations (crate `ma_tree`) ensure of a run, word for word: `ostrovuc_learn`, `ostrovuc_deepen` and `ostrovuc_lookup`. A run takes
+-- settings, logarithms and lists x, answers r, and leaves the lists y. Assumes nothing.
 use Prim.Native.Nat.{ℕ}
 use mathlib.Core.Path.{_≡_}
-use mathlib.Core.List.{List}
+use mathlib.Core.List.{List, map}
 use lib.IntN.{ℤ}
 use lib.Ieee.{Float}
 use Rattle.model.specs.Profile.{single}
 use Rattle.model.specs.Operations.{learn, deepen, lookup}
 use Rattle.checks.specs.Given.{settingsOf}
 use Rattle.checks.specs.declared.Settings.{Settings}
-use Rattle.layout.specs.Layout.{storedIn}
-use Rattle.layout.specs.Tree.{NodeLists}
-use Rattle.learn.specs.Answer.{after}
-use Rattle.learn.specs.declared.Learned.{Learned}
-use Rattle.lent.specs.Lists.{Lists, lentIn}
-use Rattle.tree.specs.Answers.{leafFound}
-use Rattle.tree.specs.declared.answers.Lookup.{Lookup}
+use Rattle.records.specs.Records.{storedOf}
+use Rattle.records.specs.declared.MaNode.{MaNode}
+use Rattle.ma_tree.specs.Answers.{treeIn, foundIn}
+use Rattle.ma_tree.specs.Lists.{Lists, lentIn}
+use Rattle.ma_tree.specs.declared.answers.LearnedTree.{LearnedTree}
+use Rattle.ma_tree.specs.declared.answers.Leaf.{Leaf}
 
-pub record Learning (s : Settings) (logs : List Float) (x : Lists) (r : Learned) (y : Lists) : Type 0 where
-  pub ensures : after r (lentIn y) ≡ learn single (settingsOf s) logs (lentIn x)
+pub record Learning (s : Settings) (logs : List Float) (x : Lists) (r : LearnedTree) (y : Lists) : Type 0 where
+  pub answers : r ≡ treeIn (learn single (settingsOf s) logs (lentIn x) .outcome)
+  pub leaves : lentIn y ≡ learn single (settingsOf s) logs (lentIn x) .lent
 
-pub record Deepening (s : Settings) (logs : List Float) (count : ℕ) (x : Lists) (r : Learned) (y : Lists) : Type 0 where
-  pub ensures : after r (lentIn y) ≡ deepen single (settingsOf s) logs count (lentIn x)
+pub record Deepening (s : Settings) (logs : List Float) (count : ℕ) (x : Lists) (r : LearnedTree) (y : Lists) : Type 0 where
+  pub answers : r ≡ treeIn (deepen single (settingsOf s) logs count (lentIn x) .outcome)
+  pub leaves : lentIn y ≡ deepen single (settingsOf s) logs count (lentIn x) .lent
 
--- of the first `count` nodes of the lists, by 24 properties
-pub record LookingUp (n : NodeLists) (count : ℕ) (ps : List ℤ) (r : Lookup) : Type 0 where
-  pub ensures : leafFound r ≡ lookup (storedIn (n .words) (n .values) (n .costs)) count ps
+-- of the first `count` nodes of the list, by 24 properties
+pub record LookingUp (nodes : List MaNode) (count : ℕ) (ps : List ℤ) (r : Leaf) : Type 0 where
+  pub answers : r ≡ foundIn (lookup (map storedOf nodes) count ps)

@@ -1,0 +1,258 @@
+// The public interface, for C, Rust and Rattle: each operation of document 01, with its node list as one lent slice of records. Whatever is handed in, the answer is
+// document 01's, and a refusal changes no list. A slice crosses over to C as two arguments, pointer and length.
+//
+// A function that sees the slice of records is walked by hand, so it does little: it copies records to the core's number lists and back, or reads one record
+// after another. What thinks is in the functions between.
+ghost use mathlib.Core.Path.{_≡_};
+ghost use mathlib.Core.List.{map};
+ghost use Rattle.model.specs.Pack.{packed};
+ghost use Rattle.model.specs.Token.{encodedOf, tokenAnswer};
+ghost use Rattle.model.specs.Operations.{learn, deepen, lookup, leafContexts, sample};
+ghost use Rattle.model.specs.Profile.{single};
+ghost use Rattle.rows.specs.Flat.{flat};
+ghost use Rattle.checks.specs.Given.{settingsOf};
+ghost use Rattle.layout.specs.Waiting.{queueLists};
+ghost use Rattle.records.specs.Records.{storedOf};
+ghost use Rattle.ma_tree.specs.Answers.{valueIn, foundIn, countIn, treeIn};
+ghost use Rattle.ma_tree.specs.Lists.{lists, lentIn, learnRecords, deepenRecords, Worked};
+
+pub mod answers;
+pub mod numbers;
+pub mod ways;
+
+use answers::Count;
+use answers::Encoding;
+use answers::Leaf;
+use answers::LearnedTree;
+use answers::Read;
+use checks::Settings;
+use records::MaNode;
+
+// ---- packing, tokens, even sampling
+
+#[no_mangle]
+pub extern "C" fn ostrovuc_pack_signed(value: i32) -> u32
+    ensures { λ r. ⌜ r ≡ packed value ⌝ }
+{
+    entropy::pack_signed(value)
+}
+
+#[no_mangle]
+pub extern "C" fn ostrovuc_uint_encode(value: u32) -> Encoding
+    ensures { λ r. ⌜ r .token ≡ encodedOf value .token ⌝ }
+    ensures { λ r. ⌜ r .«extra_count» ≡ encodedOf value .nbits ⌝ }
+    ensures { λ r. ⌜ r .«extra_bits» ≡ encodedOf value .bits ⌝ }
+{
+    let e = entropy::uint_encode(value);
+    Encoding {
+        token: e.token,
+        extra_count: e.nbits,
+        extra_bits: e.bits,
+    }
+}
+
+#[no_mangle]
+pub extern "C" fn ostrovuc_token_value(token: u32, extra: u32) -> Read
+    ensures { λ r. ⌜ r ≡ valueIn (tokenAnswer token extra) ⌝ }
+{
+    answers::value_answer(entropy::token_value(token, extra))
+}
+
+#[no_mangle]
+pub extern "C" fn ostrovuc_evenly_sampled_indices(
+    rows: usize,
+    target: usize,
+    out: &mut [u32],
+) -> Count
+    ensures { λ r. ⌜ r ≡ countIn (sample rows target (now (out .entry)) .outcome) ⌝ }
+    ensures { λ r. ⌜ now (out .exit) ≡ sample rows target (now (out .entry)) .lent ⌝ }
+{
+    answers::sampled_answer(rows::evenly_sampled_indices(rows, target, out))
+}
+
+// ---- learning and deepening
+
+// Copies the records to number lists, works there, and copies them back.
+fn work<'n, 'a>(
+    nodes: &'n mut [MaNode],
+    s: Settings,
+    seeded: bool,
+    count: u32,
+    logs: &'a [f32],
+    props: &'a mut [i32],
+    tok: &'a mut [u8],
+    res: &'a mut [i32],
+    spans: &'a mut [u32],
+    queue_words: &'a mut [u32],
+    queue_values: &'a mut [i32],
+    queue_gains: &'a mut [f32],
+    counts: &'a mut [u32],
+) -> LearnedTree
+    ensures { λ r. ⌜ Worked (settingsOf s) (now (logs .entry)) seeded count
+        (lists (flat (now (props .entry)) (now (tok .entry)) (now (res .entry))) (now (nodes .entry)) (now (spans .entry))
+        (queueLists (now («queue_words» .entry)) (now («queue_values» .entry)) (now («queue_gains» .entry))) (now (counts .entry)))
+        (lists (flat (now (props .exit)) (now (tok .exit)) (now (res .exit))) (now (nodes .exit)) (now (spans .exit))
+        (queueLists (now («queue_words» .exit)) (now («queue_values» .exit)) (now («queue_gains» .exit))) (now (counts .exit))) r ⌝ }
+{
+    let mut words = [0u32; 40955];
+    let mut values = [0i32; 16382];
+    let mut costs = [0f32; 8191];
+    let room = nodes.len();
+    let n = numbers::to_copy(room);
+    records::from_records(nodes, n, &mut words[..], &mut values[..], &mut costs[..]);
+    let tree = numbers::work_on(
+        room,
+        n,
+        s,
+        seeded,
+        count,
+        logs,
+        &mut words[..],
+        &mut values[..],
+        &mut costs[..],
+        props,
+        tok,
+        res,
+        spans,
+        queue_words,
+        queue_values,
+        queue_gains,
+        counts,
+    );
+    records::to_records(nodes, n, &words[..], &values[..], &costs[..]);
+    tree
+}
+
+// Learns a tree from the rows into the node list.
+#[no_mangle]
+pub extern "C" fn ostrovuc_learn<'n, 'a>(
+    nodes: &'n mut [MaNode],
+    s: Settings,
+    logs: &'a [f32],
+    props: &'a mut [i32],
+    tok: &'a mut [u8],
+    res: &'a mut [i32],
+    spans: &'a mut [u32],
+    queue_words: &'a mut [u32],
+    queue_values: &'a mut [i32],
+    queue_gains: &'a mut [f32],
+    counts: &'a mut [u32],
+) -> LearnedTree
+    ensures { λ r. ⌜ r ≡ treeIn (learnRecords (settingsOf s) (now (logs .entry))
+        (lists (flat (now (props .entry)) (now (tok .entry)) (now (res .entry))) (now (nodes .entry)) (now (spans .entry))
+        (queueLists (now («queue_words» .entry)) (now («queue_values» .entry)) (now («queue_gains» .entry))) (now (counts .entry))) .outcome) ⌝ }
+    ensures { λ _. ⌜ (lists (flat (now (props .exit)) (now (tok .exit)) (now (res .exit))) (now (nodes .exit)) (now (spans .exit))
+        (queueLists (now («queue_words» .exit)) (now («queue_values» .exit)) (now («queue_gains» .exit))) (now (counts .exit)))
+        ≡ learnRecords (settingsOf s) (now (logs .entry))
+        (lists (flat (now (props .entry)) (now (tok .entry)) (now (res .entry))) (now (nodes .entry)) (now (spans .entry))
+        (queueLists (now («queue_words» .entry)) (now («queue_values» .entry)) (now («queue_gains» .entry))) (now (counts .entry))) .lent ⌝ }
+    ensures { λ r. ⌜ r ≡ treeIn (learn single (settingsOf s) (now (logs .entry))
+        (lentIn (lists (flat (now (props .entry)) (now (tok .entry)) (now (res .entry))) (now (nodes .entry)) (now (spans .entry))
+        (queueLists (now («queue_words» .entry)) (now («queue_values» .entry)) (now («queue_gains» .entry))) (now (counts .entry)))) .outcome) ⌝ }
+    ensures { λ _. ⌜ lentIn (lists (flat (now (props .exit)) (now (tok .exit)) (now (res .exit))) (now (nodes .exit)) (now (spans .exit))
+        (queueLists (now («queue_words» .exit)) (now («queue_values» .exit)) (now («queue_gains» .exit))) (now (counts .exit)))
+        ≡ learn single (settingsOf s) (now (logs .entry))
+        (lentIn (lists (flat (now (props .entry)) (now (tok .entry)) (now (res .entry))) (now (nodes .entry)) (now (spans .entry))
+        (queueLists (now («queue_words» .entry)) (now («queue_values» .entry)) (now («queue_gains» .entry))) (now (counts .entry)))) .lent ⌝ }
+{
+    work(
+        nodes,
+        s,
+        false,
+        0,
+        logs,
+        props,
+        tok,
+        res,
+        spans,
+        queue_words,
+        queue_values,
+        queue_gains,
+        counts,
+    )
+}
+
+// Deepens the tree of the first `count` nodes.
+#[no_mangle]
+pub extern "C" fn ostrovuc_deepen<'n, 'a>(
+    nodes: &'n mut [MaNode],
+    s: Settings,
+    count: u32,
+    logs: &'a [f32],
+    props: &'a mut [i32],
+    tok: &'a mut [u8],
+    res: &'a mut [i32],
+    spans: &'a mut [u32],
+    queue_words: &'a mut [u32],
+    queue_values: &'a mut [i32],
+    queue_gains: &'a mut [f32],
+    counts: &'a mut [u32],
+) -> LearnedTree
+    ensures { λ r. ⌜ r ≡ treeIn (deepenRecords (settingsOf s) (now (logs .entry)) count
+        (lists (flat (now (props .entry)) (now (tok .entry)) (now (res .entry))) (now (nodes .entry)) (now (spans .entry))
+        (queueLists (now («queue_words» .entry)) (now («queue_values» .entry)) (now («queue_gains» .entry))) (now (counts .entry))) .outcome) ⌝ }
+    ensures { λ _. ⌜ (lists (flat (now (props .exit)) (now (tok .exit)) (now (res .exit))) (now (nodes .exit)) (now (spans .exit))
+        (queueLists (now («queue_words» .exit)) (now («queue_values» .exit)) (now («queue_gains» .exit))) (now (counts .exit)))
+        ≡ deepenRecords (settingsOf s) (now (logs .entry)) count
+        (lists (flat (now (props .entry)) (now (tok .entry)) (now (res .entry))) (now (nodes .entry)) (now (spans .entry))
+        (queueLists (now («queue_words» .entry)) (now («queue_values» .entry)) (now («queue_gains» .entry))) (now (counts .entry))) .lent ⌝ }
+    ensures { λ r. ⌜ r ≡ treeIn (deepen single (settingsOf s) (now (logs .entry)) count
+        (lentIn (lists (flat (now (props .entry)) (now (tok .entry)) (now (res .entry))) (now (nodes .entry)) (now (spans .entry))
+        (queueLists (now («queue_words» .entry)) (now («queue_values» .entry)) (now («queue_gains» .entry))) (now (counts .entry)))) .outcome) ⌝ }
+    ensures { λ _. ⌜ lentIn (lists (flat (now (props .exit)) (now (tok .exit)) (now (res .exit))) (now (nodes .exit)) (now (spans .exit))
+        (queueLists (now («queue_words» .exit)) (now («queue_values» .exit)) (now («queue_gains» .exit))) (now (counts .exit)))
+        ≡ deepen single (settingsOf s) (now (logs .entry)) count
+        (lentIn (lists (flat (now (props .entry)) (now (tok .entry)) (now (res .entry))) (now (nodes .entry)) (now (spans .entry))
+        (queueLists (now («queue_words» .entry)) (now («queue_values» .entry)) (now («queue_gains» .entry))) (now (counts .entry)))) .lent ⌝ }
+{
+    work(
+        nodes,
+        s,
+        true,
+        count,
+        logs,
+        props,
+        tok,
+        res,
+        spans,
+        queue_words,
+        queue_values,
+        queue_gains,
+        counts,
+    )
+}
+
+// ---- lookup and contexts
+
+// The leaf that 24 properties lead to in the tree of the first `count` nodes. Only the nodes met on the way are looked at.
+#[no_mangle]
+pub extern "C" fn ostrovuc_lookup<'n, 'a>(nodes: &'n [MaNode], count: u32, props: &'a [i32]) -> Leaf
+    ensures { λ r. ⌜ r ≡ foundIn (lookup (map storedOf (now (nodes .entry))) count (now (props .entry))) ⌝ }
+{
+    let mut way = ways::begin(nodes.len(), count, props);
+    while way.on {
+        let m = nodes[way.node as usize];
+        way = ways::step(m, way.node, count, props);
+    }
+    way.end
+}
+
+// The context of each leaf of the tree of the first `count` nodes, and how many there are. The queue is room for the walk, and holds zeros afterwards.
+#[no_mangle]
+pub extern "C" fn ostrovuc_leaf_contexts<'n, 'a>(
+    nodes: &'n [MaNode],
+    count: u32,
+    contexts: &'a mut [u32],
+    queue: &'a mut [u32],
+) -> Count
+    ensures { λ r. ⌜ r ≡ countIn (leafContexts (map storedOf (now (nodes .entry))) count (record { contexts = now (contexts .entry); queue = now (queue .entry) }) .outcome) ⌝ }
+    ensures { λ _. ⌜ record { contexts = now (contexts .exit); queue = now (queue .exit) }
+        ≡ leafContexts (map storedOf (now (nodes .entry))) count (record { contexts = now (contexts .entry); queue = now (queue .entry) }) .lent ⌝ }
+{
+    let mut words = [0u32; 40955];
+    let mut values = [0i32; 16382];
+    let mut costs = [0f32; 8191];
+    let n = numbers::to_copy(nodes.len());
+    records::from_records(nodes, n, &mut words[..], &mut values[..], &mut costs[..]);
+    numbers::contexts_on(n, count, &words[..], &values[..], contexts, queue)
+}

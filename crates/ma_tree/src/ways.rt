@@ -1,0 +1,115 @@
+// The way of a lookup, one record at a time: where it begins, and a step.
+ghost use mathlib.Core.Path.{_≡_};
+ghost use Prim.Native.Nat.{ℕ};
+ghost use mathlib.Core.Bool.{true, false};
+ghost use mathlib.Core.List.{List};
+ghost use lib.IntN.{ℤ};
+ghost use Rattle.ma_tree.specs.Ways.{goesOn, refusedAt, begun, stepped, OneRow};
+use crate::answers::Leaf;
+use records::MaNode;
+
+// Properties of a row, and predictors.
+const NUM_MA_PROPS: usize = 24;
+
+const NUM_MA_PREDS: u32 = 14;
+
+// A lookup goes on at a node, or has ended.
+pub struct Way {
+    pub on: bool,
+    pub node: u32,
+    pub end: Leaf,
+}
+
+fn go_on(node: u32) -> Way
+    ensures { λ r. ⌜ r ≡ goesOn node ⌝ }
+{
+    Way {
+        on: true,
+        node,
+        end: Leaf {
+            number: 0,
+            place: 0,
+            leaf: 0,
+            pred: 0,
+        },
+    }
+}
+
+fn refuse(number: u32, place: u32) -> Way
+    ensures { λ r. ⌜ r ≡ refusedAt number place ⌝ }
+{
+    Way {
+        on: false,
+        node: place,
+        end: Leaf {
+            number,
+            place,
+            leaf: 0,
+            pred: 0,
+        },
+    }
+}
+
+// Before the first node: 24 properties, and a tree that the list holds.
+pub fn begin(room: usize, count: u32, props: &[i32]) -> Way
+    ensures { λ r. ⌜ r ≡ begun room count (now (props .entry)) ⌝ }
+{
+    if props.len() != NUM_MA_PROPS {
+        return refuse(9, 0);
+    }
+    if (count == 0) | (room < count as usize) {
+        return refuse(8, 0);
+    }
+    go_on(0)
+}
+
+// From a leaf: the way ends, with an answer if the predictor is one.
+fn end_at(m: MaNode, node: u32) -> Way
+    requires { ⌜ m .split ≡ false ⌝ }
+    ensures { λ r. ⌜ ((count : ℕ) (ps : List ℤ) → r ≡ stepped m node count ps) ⌝ }
+{
+    let info = m.info;
+    if NUM_MA_PREDS <= info.pred {
+        return refuse(8, node);
+    }
+    Way {
+        on: false,
+        node,
+        end: Leaf {
+            number: 0,
+            place: 0,
+            leaf: node,
+            pred: info.pred,
+        },
+    }
+}
+
+// From a split: a property above the value leads to gt, else to le. Both children must stand behind it and below the count.
+fn follow(m: MaNode, node: u32, count: u32, props: &[i32]) -> Way
+    requires { ⌜ m .split ≡ true ⌝ }
+    requires { ⌜ OneRow (now props) ⌝ }
+    ensures { λ r. ⌜ r ≡ stepped m node count (now (props .entry)) ⌝ }
+{
+    let prop = m.prop as usize;
+    let gt = m.gt;
+    let le = m.le;
+    if !((prop < NUM_MA_PROPS) & (((node < gt) & (node < le)) & ((gt < count) & (le < count)))) {
+        return refuse(8, node);
+    }
+    if m.val < props[prop] {
+        return go_on(gt);
+    }
+    go_on(le)
+}
+
+// One node further.
+pub fn step<'a>(m: MaNode, node: u32, count: u32, props: &'a [i32]) -> Way
+    requires { ⌜ OneRow (now props) ⌝ }
+    ensures { λ r. ⌜ r ≡ stepped m node count (now (props .entry)) ⌝ }
+{
+    let split = m.split;
+    if split {
+        return follow(m, node, count, props);
+    }
+    end_at(m, node)
+}
