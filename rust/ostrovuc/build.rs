@@ -1,0 +1,15 @@
+//! Links the proved library: the archive that `rt staticlib ma_tree` leaves.
+
+use std::env;
+use std::path::Path;
+
+fn main() {
+    let here = env::var("CARGO_MANIFEST_DIR").expect("cargo says where the package is");
+    let folder = Path::new(&here).join("../../target/staticlib");
+    println!(
+        "cargo::rerun-if-changed={}",
+        folder.join("libma_tree.a").display()
+    );
+    println!("cargo::rustc-link-search=native={}", folder.display());
+    println!("cargo::rustc-link-lib=static=ma_tree");
+}

@@ -1,0 +1,86 @@
+//! Owned lists of the lengths that document 01 asks for, to be lent to learning and deepening.
+
+use crate::operations::Lists;
+use crate::records::{MaNode, Settings};
+
+/// Everything that is lent besides the rows.
+#[derive(Clone, Debug, Default, PartialEq)]
+pub struct Room {
+    pub nodes: Vec<MaNode>,
+    pub spans: Vec<u32>,
+    pub queue_words: Vec<u32>,
+    pub queue_values: Vec<i32>,
+    pub queue_gains: Vec<f32>,
+    pub counts: Vec<u32>,
+}
+
+impl Room {
+    /// Room for learning from so many rows, and for deepening what was learned by as many.
+    pub fn for_learning(settings: &Settings, rows: usize) -> Self {
+        Self::of(settings, rows, grown(settings))
+    }
+
+    /// Room for deepening a seed, which stands at the front of its nodes.
+    pub fn for_deepening(settings: &Settings, rows: usize, seed: &[MaNode]) -> Self {
+        let mut room = Self::of(settings, rows, grown(settings).max(seed.len()));
+        room.nodes[..seed.len()].copy_from_slice(seed);
+        room
+    }
+
+    fn of(settings: &Settings, rows: usize, nodes: usize) -> Self {
+        let leaves = leaves(settings);
+        Self {
+            nodes: vec![MaNode::default(); nodes],
+            spans: vec![0; 2 * nodes],
+            queue_words: vec![0; 3 * leaves],
+            queue_values: vec![0; leaves],
+            queue_gains: vec![0.0; leaves],
+            counts: vec![0; counts(settings).max(rows.saturating_add(2 * nodes))],
+        }
+    }
+
+    /// The lists with the rows of a job.
+    pub fn lend<'a>(
+        &'a mut self,
+        props: &'a mut [i32],
+        tok: &'a mut [u8],
+        res: &'a mut [i32],
+    ) -> Lists<'a> {
+        Lists {
+            nodes: &mut self.nodes,
+            props,
+            tok,
+            res,
+            spans: &mut self.spans,
+            queue_words: &mut self.queue_words,
+            queue_values: &mut self.queue_values,
+            queue_gains: &mut self.queue_gains,
+            counts: &mut self.counts,
+        }
+    }
+}
+
+// Settings outside their ranges are refused whatever the room, so they are held to them here.
+
+fn leaves(settings: &Settings) -> usize {
+    settings.max_leaves.clamp(1, 4_096) as usize
+}
+
+/// Nodes of a tree with as many leaves as are allowed.
+fn grown(settings: &Settings) -> usize {
+    2 * leaves(settings) - 1
+}
+
+/// Count space: 4,096 numbers, and what a node's histograms or the scoring of a property take.
+fn counts(settings: &Settings) -> usize {
+    let alphabet = settings.alphabet.clamp(1, 256) as usize;
+    let sides = settings.side_preds.clamp(1, 14) as usize;
+    let candidates = settings.max_candidates.min(32) as usize;
+    4_096 + (56 * alphabet).max(14 * alphabet + sides * alphabet * (candidates + 2))
+}
+
+/// The logarithms that learning from so many rows asks for: entry c is log2 of c, entry 0 is 0.
+pub fn logarithms(rows: usize) -> Vec<f32> {
+    let log2 = |count: usize| (count as f64).log2() as f32;
+    std::iter::once(0.0).chain((1..=rows).map(log2)).collect()
+}
