@@ -1,4 +1,4 @@
-//! Links the port: the archive that `rt staticlib capi` leaves.
+//! Links the learner's single parts: the archive that `rt staticlib parts` leaves. Crate `ostrovuc` links the port.
 
 use std::env;
 use std::path::Path;
@@ -8,8 +8,8 @@ fn main() {
     let folder = Path::new(&here).join("../target/staticlib");
     println!(
         "cargo::rerun-if-changed={}",
-        folder.join("libcapi.a").display()
+        folder.join("libparts.a").display()
     );
     println!("cargo::rustc-link-search=native={}", folder.display());
-    println!("cargo::rustc-link-lib=static=capi");
+    println!("cargo::rustc-link-lib=static=parts");
 }

@@ -3,64 +3,25 @@
 use crate::coder_scratch::CoderScratch;
 use crate::ma_tree::{MaLearnParams, MaProperties, MaSamples, hooks};
 use crate::sheet::Sheet;
-use crate::timing::{row_of, timed};
-use port::Lent;
-use stream::{Kind, PREDICTORS, Record, Settings, Span};
+use crate::timing::{Run, row, timed};
+use driver::records;
+use ostrovuc::Room;
+use stream::{PREDICTORS, Record, Settings, Span};
 
 /// What both sides must have alike.
 #[derive(Debug, PartialEq)]
 struct Outcome {
     bits: [u64; 2],
-    words: Vec<[u32; 5]>,
+    nodes: Vec<Record>,
     spans: Vec<[u32; 2]>,
     tok: Vec<[u8; PREDICTORS]>,
     res: Vec<i32>,
 }
 
-/// Settling is document 01's addition, and is left out on both sides.
 pub fn learning(sheet: &Sheet, settings: &Settings) {
-    let repetitions = repetitions(sheet, settings);
     crate::adaptive_quant::lend(sheet.logs);
     let mut scratch = CoderScratch::default();
-    let mut lent = lent_for(settings);
-    let mut original = |samples: MaSamples| {
-        let params = params_of(settings);
-        let (time, samples, tree) = timed(samples, |s| hooks::learn(s, params, &mut scratch));
-        let outcome = Outcome {
-            bits: [tree.estimated_bits.to_bits(), tree.flat_bits.to_bits()],
-            words: tree.nodes.iter().map(words).collect(),
-            spans: tree
-                .spans
-                .iter()
-                .map(|&Span { first, end }| [first, end])
-                .collect(),
-            tok: samples.tok,
-            res: samples.val,
-        };
-        (time, outcome)
-    };
-    let mut port = || {
-        let (time, rows, tree) = timed(sheet.rows(), |rows| {
-            port::learn(rows, &mut lent, sheet.logs, port_settings(settings))
-        });
-        assert_eq!(tree.number, 0, "refused");
-        let nodes = tree.nodes as usize;
-        let outcome = Outcome {
-            bits: [tree.bits.to_bits(), tree.flat.to_bits()],
-            words: lent.words.as_chunks().0[..nodes].to_vec(),
-            spans: lent.spans.as_chunks().0[..nodes].to_vec(),
-            tok: rows.tok.as_chunks().0.to_vec(),
-            res: rows.res,
-        };
-        (time, outcome)
-    };
-    let narrow = sheet.narrow();
-    let width = if matches!(narrow.props, MaProperties::Wide(_)) {
-        32
-    } else {
-        16
-    };
-    drop(narrow);
+    let mut room = Room::for_learning(&records::settings(settings), sheet.len());
     let name = format!(
         "learning, {} rows, limit {}, alphabet {}, {} sides",
         sheet.len(),
@@ -68,51 +29,49 @@ pub fn learning(sheet: &Sheet, settings: &Settings) {
         settings.alphabet,
         settings.side_predictors
     );
-    if width == 16 {
-        row_of(
-            repetitions,
+    if !matches!(sheet.narrow().props, MaProperties::Wide(_)) {
+        row(
             &format!("{name}, 16-bit rows"),
-            || original(sheet.narrow()),
-            &mut port,
+            || original(sheet.narrow(), settings, &mut scratch),
+            || port(sheet, settings, &mut room),
         );
     }
-    row_of(
-        repetitions,
+    row(
         &format!("{name}, 32-bit rows"),
-        || original(sheet.wide()),
-        &mut port,
+        || original(sheet.wide(), settings, &mut scratch),
+        || port(sheet, settings, &mut room),
     );
 }
 
-/// So many that a row takes some seconds.
-fn repetitions(sheet: &Sheet, settings: &Settings) -> usize {
-    match (sheet.len(), settings.side_predictors) {
-        (..=4_096, ..=4) => 101,
-        (..=16_384, ..=4) => 31,
-        _ => 9,
-    }
+fn original(samples: MaSamples, settings: &Settings, scratch: &mut CoderScratch) -> Run<Outcome> {
+    let params = params_of(settings);
+    let (time, samples, tree) = timed(samples, |s| hooks::learn(s, params, scratch));
+    let span = |&Span { first, end }| [first, end];
+    let outcome = Outcome {
+        bits: [tree.estimated_bits.to_bits(), tree.flat_bits.to_bits()],
+        nodes: tree.nodes,
+        spans: tree.spans.iter().map(span).collect(),
+        tok: samples.tok,
+        res: samples.val,
+    };
+    (time, outcome)
 }
 
-fn words(r: &Record) -> [u32; 5] {
-    [u32::from(r.kind == Kind::Split), r.prop, r.gt, r.le, r.pred]
-}
-
-fn lent_for(s: &Settings) -> Lent {
-    let leaves = s.limit as usize;
-    let nodes = 2 * leaves - 1;
-    let alphabet = s.alphabet as usize;
-    let windows = s.side_predictors.max(1) as usize * alphabet * (s.candidates as usize + 2);
-    let counts = 4_096 + (56 * alphabet).max(14 * alphabet + windows);
-    Lent {
-        words: vec![0; 5 * nodes],
-        values: vec![0; 2 * nodes],
-        costs: vec![0.0; nodes],
-        spans: vec![0; 2 * nodes],
-        queue_words: vec![0; 3 * leaves],
-        queue_values: vec![0; leaves],
-        queue_gains: vec![0.0; leaves],
-        counts: vec![0; counts],
-    }
+fn port(sheet: &Sheet, settings: &Settings, room: &mut Room) -> Run<Outcome> {
+    let settings = without_settling(settings);
+    let (time, rows, tree) = timed(sheet.rows(), |rows| {
+        let lists = room.lend(&mut rows.props, &mut rows.tok, &mut rows.res);
+        ostrovuc::learn(lists, &settings, sheet.logs).expect("accepted")
+    });
+    let nodes = tree.nodes as usize;
+    let outcome = Outcome {
+        bits: [tree.bits.to_bits(), tree.flat.to_bits()],
+        nodes: records::records(&room.nodes[..nodes]),
+        spans: room.spans.as_chunks().0[..nodes].to_vec(),
+        tok: rows.tok.as_chunks().0.to_vec(),
+        res: rows.res,
+    };
+    (time, outcome)
 }
 
 fn params_of(s: &Settings) -> MaLearnParams {
@@ -130,10 +89,10 @@ fn params_of(s: &Settings) -> MaLearnParams {
     }
 }
 
-/// Settling, which the original does not have, is off.
-fn port_settings(s: &Settings) -> port::Settings {
-    port::Settings {
+/// Settling is document 01's addition, which the original does not have, and is off on both sides.
+pub fn without_settling(s: &Settings) -> ostrovuc::Settings {
+    ostrovuc::Settings {
         settle: false,
-        ..port::Settings::from(s)
+        ..records::settings(s)
     }
 }

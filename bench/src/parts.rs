@@ -5,7 +5,7 @@ use crate::coder_scratch::CoderScratch;
 use crate::ma_tree::{MaSamples, hooks};
 use crate::sheet::{Sheet, spans};
 use crate::timing::{row, timed};
-use port::{CANDIDATES, Counts};
+use driver::port::{self, CANDIDATES, Counts};
 use stream::{PREDICTORS, PROPERTIES};
 
 const SPANS: [usize; 3] = [65_536, 1_024, 64];
@@ -43,7 +43,10 @@ fn scoring(sheet: &Sheet, rows: usize, tables: bool) {
     let (props, tok) = (&sheet.props[..rows], &sheet.tok[..rows]);
     let alphabet = sheet.alphabet;
     let mut scratch = CoderScratch::default();
-    let (mut bins, mut room) = (Vec::new(), vec![0; SIDES.len() * alphabet * (CANDIDATES + 2)]);
+    let (mut bins, mut room) = (
+        Vec::new(),
+        vec![0; SIDES.len() * alphabet * (CANDIDATES + 2)],
+    );
     let sides = SIDES.map(|p| p as u32);
     for prop in COLUMNS {
         let planned = hooks::Scoring::of(props, tok, prop, &SIDES, alphabet, tables, &mut scratch);
@@ -51,13 +54,16 @@ fn scoring(sheet: &Sheet, rows: usize, tables: bool) {
         let node = scoring.node();
         // SAFETY: `node` was counted over these rows, whose tokens are below the alphabet.
         let windows = unsafe { port::Windows::of(node, &sides, alphabet) };
-        let name = if tables { "with tables" } else { "without tables" };
+        let name = if tables {
+            "with tables"
+        } else {
+            "without tables"
+        };
         row(
             &format!("scoring {rows} rows, property {prop}, Rust {name}"),
             || {
-                let (time, _, score) = timed((), |()| {
-                    scoring.score(props, tok, &mut bins, &mut scratch)
-                });
+                let (time, _, score) =
+                    timed((), |()| scoring.score(props, tok, &mut bins, &mut scratch));
                 (time, score.map(|(value, cost)| (value, cost.to_bits())))
             },
             || {

@@ -1,7 +1,7 @@
 //! One sheet's rows, as the original holds them and as the port does.
 
 use crate::ma_tree::{MaProperties, MaSamples};
-use port::Rows;
+use driver::port::Rows;
 use stream::{Learning, PREDICTORS, PROPERTIES};
 
 pub struct Sheet {

@@ -3,10 +3,12 @@
 
 use std::ffi::{c_int, c_long};
 use std::fmt::Debug;
+use std::ops::RangeInclusive;
 use std::time::Duration;
 
-/// Repetitions of each side.
-const REPETITIONS: usize = 101;
+/// Repetitions of each side: as many as a few seconds hold, and an odd number.
+const REPETITIONS: RangeInclusive<usize> = 7..=101;
+const ENOUGH: Duration = Duration::from_secs(5);
 
 /// The time of one run and what it gave, for the comparison of both sides.
 pub type Run<T> = (Duration, T);
@@ -45,8 +47,8 @@ fn processor_time() -> Duration {
 
 pub fn heading() {
     println!(
-        "{:70} {:>12} {:>12} {:>7}",
-        "", "Rust, us", "port, us", "ratio"
+        "{:78} {:>11} {:>11} {:>6} {:>9} {:>9}",
+        "", "Rust, us", "port, us", "ratio", "Rust, M/s", "port, M/s"
     );
 }
 
@@ -57,17 +59,39 @@ pub fn row<T: PartialEq + Debug>(
     rust: impl FnMut() -> Run<T>,
     port: impl FnMut() -> Run<T>,
 ) {
-    row_of(REPETITIONS, name, rust, port);
+    let [rust, port] = medians(name, rust, port).map(micros);
+    println!("{}", columns(name, rust, port));
 }
 
-pub fn row_of<T: PartialEq + Debug>(
-    repetitions: usize,
+/// The same for work on so many items: the millions of them a second stand beside it.
+pub fn row_of_items<T: PartialEq + Debug>(
+    name: &str,
+    items: usize,
+    rust: impl FnMut() -> Run<T>,
+    port: impl FnMut() -> Run<T>,
+) {
+    let [rust, port] = medians(name, rust, port).map(micros);
+    let rate = |time: f64| items as f64 / time;
+    let columns = columns(name, rust, port);
+    println!("{columns} {:9.1} {:9.1}", rate(rust), rate(port));
+}
+
+fn micros(time: Duration) -> f64 {
+    time.as_secs_f64() * 1e6
+}
+
+fn columns(name: &str, rust: f64, port: f64) -> String {
+    format!("{name:78} {rust:11.1} {port:11.1} {:6.2}", port / rust)
+}
+
+fn medians<T: PartialEq + Debug>(
     name: &str,
     mut rust: impl FnMut() -> Run<T>,
     mut port: impl FnMut() -> Run<T>,
-) {
+) -> [Duration; 2] {
     let mut times = [Vec::new(), Vec::new()];
-    for turn in 0..repetitions {
+    let mut spent = Duration::ZERO;
+    for turn in 0..*REPETITIONS.end() {
         let ((rust_time, expected), (port_time, given)) = if turn % 2 == 0 {
             let first = rust();
             (first, port())
@@ -78,15 +102,13 @@ pub fn row_of<T: PartialEq + Debug>(
         assert!(given == expected, "{name}: the answers differ");
         times[0].push(rust_time);
         times[1].push(port_time);
+        spent += rust_time + port_time;
+        let repetitions = turn + 1;
+        if spent >= ENOUGH && repetitions >= *REPETITIONS.start() && repetitions % 2 == 1 {
+            break;
+        }
     }
-    let [rust, port] = times.map(median);
-    let micros = |time: Duration| time.as_secs_f64() * 1e6;
-    println!(
-        "{name:70} {:12.1} {:12.1} {:7.2}",
-        micros(rust),
-        micros(port),
-        micros(port) / micros(rust)
-    );
+    times.map(median)
 }
 
 fn median(mut times: Vec<Duration>) -> Duration {

@@ -6,7 +6,7 @@
 mod learning;
 mod operations;
 
-use port::Counts;
+use driver::port::Counts;
 use std::io::{self, BufReader, BufWriter, Write};
 use std::process::ExitCode;
 use stream::{Damaged, Job, read_message, write_message};

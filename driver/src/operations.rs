@@ -2,10 +2,12 @@
 //! answer as the stream does.
 
 use crate::learning;
-use port::{CANDIDATES, Counts, Rows};
+use driver::port::{self, CANDIDATES, Counts, Rows};
+use driver::records;
+use ostrovuc::Refusal;
 use stream::{
-    Answer, Contexts, ContextsJob, Found, Job, Kind, LookupJob, PREDICTORS, PROPERTIES, Record,
-    Runs, SampleJob, Sampled, TokenOf, ValueOf,
+    Answer, Contexts, ContextsJob, Found, Job, LookupJob, PREDICTORS, PROPERTIES, Runs, SampleJob,
+    Sampled, TokenOf, ValueOf,
 };
 
 /// What a queue entry prints as that is neither zero nor untouched.
@@ -18,7 +20,9 @@ pub fn answer(job: Job, counts: &mut Counts) -> Answer {
         Job::Lookup(job) => Answer::Found(lookup(&job)),
         Job::Contexts(job) => Answer::Contexts(contexts(&job)),
         Job::Sample(job) => Answer::Sampled(sample(&job)),
-        Job::Pack(values) => Answer::Packed(values.into_iter().map(port::pack_signed).collect()),
+        Job::Pack(values) => {
+            Answer::Packed(values.into_iter().map(ostrovuc::pack_signed).collect())
+        }
         Job::Token(values) => Answer::Tokens(values.into_iter().map(token).collect()),
         Job::Value(pairs) => Answer::Values(pairs.into_iter().map(value).collect()),
         Job::Mode(residuals) => mode(&residuals, counts),
@@ -28,49 +32,36 @@ pub fn answer(job: Job, counts: &mut Counts) -> Answer {
     }
 }
 
-/// A node list as the port holds it: five words and two values a node. What a node
-/// costs is read by neither lookup nor contexts.
-pub struct Nodes {
-    pub words: Vec<u32>,
-    pub values: Vec<i32>,
-}
-
-impl Nodes {
-    pub fn of(records: &[Record]) -> Self {
-        let words = |r: &Record| [u32::from(r.kind == Kind::Split), r.prop, r.gt, r.le, r.pred];
-        Self {
-            words: records.iter().flat_map(words).collect(),
-            values: records.iter().flat_map(|r| [r.val, r.offset]).collect(),
-        }
+/// An answer as number, place and the rest: 0 for all of it after a refusal.
+pub fn told<T: Default>(answer: Result<T, Refusal>) -> (u32, u32, T) {
+    match answer {
+        Ok(given) => (0, 0, given),
+        Err(refusal) => (refusal.number(), refusal.place(), T::default()),
     }
 }
 
 fn lookup(job: &LookupJob) -> Found {
-    let nodes = Nodes::of(&job.nodes.whole(job.fill));
-    let found = port::lookup(&nodes.words, &nodes.values, job.count, &job.properties);
+    let nodes = records::nodes(&job.nodes.whole(job.fill));
+    let found = ostrovuc::lookup(&nodes, job.count, &job.properties);
+    let (number, place, (leaf, pred)) = told(found.map(|found| (found.leaf, found.pred)));
     Found {
-        number: found.number,
-        place: found.place,
-        leaf: found.leaf,
-        pred: found.pred,
+        number,
+        place,
+        leaf,
+        pred,
     }
 }
 
 fn contexts(job: &ContextsJob) -> Contexts {
-    let nodes = Nodes::of(&job.nodes.whole(job.fill));
+    let nodes = records::nodes(&job.nodes.whole(job.fill));
     let mut contexts = vec![job.fill; job.context_entries as usize];
     let mut queue = vec![job.fill; job.queue_entries as usize];
-    let counted = port::leaf_contexts(
-        &nodes.words,
-        &nodes.values,
-        job.count,
-        &mut contexts,
-        &mut queue,
-    );
+    let counted = ostrovuc::leaf_contexts(&nodes, job.count, &mut contexts, &mut queue);
+    let (number, place, context_count) = told(counted);
     Contexts {
-        number: counted.number,
-        place: counted.place,
-        context_count: counted.count,
+        number,
+        place,
+        context_count,
         contexts,
         queue: queue_runs(&queue, job.fill),
     }
@@ -100,17 +91,18 @@ pub fn runs(entries: impl Iterator<Item = u32>) -> Runs {
 
 fn sample(job: &SampleJob) -> Sampled {
     let mut output = vec![job.fill; job.output_entries as usize];
-    let sampled = port::evenly_sampled_indices(job.rows as usize, job.target as usize, &mut output);
+    let (rows, target) = (job.rows as usize, job.target as usize);
+    let (number, place, picked) = told(ostrovuc::evenly_sampled_indices(rows, target, &mut output));
     Sampled {
-        number: sampled.number,
-        place: sampled.place,
-        picked: sampled.count,
+        number,
+        place,
+        picked,
         output,
     }
 }
 
 fn token(value: u32) -> TokenOf {
-    let encoding = port::uint_encode(value);
+    let encoding = ostrovuc::uint_encode(value);
     TokenOf {
         token: encoding.token,
         extra_count: encoding.extra_count,
@@ -119,11 +111,11 @@ fn token(value: u32) -> TokenOf {
 }
 
 fn value((token, extra): (u32, u32)) -> ValueOf {
-    let read = port::token_value(token, extra);
+    let (number, place, value) = told(ostrovuc::token_value(token, extra));
     ValueOf {
-        number: read.number,
-        place: 0,
-        value: read.value,
+        number,
+        place,
+        value,
     }
 }
 

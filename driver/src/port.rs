@@ -1,5 +1,6 @@
-//! The port: what crate `capi` exports, behind slices. A part of the learner that
-//! asks something of its caller is either held to it here or unsafe to call.
+//! Single parts of the learner, and nothing else of the port: what crate `parts` exports for tests and the benchmark, behind
+//! slices. A part that asks something of its caller is either held to it here or unsafe to call. The public operations are
+//! crate `ostrovuc`'s.
 
 /// Tokens of a row.
 const PREDICTORS: usize = 14;
@@ -12,88 +13,11 @@ pub const CANDIDATES: usize = 32;
 /// Most rows.
 const ROWS: usize = 65_536;
 
-/// A value's token and its extra bits.
-#[repr(C)]
-pub struct Encoding {
-    pub token: u32,
-    pub extra_count: u32,
-    pub extra_bits: u32,
-}
-
-/// A token's value; number 0 says that there is one.
-#[repr(C)]
-pub struct Read {
-    pub number: u32,
-    pub value: u32,
-}
-
-/// The leaf of a lookup; number 0 says that there is one.
-#[repr(C)]
-pub struct Leaf {
-    pub number: u32,
-    pub place: u32,
-    pub leaf: u32,
-    pub pred: u32,
-}
-
-/// How many were written; number 0 says that the call was accepted.
-#[repr(C)]
-pub struct Count {
-    pub number: u32,
-    pub place: u32,
-    pub count: u32,
-}
-
-/// A learned tree; number 0 says that there is one.
-#[repr(C)]
-pub struct LearnedTree {
-    pub number: u32,
-    pub place: u32,
-    pub nodes: u32,
-    pub leaves: u32,
-    pub bits: f64,
-    pub flat: f64,
-}
-
 /// How many nodes pruning leaves, and their estimated bits.
 #[repr(C)]
 pub struct PrunedTree {
     pub nodes: usize,
     pub bits: f64,
-}
-
-/// The settings of learning, in document 01's order.
-#[derive(Clone, Copy)]
-pub struct Settings {
-    pub alphabet: u32,
-    pub max_leaves: u32,
-    pub split_cost_bits: f32,
-    pub prune_leaf_bits: f32,
-    pub min_node: u32,
-    pub side_preds: u32,
-    pub max_candidates: u32,
-    pub allow_wp: bool,
-    pub allowed_preds: u16,
-    pub modal_offsets: bool,
-    pub settle: bool,
-}
-
-impl From<&stream::Settings> for Settings {
-    fn from(s: &stream::Settings) -> Self {
-        Self {
-            alphabet: s.alphabet,
-            max_leaves: s.limit,
-            split_cost_bits: s.split_cost,
-            prune_leaf_bits: s.price,
-            min_node: s.smallest_node,
-            side_preds: s.side_predictors,
-            max_candidates: s.candidates,
-            allow_wp: s.weighted,
-            allowed_preds: s.allowed,
-            modal_offsets: s.modal_offsets,
-            settle: s.settling,
-        }
-    }
 }
 
 /// The best threshold of a property and its cost.
@@ -105,85 +29,10 @@ pub struct Scored {
 }
 
 mod c {
-    use super::{Count, Encoding, Leaf, LearnedTree, PrunedTree, Read, Scored};
+    use super::{PrunedTree, Scored};
 
     // Each slice is a pointer and a length.
     unsafe extern "C" {
-        pub fn ostrovuc_learn(
-            props: *mut i32,
-            props_length: usize,
-            tok: *mut u8,
-            tok_length: usize,
-            res: *mut i32,
-            res_length: usize,
-            words: *mut u32,
-            words_length: usize,
-            values: *mut i32,
-            values_length: usize,
-            costs: *mut f32,
-            costs_length: usize,
-            spans: *mut u32,
-            spans_length: usize,
-            queue_words: *mut u32,
-            queue_words_length: usize,
-            queue_values: *mut i32,
-            queue_values_length: usize,
-            queue_gains: *mut f32,
-            queue_gains_length: usize,
-            counts: *mut u32,
-            counts_length: usize,
-            logs: *const f32,
-            logs_length: usize,
-            alphabet: u32,
-            max_leaves: u32,
-            split_cost_bits: f32,
-            prune_leaf_bits: f32,
-            min_node: u32,
-            side_preds: u32,
-            max_candidates: u32,
-            allow_wp: bool,
-            allowed_preds: u16,
-            modal_offsets: bool,
-            settle: bool,
-        ) -> LearnedTree;
-        pub fn ostrovuc_deepen(
-            props: *mut i32,
-            props_length: usize,
-            tok: *mut u8,
-            tok_length: usize,
-            res: *mut i32,
-            res_length: usize,
-            words: *mut u32,
-            words_length: usize,
-            values: *mut i32,
-            values_length: usize,
-            costs: *mut f32,
-            costs_length: usize,
-            spans: *mut u32,
-            spans_length: usize,
-            queue_words: *mut u32,
-            queue_words_length: usize,
-            queue_values: *mut i32,
-            queue_values_length: usize,
-            queue_gains: *mut f32,
-            queue_gains_length: usize,
-            counts: *mut u32,
-            counts_length: usize,
-            logs: *const f32,
-            logs_length: usize,
-            alphabet: u32,
-            max_leaves: u32,
-            split_cost_bits: f32,
-            prune_leaf_bits: f32,
-            min_node: u32,
-            side_preds: u32,
-            max_candidates: u32,
-            allow_wp: bool,
-            allowed_preds: u16,
-            modal_offsets: bool,
-            settle: bool,
-            count: u32,
-        ) -> LearnedTree;
         pub fn ostrovuc_set_windows(
             node: *const u32,
             node_length: usize,
@@ -219,35 +68,6 @@ mod c {
             prop: usize,
             alphabet: usize,
         ) -> Scored;
-        pub safe fn ostrovuc_pack_signed(value: i32) -> u32;
-        pub safe fn ostrovuc_uint_encode(value: u32) -> Encoding;
-        pub safe fn ostrovuc_token_value(token: u32, extra: u32) -> Read;
-        pub fn ostrovuc_evenly_sampled_indices(
-            rows: usize,
-            target: usize,
-            out: *mut u32,
-            out_length: usize,
-        ) -> Count;
-        pub fn ostrovuc_lookup(
-            words: *const u32,
-            words_length: usize,
-            values: *const i32,
-            values_length: usize,
-            count: u32,
-            props: *const i32,
-            props_length: usize,
-        ) -> Leaf;
-        pub fn ostrovuc_leaf_contexts(
-            words: *const u32,
-            words_length: usize,
-            values: *const i32,
-            values_length: usize,
-            count: u32,
-            contexts: *mut u32,
-            contexts_length: usize,
-            queue: *mut u32,
-            queue_length: usize,
-        ) -> Count;
         pub fn ostrovuc_prune(
             words: *mut u32,
             words_length: usize,
@@ -313,63 +133,6 @@ mod c {
     }
 }
 
-pub fn pack_signed(value: i32) -> u32 {
-    c::ostrovuc_pack_signed(value)
-}
-
-pub fn uint_encode(value: u32) -> Encoding {
-    c::ostrovuc_uint_encode(value)
-}
-
-pub fn token_value(token: u32, extra: u32) -> Read {
-    c::ostrovuc_token_value(token, extra)
-}
-
-pub fn evenly_sampled_indices(rows: usize, target: usize, out: &mut [u32]) -> Count {
-    // SAFETY: the pointer and the length are a slice's.
-    unsafe { c::ostrovuc_evenly_sampled_indices(rows, target, out.as_mut_ptr(), out.len()) }
-}
-
-/// A node's words are kind, property, gt, le and predictor; its values are
-/// threshold and offset.
-pub fn lookup(words: &[u32], values: &[i32], count: u32, props: &[i32]) -> Leaf {
-    // SAFETY: the pointers and the lengths are slices'.
-    unsafe {
-        c::ostrovuc_lookup(
-            words.as_ptr(),
-            words.len(),
-            values.as_ptr(),
-            values.len(),
-            count,
-            props.as_ptr(),
-            props.len(),
-        )
-    }
-}
-
-pub fn leaf_contexts(
-    words: &[u32],
-    values: &[i32],
-    count: u32,
-    contexts: &mut [u32],
-    queue: &mut [u32],
-) -> Count {
-    // SAFETY: the pointers and the lengths are slices'.
-    unsafe {
-        c::ostrovuc_leaf_contexts(
-            words.as_ptr(),
-            words.len(),
-            values.as_ptr(),
-            values.len(),
-            count,
-            contexts.as_mut_ptr(),
-            contexts.len(),
-            queue.as_mut_ptr(),
-            queue.len(),
-        )
-    }
-}
-
 /// The rows of a job in flat lists.
 pub struct Rows {
     pub props: Vec<i32>,
@@ -412,100 +175,38 @@ impl Rows {
     }
 }
 
-/// What learning is lent besides the rows. A node has five words (kind, property, gt, le,
-/// predictor), two values (threshold, offset), a cost and a span of two rows; a waiting
-/// leaf three words, a value and a gain.
-pub struct Lent {
+/// A tree in number lists. A node has five words (kind, property, gt, le, predictor), two values (threshold, offset), a
+/// cost and a span of two rows.
+pub struct Tree {
     pub words: Vec<u32>,
     pub values: Vec<i32>,
     pub costs: Vec<f32>,
     pub spans: Vec<u32>,
-    pub queue_words: Vec<u32>,
-    pub queue_values: Vec<i32>,
-    pub queue_gains: Vec<f32>,
-    pub counts: Vec<u32>,
 }
 
-/// Calls an export with the lists of rows, the lent lists, the logarithms and the settings.
-macro_rules! call {
-    ($export:path, $rows:expr, $lent:expr, $logs:expr, $s:expr $(, $more:expr)*) => {
-        // SAFETY: the pointers and the lengths are lists'; nothing more is asked.
-        unsafe { $export(
-            $rows.props.as_mut_ptr(),
-            $rows.props.len(),
-            $rows.tok.as_mut_ptr(),
-            $rows.tok.len(),
-            $rows.res.as_mut_ptr(),
-            $rows.res.len(),
-            $lent.words.as_mut_ptr(),
-            $lent.words.len(),
-            $lent.values.as_mut_ptr(),
-            $lent.values.len(),
-            $lent.costs.as_mut_ptr(),
-            $lent.costs.len(),
-            $lent.spans.as_mut_ptr(),
-            $lent.spans.len(),
-            $lent.queue_words.as_mut_ptr(),
-            $lent.queue_words.len(),
-            $lent.queue_values.as_mut_ptr(),
-            $lent.queue_values.len(),
-            $lent.queue_gains.as_mut_ptr(),
-            $lent.queue_gains.len(),
-            $lent.counts.as_mut_ptr(),
-            $lent.counts.len(),
-            $logs.as_ptr(),
-            $logs.len(),
-            $s.alphabet,
-            $s.max_leaves,
-            $s.split_cost_bits,
-            $s.prune_leaf_bits,
-            $s.min_node,
-            $s.side_preds,
-            $s.max_candidates,
-            $s.allow_wp,
-            $s.allowed_preds,
-            $s.modal_offsets,
-            $s.settle,
-            $($more,)*
-        ) }
-    };
-}
-
-pub fn learn(rows: &mut Rows, lent: &mut Lent, logs: &[f32], s: Settings) -> LearnedTree {
-    call!(c::ostrovuc_learn, rows, lent, logs, s)
-}
-
-pub fn deepen(
-    rows: &mut Rows,
-    lent: &mut Lent,
-    logs: &[f32],
-    s: Settings,
-    count: u32,
-) -> LearnedTree {
-    call!(c::ostrovuc_deepen, rows, lent, logs, s, count)
-}
-
-/// Prunes the tree of the first `count` nodes at a price.
-///
-/// # Safety
-///
-/// The lists hold a sound tree of `count` nodes, with 0 for what a leaf does not have; no
-/// cost is NaN, and neither is the price.
-pub unsafe fn prune(lent: &mut Lent, count: usize, price: f32) -> PrunedTree {
-    // SAFETY: the pointers and the lengths are lists'; the caller sees to the rest.
-    unsafe {
-        c::ostrovuc_prune(
-            lent.words.as_mut_ptr(),
-            lent.words.len(),
-            lent.values.as_mut_ptr(),
-            lent.values.len(),
-            lent.costs.as_mut_ptr(),
-            lent.costs.len(),
-            lent.spans.as_mut_ptr(),
-            lent.spans.len(),
-            count,
-            price,
-        )
+impl Tree {
+    /// Prunes the tree at a price.
+    ///
+    /// # Safety
+    ///
+    /// The lists hold a sound tree and nothing more, with 0 for what a leaf does not have; no cost is NaN, and neither is the
+    /// price.
+    pub unsafe fn prune(&mut self, price: f32) -> PrunedTree {
+        // SAFETY: the pointers and the lengths are lists'; the caller sees to the rest.
+        unsafe {
+            c::ostrovuc_prune(
+                self.words.as_mut_ptr(),
+                self.words.len(),
+                self.values.as_mut_ptr(),
+                self.values.len(),
+                self.costs.as_mut_ptr(),
+                self.costs.len(),
+                self.spans.as_mut_ptr(),
+                self.spans.len(),
+                self.costs.len(),
+                price,
+            )
+        }
     }
 }
 

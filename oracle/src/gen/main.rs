@@ -1,9 +1,9 @@
 //! Makes job streams:
 //!
-//!     gen FAMILY SEED COUNT > jobs
+//!     gen FAMILY SEED COUNT [FIRST] > jobs
 //!     gen --list
 //!
-//! A family, a seed and an index name one job, however many are asked for.
+//! A family, a seed and an index name one job, however many are asked for; the first index is 0, or FIRST.
 
 mod agree;
 mod draft;
@@ -109,17 +109,15 @@ const FAMILIES: &[Family] = &[
     family("agree", "fourteen tiny jobs fit for a proof checker, again and again", agree::agree),
 ];
 
-const USAGE: &str = "usage: gen FAMILY SEED COUNT > jobs, or gen --list";
+const USAGE: &str = "usage: gen FAMILY SEED COUNT [FIRST] > jobs, or gen --list";
 
 fn main() -> ExitCode {
     let arguments: Vec<String> = std::env::args().skip(1).collect();
     let arguments: Vec<&str> = arguments.iter().map(String::as_str).collect();
     let done = match arguments[..] {
         ["--list"] => list(),
-        [name, seed, count] => match (find(name), seed.parse(), count.parse()) {
-            (Some(family), Ok(seed), Ok(count)) => write_jobs(family, seed, count),
-            _ => Err(Damaged(USAGE.into())),
-        },
+        [name, seed, count] => write_jobs(name, seed, count, "0"),
+        [name, seed, count, first] => write_jobs(name, seed, count, first),
         _ => Err(Damaged(USAGE.into())),
     };
     match done {
@@ -131,8 +129,13 @@ fn main() -> ExitCode {
     }
 }
 
-fn find(name: &str) -> Option<&'static Family> {
-    FAMILIES.iter().find(|family| family.name == name)
+fn find(name: &str) -> Result<&'static Family, Damaged> {
+    let found = FAMILIES.iter().find(|family| family.name == name);
+    found.ok_or_else(|| Damaged(USAGE.into()))
+}
+
+fn number(argument: &str) -> Result<u64, Damaged> {
+    argument.parse().map_err(|_| Damaged(USAGE.into()))
 }
 
 fn list() -> Result<(), Damaged> {
@@ -143,9 +146,11 @@ fn list() -> Result<(), Damaged> {
     Ok(())
 }
 
-fn write_jobs(family: &Family, seed: u64, count: u64) -> Result<(), Damaged> {
+fn write_jobs(name: &str, seed: &str, count: &str, first: &str) -> Result<(), Damaged> {
+    let family = find(name)?;
+    let (seed, count, first) = (number(seed)?, number(count)?, number(first)?);
     let mut output = BufWriter::with_capacity(1 << 20, io::stdout().lock());
-    for index in 0..count {
+    for index in first..first.saturating_add(count) {
         let at = At {
             family: family.name,
             seed,

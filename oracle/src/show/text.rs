@@ -3,22 +3,147 @@
 
 use std::fmt::Write;
 use stream::{
-    Answer, Job, Kind, Learned, Learning, PREDICTORS, PROPERTIES, Record, Settings, Span,
+    Answer, Contexts, ContextsJob, Job, Kind, Learned, Learning, LookupJob, NodeList, PREDICTORS,
+    PROPERTIES, PruneJob, Pruned, Record, SampleJob, Sampled, Settings, Span,
 };
 
 pub fn job(job: &Job) -> String {
     match job {
         Job::Learn(job) => learning("learn", job),
         Job::Deepen(job) => learning("deepen", job),
-        other => format!("{other:?}\n"),
+        Job::Lookup(job) => lookup(job),
+        Job::Contexts(job) => contexts(job),
+        Job::Sample(job) => sample(job),
+        Job::Pack(list) => format!("pack {list:?}\n"),
+        Job::Token(list) => format!("tokens of {list:?}\n"),
+        Job::Value(list) => format!("values of (token, extra bits) {list:?}\n"),
+        Job::Mode(list) => format!("mode step on residuals {list:?}\n"),
+        Job::Candidates(list, limit) => format!("at most {limit} candidates of column {list:?}\n"),
+        Job::Partition(list, threshold) => {
+            format!("partition of column {list:?} above {threshold}\n")
+        }
+        Job::Prune(job) => prune(job),
     }
 }
 
 pub fn answer(answer: &Answer) -> String {
     match answer {
         Answer::Learned(answer) | Answer::Deepened(answer) => learned(answer),
-        other => format!("{other:?}\n"),
+        Answer::Found(found) => format!(
+            "number {}, place {}, leaf {}, predictor {}\n",
+            found.number, found.place, found.leaf, found.pred
+        ),
+        Answer::Contexts(answer) => counted(answer),
+        Answer::Sampled(answer) => sampled(answer),
+        Answer::Packed(list) => format!("{list:?}\n"),
+        Answer::Tokens(list) => list
+            .iter()
+            .map(|t| {
+                format!(
+                    "token {}, {} extra bits: {}\n",
+                    t.token, t.extra_count, t.extra_bits
+                )
+            })
+            .collect(),
+        Answer::Values(list) => list
+            .iter()
+            .map(|v| {
+                format!(
+                    "number {}, place {}, value {}\n",
+                    v.number, v.place, v.value
+                )
+            })
+            .collect(),
+        Answer::Mode(mode, tokens) => format!("mode {mode}, zero-predictor tokens {tokens:?}\n"),
+        Answer::Candidates(list) => format!("candidates {list:?}\n"),
+        Answer::Partitioned(above, list) => format!("{above} rows above, column {list:?}\n"),
+        Answer::Pruned(answer) => pruned(answer),
     }
+}
+
+fn given(nodes: &[Record]) -> String {
+    let line = |(i, record)| format!("node {i}: {}\n", node(record));
+    nodes.iter().enumerate().map(line).collect()
+}
+
+fn spanned(nodes: &[Record], spans: &[Span]) -> String {
+    let line = |(i, (record, span)): (usize, (&Record, &Span))| {
+        format!(
+            "node {i}: {}, rows {}..{}\n",
+            node(record),
+            span.first,
+            span.end
+        )
+    };
+    nodes.iter().zip(spans).enumerate().map(line).collect()
+}
+
+/// A node list to be read, and how much of it counts.
+fn list_of(count: u32, nodes: &NodeList, fill: u32) -> String {
+    format!(
+        "the first {count} nodes of {}, {} given, fill {fill}\n{}",
+        nodes.entries,
+        nodes.given.len(),
+        given(&nodes.given)
+    )
+}
+
+fn lookup(job: &LookupJob) -> String {
+    let properties = match job.properties.as_array() {
+        Some(properties) => set(properties),
+        None => format!("{:?}", job.properties),
+    };
+    format!(
+        "lookup of properties {properties} in {}",
+        list_of(job.count, &job.nodes, job.fill)
+    )
+}
+
+fn contexts(job: &ContextsJob) -> String {
+    format!(
+        "contexts, room for {}, queue {}, of {}",
+        job.context_entries,
+        job.queue_entries,
+        list_of(job.count, &job.nodes, job.fill)
+    )
+}
+
+fn counted(answer: &Contexts) -> String {
+    format!(
+        "number {}, place {}, {} contexts: {:?}, queue {:?}\n",
+        answer.number, answer.place, answer.context_count, answer.contexts, answer.queue.0
+    )
+}
+
+fn sample(job: &SampleJob) -> String {
+    format!(
+        "even sampling of {} rows, {} wanted, room for {}, fill {}\n",
+        job.rows, job.target, job.output_entries, job.fill
+    )
+}
+
+fn sampled(answer: &Sampled) -> String {
+    format!(
+        "number {}, place {}, {} picked: {:?}\n",
+        answer.number, answer.place, answer.picked, answer.output
+    )
+}
+
+fn prune(job: &PruneJob) -> String {
+    format!(
+        "prune at price {:?}\n{}",
+        job.price,
+        spanned(&job.nodes, &job.spans)
+    )
+}
+
+fn pruned(answer: &Pruned) -> String {
+    format!(
+        "{} nodes, estimated bits {:?}\n{}",
+        answer.node_count,
+        answer.estimated_bits,
+        spanned(&answer.nodes, &answer.spans)
+    )
 }
 
 fn learning(what: &str, job: &Learning) -> String {
@@ -34,9 +159,7 @@ fn learning(what: &str, job: &Learning) -> String {
         job.seed_count,
         job.nodes.given.len()
     );
-    for (i, record) in job.nodes.given.iter().enumerate() {
-        text += &format!("node {i}: {}\n", node(record));
-    }
+    text += &given(&job.nodes.given);
     text + &rows(&job.properties, &job.tokens, &job.residuals)
 }
 
@@ -69,14 +192,8 @@ fn learned(answer: &Learned) -> String {
         answer.estimated_bits,
         answer.flat_bits,
     );
-    let tree = answer
-        .nodes
-        .iter()
-        .zip(&answer.spans)
-        .take(answer.node_count as usize);
-    for (i, (record, Span { first, end })) in tree.enumerate() {
-        let _ = writeln!(text, "node {i}: {}, rows {first}..{end}", node(record));
-    }
+    let tree = answer.nodes.get(..answer.node_count as usize);
+    text += &spanned(tree.unwrap_or(&answer.nodes), &answer.spans);
     text += &rows(&answer.properties, &answer.tokens, &answer.residuals);
     text + &format!("queue {:?}, counts {:?}\n", answer.queue.0, answer.counts.0)
 }
@@ -103,15 +220,11 @@ fn node(record: &Record) -> String {
 
 fn rows(properties: &[i32], tokens: &[u8], residuals: &[i32]) -> String {
     let mut text = String::new();
-    let (properties, left) = properties.as_chunks::<PROPERTIES>();
+    let (properties, left) = properties.as_chunks();
     for (row, properties) in properties.iter().enumerate() {
-        let set: Vec<String> = (0..PROPERTIES)
-            .filter(|&k| properties[k] != 0)
-            .map(|k| format!("{k}:{}", properties[k]))
-            .collect();
         let tokens = tokens.get(PREDICTORS * row..PREDICTORS * (row + 1));
         let residual = residuals.get(row);
-        let _ = write!(text, "row {row}: properties {{{}}}", set.join(" "));
+        let _ = write!(text, "row {row}: properties {}", set(properties));
         let _ = write!(text, ", tokens {:?}", tokens.unwrap_or_default());
         let _ = writeln!(
             text,
@@ -123,4 +236,14 @@ fn rows(properties: &[i32], tokens: &[u8], residuals: &[i32]) -> String {
         let _ = writeln!(text, "and {} properties more", left.len());
     }
     text
+}
+
+/// The properties that are not 0.
+fn set(properties: &[i32; PROPERTIES]) -> String {
+    let set = properties
+        .iter()
+        .enumerate()
+        .filter(|&(_, &value)| value != 0);
+    let set: Vec<String> = set.map(|(k, value)| format!("{k}:{value}")).collect();
+    format!("{{{}}}", set.join(" "))
 }
