@@ -1,0 +1,2 @@
+-- `Answers`: what the parts' answers stand for.
+pub mod Answers
