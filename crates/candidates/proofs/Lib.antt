@@ -14,4 +14,3 @@ pub mod RepeatLaws
 pub mod QuantileLaws
 pub mod PickLaws
 pub mod CandidateLaws
-pub mod Columns

@@ -12,11 +12,10 @@ use lib.Dec.{eqb}
 use lib.IntN.{ℤ, pos}
 use lib.ListN.{length, getD, set, take, drop, length-map, length-append}
 use lib.Seq.{take-suc-set, length-take-le, getD-take}
-use Rattle.model.specs.Lists.{range}
 use Rattle.model.specs.Candidates.{stride, every}
 use Rattle.candidates.specs.Keys.{valueOf, values}
 use Rattle.candidates.specs.Column.{column, probeOf}
-use Rattle.candidates.proofs.OverlayLaws.{length-range}
+use Rattle.model.proofs.Places.{length-each}
 
 -- ---- the column
 module _ (ps : List ℤ) (prop : ℕ) where
@@ -33,7 +32,7 @@ module _ (ps : List ℤ) (prop : ℕ) where
 
   pub length-column : (first end : ℕ) → length (column ps prop first end) ≡ end - first
   unfolding column
-  length-column first end = length-map (range first (end - first)) cell ∙ length-range first (end - first)
+  length-column first end = length-each cell first (end - first)
 
   pub drop-column : (k row end : ℕ) → drop k (column ps prop row end) ≡ column ps prop (row + k) end
   drop-column zero row end = let e : row + 0 ≡ row = omega arith in rw e

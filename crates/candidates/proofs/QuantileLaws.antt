@@ -1,15 +1,15 @@
 -- Values at even steps: which places they have, and how a loop writes them. Assumes nothing.
-use mathlib.Core.Path.{_≡_, sym, ap, _∙_}
+use mathlib.Core.Path.{_≡_, sym, ap}
 use mathlib.Core.List.{List, _++_, map}
 use Prim.Native.Nat.{ℕ, suc, _+_, _*_, _/_, _≤_, _<_}
 use native.Mathlib.Nat.{div-lt-iff-lt-mul, le-div-iff-mul-le, div-mul-le-self, mul-le-mul-right}
 use native.Mathlib.Omega.{arith}
 use lib.IntN.{ℤ, pos}
-use lib.ListN.{length, getD, drop, length-map}
+use lib.ListN.{length, getD, drop}
 use Rattle.model.specs.Lists.{range, writtenOver}
 use Rattle.model.specs.Candidates.{quantiles}
+use Rattle.model.proofs.Places.{length-each, each-at}
 use Rattle.candidates.specs.Overlay.{overlay}
-use Rattle.candidates.proofs.OverlayLaws.{length-range, getD-range}
 
 pub place-inside : (d n k : ℕ) → n ≤ d → k < n → k * d / n < d
 place-inside d n k le lt =
@@ -23,11 +23,11 @@ place-rises d n j k le jk lt =
 
 pub length-quantiles : (d n : ℕ) (vs : List ℤ) → length (quantiles d n vs) ≡ n
 unfolding quantiles
-length-quantiles d n vs = length-map (range 0 n) (λ (k : ℕ). getD vs (k * d / n) (pos 0)) ∙ length-range 0 n
+length-quantiles d n vs = length-each (λ (k : ℕ). getD vs (k * d / n) (pos 0)) 0 n
 
 pub quantile-at : (d n : ℕ) (vs : List ℤ) (k : ℕ) → k < n → getD (quantiles d n vs) k (pos 0) ≡ getD vs (k * d / n) (pos 0)
 unfolding quantiles
-quantile-at d n vs k h = let z : 0 + k ≡ k = omega arith in getD-range (λ (j : ℕ). getD vs (j * d / n) (pos 0)) 0 n k (pos 0) h ∙ ap (λ (j : ℕ). getD vs (j * d / n) (pos 0)) z
+quantile-at d n vs k h = each-at (λ (j : ℕ). getD vs (j * d / n) (pos 0)) n k (pos 0) h
 
 -- candidate k
 abbrev pub quantile : ℕ → ℕ → List ℤ → ℕ → ℤ

@@ -20,10 +20,11 @@ use Rattle.model.specs.Operations.{learn, treeOf}
 use Rattle.model.proofs.Accepted.{Passed, SeedRooms, learnedFrom, learn-accepted}
 use Rattle.model.proofs.Bounded.{LogsWithin, logs-within}
 use Rattle.model.proofs.Tests.{neither, not-below, passed, named}
+use Rattle.model.proofs.Keeping.{all-at}
 use Rattle.checks.specs.declared.Settings.{Settings}
 use Rattle.checks.specs.declared.Check.the-variants.{Pass, Refused}
 use Rattle.checks.specs.Given.{settingsOf, checkOf}
-use Rattle.checks.proofs.Scan.{all-at, logFits, logs-at}
+use Rattle.checks.proofs.Scan.{logFits, logs-at}
 use Rattle.checks.proofs.Answers.{pass-is, refused-is}
 
 -- A job of so many rows, of which none of conditions 1 to 7 holds: what the model says of it, and the same by rows and entries of the flat lists
@@ -81,7 +82,7 @@ module _ (s : Settings) (logs : List Float) (x : Lent singles) where
         props = omega arith;
         toks = omega arith;
         res = elim (p .lists .res) [ inl z ↦ inl z | inr z ↦ inr (z ∙ sym e) ];
-        tokens = λ k h. ltb→lt _ _ (all-at (λ (t : ℕ). ltb t (s .alphabet)) 0 (x .toks) k h (p .tokens));
+        tokens = λ k h. ltb→lt _ _ (all-at (λ (t : ℕ). ltb t (s .alphabet)) (x .toks) k 0 h (p .tokens));
         log-fits = λ k h l. logs-at logs x (p .logs-enough) (p .logs-fit) k h (omega arith);
         logs-small = rw e (logs-within (rowCount x) logs (p .logs-enough) (p .logs-fit));
         model = p;

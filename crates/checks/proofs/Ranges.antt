@@ -9,31 +9,14 @@ use native.Mathlib.Decide.{decLt}
 use native.Mathlib.Omega.{arith}
 use borrow.Author.Tests.{lt-ltb, le-ltb}
 use lib.ListN.{length}
-use lib.Dec.{ltb, leb→le, eqb→eq}
+use lib.Dec.{ltb, eqb→eq}
 use Rattle.model.specs.Lists.{isEmpty}
 use Rattle.model.specs.Settings.{Settings}
 use Rattle.model.specs.Single.{singles}
-use Rattle.model.specs.Profile.{Profile}
 use Rattle.model.specs.Lent.{Lent, rowCount}
-use Rattle.model.specs.Refuse.{isOutside, isUneven, isShortAlphabet}
-use Rattle.model.proofs.Accepted.{InRange}
-use Rattle.model.proofs.Tests.{and-both, holds, neither, not-below}
+use Rattle.model.specs.Refuse.{isUneven, isShortAlphabet}
+use Rattle.model.proofs.Tests.{holds, neither, not-below}
 use Rattle.checks.specs.Given.{WholeRows}
-
--- 1: each setting lies in its range
-pub in-range : (P : Profile) (t : Settings (P .meter)) → isOutside P t ≡ false → InRange P t
-unfolding isOutside
-in-range P t e =
-    let h = simp (holds, and-both) at e in
-    record {
-      alphabet = omega (arith, leb→le);
-      limit = omega (arith, leb→le);
-      split-cost = search;
-      price = search;
-      smallest = omega (arith, leb→le);
-      sides = omega (arith, leb→le);
-      candidates = omega (arith, leb→le);
-    }
 
 -- 7: the largest of the products that the count space asks for
 pub scored-small : (s a c : ℕ) → s ≤ 14 → a ≤ 256 → c ≤ 32 → max s 1 * a * (c + 2) ≤ 14 * 256 * 34
@@ -50,7 +33,7 @@ whole-rows x e =
     (record { whole = omega (arith, eqb→eq); few = omega (arith, eqb→eq) }, omega (arith, eqb→eq))
 
 -- 5: residuals are given where there is one
-given : {A : Type 0} (xs : List A) → not (isEmpty xs) ≡ ltb 0 (length xs)
+pub given : {A : Type 0} (xs : List A) → not (isEmpty xs) ≡ ltb 0 (length xs)
 given [] = refl
 given (x ∷ xs) = sym (lt-ltb 0 (length (x ∷ xs)) (omega arith))
 

@@ -20,7 +20,7 @@ use Rattle.model.specs.Single.{singles}
 use Rattle.model.specs.Profile.{isBetween, single}
 use Rattle.model.specs.Lent.{Lent, rowCount}
 use Rattle.model.specs.Refuse.{hasNoPredictor, badRowFrom, isBadLogs}
-use Rattle.model.proofs.Tests.{and-both}
+use Rattle.model.proofs.Keeping.{all-at}
 
 -- ---- every element passes a test
 module _ {A : Type 0} (p : A → Bool) (z : A) where
@@ -38,11 +38,6 @@ module _ {A : Type 0} (p : A → Bool) (z : A) where
       go : (b : Bool) → all p xs ≡ false → (b && all p xs) ≡ false
       go true e = e
       go false e = refl
-
-  pub all-at : (xs : List A) (i : ℕ) → i < length xs → T (all p xs) → T (p (getD xs i z))
-  all-at [] i h t = absurd (omega arith)
-  all-at (x ∷ xs) zero h t = and-both (p x) (all p xs) .0 t .0
-  all-at (x ∷ xs) (suc i) h t = all-at xs i (omega arith) (and-both (p x) (all p xs) .0 t .1)
 
 -- ---- 2: of the predictors from p on, none is usable
 module _ (t : Settings singles) where
@@ -142,4 +137,4 @@ module _ (logs : List Float) (x : Lent singles) where
     pub logs-at : T (single .logsFit looked) → (k : ℕ) → 0 < k → k ≤ rowCount x → T (logFits (getD logs k nan))
     logs-at t k p h =
         let at : 1 + (k - 1) ≡ k = omega arith in
-        rw (looked-at (k - 1) (omega arith), at) at (all-at logFits nan looked (k - 1) (omega (arith, looked-length)) t)
+        rw (looked-at (k - 1) (omega arith), at) at (all-at logFits looked (k - 1) nan (omega (arith, looked-length)) t)

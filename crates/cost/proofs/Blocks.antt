@@ -11,6 +11,7 @@ use borrow.Author.Tests.{lt-ltb, le-ltb, eq-eqb, ne-eqb, eqb-true}
 use lib.Dec.{eqb, ltb}
 use lib.ListN.{length, getD, set, drop, length-append, length-set, length-drop, drop-of-length-le, List·getD-append}
 use lib.Seq.{paste, paste-suc, take-all, getD-set-same, getD-set-other, set-out, getD-append-add, set-append-left, drop-append-le, drop-append-seam, take-append-le, take-length}
+use Rattle.model.proofs.Places.{set-append-right}
 use Rattle.cost.specs.Histograms.{endToEnd, part, bumped, tallied}
 
 -- number p of n parts ends within them
@@ -32,12 +33,6 @@ pub endToEnd-low : (f : ℕ → List ℕ) (n m : ℕ) → ((q i : ℕ) → getD 
 unfolding endToEnd
 endToEnd-low f zero m h i = omega arith
 endToEnd-low f (suc n) m h i = append-low (endToEnd f n) (f n) m (endToEnd-low f n m h) (h n) i
-
-set-append-right : (xs ys : List ℕ) (n a : ℕ) → set (xs ++ ys) (length xs + n) a ≡ xs ++ set ys n a
-set-append-right [] ys n a = let e : 0 + n ≡ n = omega arith in rw e
-set-append-right (x ∷ xs) ys n a =
-    let e : suc (length xs) + n ≡ suc (length xs + n) = omega arith in
-    rw e (ap (λ (l : List ℕ). x ∷ l) (set-append-right xs ys n a))
 
 -- ---- a list that is written over from the front
 

@@ -1,72 +1,37 @@
 -- From counts to rows: of the histograms of some rows, the costs, the lowest cost with its predictor, and the cheapest predictors are the
 -- model's on those rows. Assumes nothing.
-use mathlib.Core.Path.{_≡_, refl, sym, ap, _∙_, subst}
-use mathlib.Core.Bool.{Bool, true, false, cond, not, _&&_, _||_}
+use mathlib.Core.Path.{_≡_, refl, sym, ap, _∙_}
+use mathlib.Core.Bool.{Bool, true, false, cond}
 use mathlib.Core.List.{List, [], _∷_, _++_}
-use Prim.Native.Nat.{ℕ, zero, suc, _+_, _-_, _*_, _^_, _≤_, _<_, min, max}
+use Prim.Native.Nat.{ℕ, _+_, _-_, _*_, _^_, _≤_, _<_, min, max}
 use native.Mathlib.Decide.{decLe}
 use native.Mathlib.Omega.{arith}
-use borrow.Author.Tests.{ltb-false, not-false}
-use lib.Dec.{T, eqb, ltb}
+use lib.Dec.{eqb}
 use lib.IntN.{ℤ, pos}
-use lib.ListN.{length, getD, take, drop, length-take, length-drop}
-use lib.Seq.{take-append-le, take-all, take-at, getD-take, getD-drop, length-slice}
-use lib.Ieee.{Float, fin, lt}
+use lib.ListN.{length, take, drop}
+use lib.Seq.{take-append-le, take-all, take-at, length-slice}
+use lib.Ieee.{Float, lt}
 use Rattle.ieee.specs.Within.{Within}
-use Rattle.model.specs.Lists.{range, keep, all, isEmpty, writtenOver}
+use Rattle.model.specs.Lists.{range, keep, isEmpty, writtenOver}
 use Rattle.model.specs.Settings.{Settings, toksPerRow, maxRows}
 use Rattle.model.specs.Rows.{Row, within, rowsOf}
 use Rattle.model.specs.Single.{singles}
-use Rattle.model.specs.Cost.{logOf, histogramCost, cheapest, firstCheapest, insertByCost, byCost, costOf, usable, bestPredictor, sidePredictors}
+use Rattle.model.specs.Cost.{histogramCost, cheapest, firstCheapest, insertByCost, byCost, costOf, usable, bestPredictor, sidePredictors}
 use Rattle.model.specs.Evaluate.{infoOf}
-use Rattle.model.specs.Profile.{isBetween, single as learner}
-use Rattle.model.specs.Lent.{Lent, rowCount}
-use Rattle.model.specs.Refuse.{isBadLogs}
+use Rattle.model.proofs.Places.{length-rowsOf}
 use Rattle.cost.specs.declared.Cheapest.{Cheapest}
 use Rattle.cost.specs.Counted.{LogsReach}
 use Rattle.cost.specs.Histograms.{histograms, spanOf, SpanFits, CountsSpan}
 use Rattle.cost.specs.Predictors.{mayUse, usablePredictors, costAt, cheapestOf, nodeCosts, costIn, sortedPredictors, NodeCounted, NodeUsable, NodeRoom, Uses, cheapestOn}
 use Rattle.cost.proofs.Numbers.{Each, each-tail, Passes, keep-passes}
-use Rattle.cost.proofs.RowReads.{rows-length}
 use Rattle.cost.proofs.Histograms.{histograms-length, histograms-part, histogram-rows}
 use Rattle.cost.proofs.Predictors.{costAt-within, nodeCosts-at}
 use Rattle.cost.proofs.Sorting.{byCost-each, byCost-length}
 
 -- ---- what is asked of logarithms and of counts
 
-and-true : (a b : Bool) → (a && b) ≡ true → (a ≡ true) × (b ≡ true)
-and-true true b e = (refl, e)
-and-true false b e = let z : _≡_ {A = ℕ} 0 1 = cc in absurd (omega arith)
-
-or-false : (a b : Bool) → (a || b) ≡ false → (a ≡ false) × (b ≡ false)
-or-false true b e = let z : _≡_ {A = ℕ} 0 1 = cc in absurd (omega arith)
-or-false false b e = (refl, e)
-
 pub logs-fewer : (n rows : ℕ) (logs : List Float) → n ≤ rows → LogsReach rows logs → LogsReach n logs
 logs-fewer n rows logs h l = record { long = omega (arith, l .long); fit = λ c p k. l .fit c p (omega arith) }
-
-all-at : (p : Float → Bool) (l : List Float) (i : ℕ) (d : Float) → all p l ≡ true → i < length l → p (getD l i d) ≡ true
-all-at p [] i d e h = absurd (omega arith)
-all-at p (x ∷ xs) zero d e h = and-true (p x) (all p xs) e .0
-all-at p (x ∷ xs) (suc i) d e h = all-at p xs i d (and-true (p x) (all p xs) e .1) (omega arith)
-
--- logarithms that the checks let pass (number 6)
-pub logs-reach : (logs : List Float) (x : Lent singles) → isBadLogs learner logs x ≡ false → LogsReach (rowCount x) logs
-unfolding isBadLogs logOf
-logs-reach logs x e =
-    let rows = rowCount x in
-    let part = take rows (drop 1 logs) in
-    let fits = isBetween (fin false 0 (pos 0)) (fin false 1 (pos 5)) in
-    let parts = or-false (ltb (length logs) (rows + 1)) (not (all fits part)) e in
-    let long = ltb-false (length logs) (rows + 1) (parts .0) in
-    record {
-      long = omega arith;
-      fit = λ c p h.
-          let at : getD part (c - 1) (singles .nought) ≡ getD logs c (singles .nought) =
-          getD-take rows (drop 1 logs) (c - 1) (singles .nought) (omega arith) ∙ getD-drop 1 logs (c - 1) (singles .nought) ∙ ap (λ (i : ℕ). getD logs i (singles .nought)) (omega arith) in
-          let passes = all-at fits part (c - 1) (singles .nought) (not-false (all fits part) (parts .1)) (simp (length-take, length-drop) (omega arith)) in
-          subst (λ (v : Float). T (fits v)) at (subst T (sym passes) tt);
-    }
 
 pub node-counted : (alphabet : ℕ) (rows : List Row) (logs : List Float) → alphabet ≤ 256 → length rows ≤ maxRows → LogsReach (length rows) logs
     → NodeCounted (histograms alphabet rows) (length rows) alphabet logs
@@ -212,7 +177,7 @@ module _ (tok : List ℕ) (first end alphabet : ℕ) (weighted : Bool) (allowed 
   span rows ps rs = within (spanOf first end) (rowsOf rows ps tok rs)
 
   span-length : (rows : ℕ) (ps rs : List ℤ) → end ≤ rows → length (span rows ps rs) ≡ end - first
-  span-length rows ps rs h = length-slice first end (rowsOf rows ps tok rs) (omega (arith, rows-length rows ps tok rs))
+  span-length rows ps rs h = length-slice first end (rowsOf rows ps tok rs) (omega (arith, length-rowsOf rows ps tok rs))
 
   pub span-usable : (hist₀ : List ℕ) (costs : List Float) → NodeRoom alphabet (end - first) weighted allowed logs hist₀ costs
       → NodeUsable hist (end - first) alphabet weighted allowed logs costs

@@ -1,7 +1,6 @@
 pub mod Numbers
 pub mod Sums
 pub mod Blocks
-pub mod RowReads
 pub mod Histograms
 pub mod Counts
 pub mod Bounded

@@ -5,9 +5,10 @@ use mathlib.Core.List.{List, [], _∷_, _++_, map}
 use Prim.Native.Nat.{ℕ, zero, suc, _+_, _≤_, _<_}
 use native.Mathlib.Decide.{ℕ-discrete, decLt}
 use native.Mathlib.Omega.{arith}
-use lib.ListN.{length, getD, length-map, length-set, List·getD-eq-default}
+use lib.ListN.{length, getD, length-set, List·getD-eq-default}
 use lib.Seq.{ext-getD, getD-set-same, getD-set-other}
 use Rattle.model.specs.Lists.{range, keep}
+use Rattle.model.proofs.Places.{length-each, each-at}
 use Rattle.cost.specs.Histograms.{bumped}
 
 pub keep-append : {A : Type 0} (b : A → Bool) (xs ys : List A) → keep b (xs ++ ys) ≡ keep b xs ++ keep b ys
@@ -20,50 +21,28 @@ keep-append {A} b (x ∷ xs) ys = go (b x) (keep-append b xs ys)
 
 -- ---- a function's values at 0, 1, ..
 
-pub length-range : (first n : ℕ) → length (range first n) ≡ n
-length-range first zero = refl
-length-range first (suc n) = ap suc (length-range (suc first) n)
-
-pub range-more : (first n : ℕ) → range first (suc n) ≡ range first n ++ ((first + n) ∷ [])
-range-more first zero = ap (λ (k : ℕ). k ∷ []) (omega arith)
-range-more first (suc n) =
-    let e : suc first + n ≡ first + suc n = omega arith in
-    ap (λ (l : List ℕ). first ∷ l) (range-more (suc first) n ∙ ap (λ (k : ℕ). range (suc first) n ++ (k ∷ [])) e)
-
-module _ {A : Type 0} (f : ℕ → A) where
-  pub values-length : (n : ℕ) → length (map f (range 0 n)) ≡ n
-  values-length n = length-map (range 0 n) f ∙ length-range 0 n
-
-  values-from : (first n i : ℕ) (d : A) → i < n → getD (map f (range first n)) i d ≡ f (first + i)
-  values-from first zero i d h = absurd (omega arith)
-  values-from first (suc n) zero d h = ap f (omega arith)
-  values-from first (suc n) (suc i) d h = values-from (suc first) n i d (omega arith) ∙ ap f (omega arith)
-
-  pub values-at : (n i : ℕ) (d : A) → i < n → getD (map f (range 0 n)) i d ≡ f i
-  values-at n i d h = values-from 0 n i d h ∙ ap f (omega arith)
-
 -- values that are at most m
 pub values-low : (f : ℕ → ℕ) (n m : ℕ) → ((i : ℕ) → f i ≤ m) → (i : ℕ) → getD (map f (range 0 n)) i 0 ≤ m
 values-low f n m h i = elim (decLt i n) [
-  | yes l ↦ rw (values-at f n i 0 l) (h i)
-  | no l ↦ rw (List·getD-eq-default (map f (range 0 n)) 0 {n = i} (omega (arith, values-length f n))) (omega arith)
+  | yes l ↦ rw (each-at f n i 0 l) (h i)
+  | no l ↦ rw (List·getD-eq-default (map f (range 0 n)) 0 {n = i} (omega (arith, length-each f 0 n))) (omega arith)
 ]
 
 -- one more at t
 pub values-more : (f g : ℕ → ℕ) (n t : ℕ) → t < n → g t ≡ f t + 1 → ((i : ℕ) → (i ≡ t → ⊥) → g i ≡ f i) → bumped t (map f (range 0 n)) ≡ map g (range 0 n)
 values-more f g n t h own other =
-    ext-getD 0 (bumped t old) (map g (range 0 n)) (simp length-set (values-length f n ∙ sym (values-length g n))) each
+    ext-getD 0 (bumped t old) (map g (range 0 n)) (simp length-set (length-each f 0 n ∙ sym (length-each g 0 n))) each
   where
     old : List ℕ
     old = map f (range 0 n)
 
     each : (i : ℕ) → i < length (bumped t old) → getD (bumped t old) i 0 ≡ getD (map g (range 0 n)) i 0
     each i l =
-        let long = values-length f n in
+        let long = length-each f 0 n in
         let k : i < n = omega (arith, length-set old t (getD old t 0 + 1)) in
-        rw (values-at g n i 0 k) (elim (ℕ-discrete i t) [
-          | yes e ↦ rw (e, getD-set-same old t (getD old t 0 + 1) 0 (omega arith), values-at f n t 0 h) (sym own)
-          | no ne ↦ rw (getD-set-other old t i (getD old t 0 + 1) 0 ne, values-at f n i 0 k) (sym (other i ne))
+        rw (each-at g n i 0 k) (elim (ℕ-discrete i t) [
+          | yes e ↦ rw (e, getD-set-same old t (getD old t 0 + 1) 0 (omega arith), each-at f n t 0 h) (sym own)
+          | no ne ↦ rw (getD-set-other old t i (getD old t 0 + 1) 0 ne, each-at f n i 0 k) (sym (other i ne))
         ])
 
 -- ---- what holds of each number of a list

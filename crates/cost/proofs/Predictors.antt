@@ -16,12 +16,14 @@ use Rattle.model.specs.Lists.{range, keep, isEmpty}
 use Rattle.model.specs.Settings.{toksPerRow}
 use Rattle.model.specs.Single.{singles}
 use Rattle.model.specs.Cost.{cheapest}
+use Rattle.model.proofs.Places.{range-more, length-each, each-at}
+use Rattle.model.proofs.Paths.{T→true}
 use Rattle.cost.specs.declared.Cheapest.{Cheapest}
 use Rattle.cost.specs.Counted.{Counted}
 use Rattle.cost.specs.Histograms.{part}
 use Rattle.cost.specs.Predictors.{mayUse, usablePredictors, costAt, cheapestOf, usableCost, nodeCosts, cheaperOf, cheapestTo, NodeCounted}
 use Rattle.cost.proofs.Blocks.{over-turn, over-end}
-use Rattle.cost.proofs.Numbers.{keep-append, range-more, values-length, values-at}
+use Rattle.cost.proofs.Numbers.{keep-append}
 use Rattle.cost.proofs.Bounded.{cost-within}
 
 -- ---- one predictor's histogram
@@ -54,11 +56,7 @@ lt-endless (inf s) = refl
 lt-endless (fin s m e) = refl
 
 below-endless : (x : Float) → T (finite x) → lt x (inf false) ≡ true
-below-endless x h = go (lt x (inf false)) (below-infinity x h)
-  where
-    go : (b : Bool) → T b → b ≡ true
-    go true t = refl
-    go false t = absurd t
+below-endless x h = T→true (lt x (inf false)) (below-infinity x h)
 
 module _ (may : ℕ → Bool) (cost : ℕ → Float) where
   -- one predictor more at the end
@@ -97,7 +95,7 @@ module _ (may : ℕ → Bool) (cost : ℕ → Float) where
   lowest-to (suc n) f =
       ap (λ (b : Cheapest). cheaperOf b (usableCost may cost n) n) (lowest-to n (λ p h. f p (omega arith)))
       ∙ lowest-next (keep may (range 0 n)) n (f n (omega arith))
-      ∙ ap lowest (sym (keep-append may (range 0 n) (n ∷ [])) ∙ ap (keep may) (ap (λ (k : ℕ). range 0 n ++ (k ∷ [])) (omega arith) ∙ sym (range-more 0 n)))
+      ∙ ap lowest (sym (keep-append may (range 0 n) (n ∷ [])) ∙ ap (keep may) (sym (range-more n)))
 
   pub cheapest-all : ((p : ℕ) → p < toksPerRow → T (finite (cost p))) → isEmpty (keep may (range 0 toksPerRow)) ≡ false
       → cheapestTo (usableCost may cost) toksPerRow ≡ cheapestOf cost (keep may (range 0 toksPerRow))
@@ -120,11 +118,11 @@ cheapestTo-more cost n = rw (add-one n)
 module _ (hist : List ℕ) (total alphabet : ℕ) (weighted : Bool) (allowed : ℕ) (logs : List Float) where
   pub nodeCosts-length : length (nodeCosts hist total alphabet weighted allowed logs) ≡ toksPerRow
   unfolding nodeCosts
-  nodeCosts-length = values-length (usableCost (mayUse weighted allowed) (costAt hist total alphabet logs)) toksPerRow
+  nodeCosts-length = length-each (usableCost (mayUse weighted allowed) (costAt hist total alphabet logs)) 0 toksPerRow
 
   pub nodeCosts-at : (p : ℕ) → p < toksPerRow → getD (nodeCosts hist total alphabet weighted allowed logs) p nan ≡ usableCost (mayUse weighted allowed) (costAt hist total alphabet logs) p
   unfolding nodeCosts
-  nodeCosts-at p h = values-at (usableCost (mayUse weighted allowed) (costAt hist total alphabet logs)) toksPerRow p nan h
+  nodeCosts-at p h = each-at (usableCost (mayUse weighted allowed) (costAt hist total alphabet logs)) toksPerRow p nan h
 
   pub cheapest-end : NodeCounted hist total alphabet logs → isEmpty (usablePredictors weighted allowed) ≡ false
       → cheapestTo (usableCost (mayUse weighted allowed) (costAt hist total alphabet logs)) toksPerRow ≡ cheapestOf (costAt hist total alphabet logs) (usablePredictors weighted allowed)

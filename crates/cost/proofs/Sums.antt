@@ -1,14 +1,12 @@
 -- Laws of a histogram's two sums, at single precision: a turn of each loop, counts of zero, and the bounds that make each cast exact.
 -- Assumes nothing.
 use mathlib.Core.Path.{_≡_, refl, sym, ap, _∙_}
-use mathlib.Core.Bool.{Bool, true, false, cond}
 use mathlib.Core.List.{List, [], _∷_}
 use Prim.Native.Nat.{ℕ, zero, suc, _+_, _-_, _*_, _/_, _^_, _≤_, _<_}
-use native.Mathlib.Nat.{mul-le-mul-left}
 use native.Mathlib.Numerals.{add-one}
 use native.Mathlib.Omega.{arith}
 use borrow.Author.Tests.{lt-ltb, le-ltb}
-use lib.Dec.{T, ltb, le→leb}
+use lib.Dec.{T, le→leb}
 use lib.IntN.{pos}
 use lib.ListN.{length, getD, drop, drop-of-length-le}
 use lib.Seq.{drop-cons}
@@ -17,21 +15,20 @@ use Rattle.model.specs.Settings.{maxRows}
 use Rattle.model.specs.Token.{extraCount}
 use Rattle.model.specs.Single.{single, singles}
 use Rattle.model.specs.Cost.{logOf, withCount, entropyFrom, extraFrom}
+use Rattle.model.proofs.Places.{getD-any}
+use Rattle.model.proofs.Histogram.{sumOf, extraFrom-le}
+use Rattle.model.proofs.Bounded.{getD-le-sum}
 use Rattle.cost.specs.Counted.{rowsIn}
-
--- an entry that is there is the same whatever stands for those that are not
-pub getD-there : {A : Type 0} (l : List A) (i : ℕ) (d e : A) → i < length l → getD l i d ≡ getD l i e
-getD-there [] i d e h = absurd (omega arith)
-getD-there (x ∷ xs) zero d e h = refl
-getD-there (x ∷ xs) (suc i) d e h = getD-there xs i d e (omega arith)
 
 -- ---- how many rows a histogram counts
 
-pub count-le-rows : (hist : List ℕ) (t : ℕ) → getD hist t 0 ≤ rowsIn hist
+pub rows-are : (hist : List ℕ) → rowsIn hist ≡ sumOf hist
 unfolding rowsIn
-count-le-rows [] t = omega arith
-count-le-rows (c ∷ cs) zero = omega arith
-count-le-rows (c ∷ cs) (suc t) = omega (arith, count-le-rows cs t)
+rows-are [] = refl
+rows-are (c ∷ cs) = ap (λ (n : ℕ). c + n) (rows-are cs)
+
+pub count-le-rows : (hist : List ℕ) (t : ℕ) → getD hist t 0 ≤ rowsIn hist
+count-le-rows hist t = rw rows-are (getD-le-sum hist t)
 
 -- ---- a count as a single: up to 2 ^ 24 the cast is exact
 
@@ -51,7 +48,7 @@ module _ (logs : List Float) (top : Float) where
       → withCount singles logs top bits c ≡ add binary32 bits (mul binary32 (single c) (sub binary32 top (getD logs c d)))
   unfolding withCount logOf
   withCount-some bits zero d h l = absurd (h refl)
-  withCount-some bits (suc c) d h l = ap (λ (x : Float). add binary32 bits (mul binary32 (single (suc c)) (sub binary32 top x))) (getD-there logs (suc c) (singles .nought) d l)
+  withCount-some bits (suc c) d h l = ap (λ (x : Float). add binary32 bits (mul binary32 (single (suc c)) (sub binary32 top x))) (getD-any logs (suc c) (singles .nought) d l)
 
   -- a turn of the loop that adds count i: the sum so far, with what is left, stays the whole
   pub entropy-turn : (hist : List ℕ) (i : ℕ) (bits next whole : Float) → i < length hist → next ≡ withCount singles logs top bits (getD hist i 0)
@@ -77,28 +74,15 @@ pub extra-from-16 : (t : ℕ) → 16 ≤ t → extraCount t ≡ t / 4 - 2
 unfolding extraCount
 extra-from-16 t h = rw (le-ltb t 16 h)
 
-extra-le : (t : ℕ) → t < 256 → extraCount t ≤ 61
-unfolding extraCount
-extra-le t h = go (ltb t 16)
-  where
-    go : (b : Bool) → cond b 0 (t / 4 - 2) ≤ 61
-    go true = omega arith
-    go false = omega arith
-
-extraFrom-le : (t : ℕ) (hist : List ℕ) → t + length hist ≤ 256 → extraFrom t hist ≤ 61 * rowsIn hist
-unfolding extraFrom rowsIn
-extraFrom-le t [] h = omega arith
-extraFrom-le t (c ∷ cs) h =
-    let a : c * extraCount t ≤ c * 61 = mul-le-mul-left c (extra-le t (omega arith)) in
-    let b : extraFrom (suc t) cs ≤ 61 * rowsIn cs = extraFrom-le (suc t) cs (omega arith) in
-    omega arith
+pub extra-le-rows : (t : ℕ) (hist : List ℕ) → t + length hist ≤ 256 → extraFrom t hist ≤ 61 * rowsIn hist
+extra-le-rows t hist h = rw rows-are (extraFrom-le t hist h)
 
 -- 61 extra bits at most for each of 65,536 rows
 pub extra-small : (hist : List ℕ) → length hist ≤ 256 → rowsIn hist ≤ maxRows → extraFrom 0 hist ≤ 3997696
-extra-small hist h k = let b = extraFrom-le 0 hist (omega arith) in omega arith
+extra-small hist h k = let b = extra-le-rows 0 hist (omega arith) in omega arith
 
 -- tokens under 16 have none
-extra-skip : (t n : ℕ) (hist : List ℕ) → t + n ≤ 16 → extraFrom t hist ≡ extraFrom (t + n) (drop n hist)
+pub extra-skip : (t n : ℕ) (hist : List ℕ) → t + n ≤ 16 → extraFrom t hist ≡ extraFrom (t + n) (drop n hist)
 unfolding extraFrom extraCount
 extra-skip t zero hist h = let e : t + 0 ≡ t = omega arith in rw e
 extra-skip t (suc n) [] h = refl

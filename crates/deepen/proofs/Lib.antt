@@ -1,3 +1,2 @@
--- `Seeding`: what the checks ensure of a seed. `Answering`: the answers of deepening.
+-- `Seeding`: what the checks ensure of a seed.
 pub mod Seeding
-pub mod Answering

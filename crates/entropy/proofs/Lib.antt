@@ -1,2 +1,2 @@
 -- `Words` says what the machine's operations on 32-bit words make of the definitions.
-mod Words
+pub mod Words

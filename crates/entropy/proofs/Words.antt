@@ -8,7 +8,7 @@ use borrow.Author.Tests.{lt-ltb, le-ltb, ltb-true}
 use lib.Bits.{bitAnd, and-mask}
 use lib.Count.{leadingZeros, leading-top}
 use lib.Dec.{T, ltb}
-use lib.IntN.{ℤ, pos, negsuc, _+ℤ_, natAbs}
+use lib.IntN.{ℤ, pos, negsuc, _+ℤ_, _-ℤ_, natAbs}
 use lib.Pow.{pow-pos, pow-lt}
 use lib.Signed.{ltZ, nonNeg}
 use mir.Syntax.{w32, w64}
@@ -143,3 +143,20 @@ word-value t extra large le few =
     let whole = large-value t extra large in
     let lt : (4 + t % 4) * 2 ^ extraCount t < 2 ^ 32 = omega (arith, value-fits t extra le few) in
     rw (mod-eq-of-lt lt, whole)
+
+-- ---- a pattern from 2 ^ 31 on, from which the machine takes 2 ^ 32
+module _ (p : ℕ) (le : 2147483648 ≤ p) (fits : Fits w32 p) where
+  abbrev difference : ℤ
+  difference = toZ w64 p -ℤ pos 4294967296
+
+  difference-is : difference ≡ negsuc (4294967296 - suc p)
+  difference-is = let lt = fits .fits in rw (toZ-pos w64 p (omega arith), lt-ltb p 4294967296 (omega arith))
+
+  pub high-difference : SFits w64 difference
+  high-difference = rw difference-is (record { sfits = omega arith })
+
+  pub high-read : toZ w64 (ofZ w64 difference) ≡ negsuc (4294967296 - suc p)
+  high-read = rw (toZ-ofZ w64 difference high-difference) difference-is
+
+  pub high-cast : SFits w32 (toZ w64 (ofZ w64 difference))
+  high-cast = rw high-read (record { sfits = omega arith })

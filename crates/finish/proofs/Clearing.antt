@@ -1,10 +1,10 @@
 -- A list that is cleared from the front. Assumes nothing.
 use mathlib.Core.Path.{_≡_, refl, ap, _∙_}
 use mathlib.Core.List.{List, [], _∷_, _++_, append-nil}
-use Prim.Native.Nat.{ℕ, zero, suc, _+_, _≤_, _<_}
+use Prim.Native.Nat.{ℕ, zero, suc, _+_, _<_}
 use native.Mathlib.Numerals.{add-one}
 use native.Mathlib.Omega.{arith}
-use lib.ListN.{length, set, drop, replicate, length-append, length-drop, length-replicate, drop-of-length-le}
+use lib.ListN.{length, set, drop, replicate, drop-of-length-le}
 
 module _ {A : Type 0} (z : A) where
   -- the first i are cleared
@@ -18,9 +18,6 @@ module _ {A : Type 0} (z : A) where
 
   pub cleared-more : (l : List A) (i : ℕ) → i < length l → set (cleared i l) i z ≡ cleared (i + 1) l
   cleared-more l i h = rw add-one (next l i h)
-
-  pub cleared-length : (l : List A) (i : ℕ) → i ≤ length l → length (cleared i l) ≡ length l
-  cleared-length l i h = length-append (replicate i z) (drop i l) ∙ omega (arith, length-replicate i z, length-drop i l)
 
   pub cleared-all : (l : List A) (i : ℕ) → i ≡ length l → cleared i l ≡ replicate (length l) z
   cleared-all l i e = rw e (ap (λ (r : List A). replicate (length l) z ++ r) (drop-of-length-le l {i = length l} (omega arith)) ∙ append-nil (replicate (length l) z))

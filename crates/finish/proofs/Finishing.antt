@@ -1,14 +1,12 @@
 -- Pruning and settling on the lists are the model's. Assumes nothing.
 use mathlib.Core.Path.{_≡_, refl, sym, ap, _∙_, subst}
-use mathlib.Core.Bool.{Bool, true, false, cond, not, _&&_}
+use mathlib.Core.Bool.{Bool, true, false, cond}
 use mathlib.Core.List.{List, [], _∷_, _++_, map, append-nil}
 use Prim.Native.Nat.{ℕ, _+_, _-_, _*_, _/_, _^_, _≤_, _<_}
 use native.Mathlib.Omega.{arith}
-use lib.IntN.{ℤ}
 use lib.ListN.{length, getD, replicate, length-map, getD-replicate}
 use lib.Ieee.{Float}
 use Rattle.ieee.specs.Within.{within-not-nan}
-use Rattle.model.specs.Lists.{isEmpty}
 use Rattle.model.specs.Settings.{maxNodes}
 use Rattle.model.specs.Single.{singles}
 use Rattle.model.specs.Rows.{Row}
@@ -50,7 +48,7 @@ use Rattle.finish.specs.Finished.{cutTree, cutBits, withVacated, Cut, Gr
 use Rattle.grow.specs.declared.Grown.{Grown}
 use Rattle.finish.specs.declared.Finished.{Finished}
 use Rattle.grow.proofs.Numbers.{nought-number, evaluated-number, job-fits}
-use Rattle.leaf.proofs.Making.{uses-still}
+use Rattle.leaf.proofs.Making.{residuals-given, uses-still}
 
 -- ---- pruning, or not
 
@@ -81,11 +79,6 @@ after-holding f written flatly lent =
     rw (laid-map recordWords recordOf es, laid-map recordValues recordOf es, laid-map recordCosts recordOf es, laid-map spanRows (λ (e : Entry singles). e .span) es)
 
 -- ---- lists that hold a grown state
-
-residuals-given : (modal : Bool) (l : List ℤ) → (modal && not (isEmpty l)) ≡ true → 0 < length l
-residuals-given true [] e = let z : _≡_ {A = ℕ} 0 1 = cc in absurd (omega arith)
-residuals-given true (v ∷ l) e = omega arith
-residuals-given false l e = let z : _≡_ {A = ℕ} 0 1 = cc in absurd (omega arith)
 
 module _ {s : Settings} {logs : List Float} {counts : List ℕ} {x : Flat} {n : NodeLists} {r : Grown} {lent : NodeLists} {st : State singles} {seeds : ℕ → Bool} {given : List Row}
     (g : Grew s logs counts x n r lent st seeds given) where

@@ -1,14 +1,13 @@
 -- The rows of a split: a partition, and then the mode step on either part. Assumes nothing.
-use mathlib.Core.Path.{_≡_, refl, sym, ap, _∙_, subst}
-use mathlib.Core.Bool.{Bool, not, _&&_}
-use mathlib.Core.List.{List, [], _∷_, _++_, append-assoc}
+use mathlib.Core.Path.{_≡_, sym, ap, _∙_, subst}
+use mathlib.Core.Bool.{Bool}
+use mathlib.Core.List.{List, _++_, append-assoc}
 use Prim.Native.Nat.{ℕ, _+_}
 use native.Mathlib.Omega.{arith}
 use lib.ListN.{length, take, drop, length-append}
 use lib.Seq.{slice, take-at, drop-at, length-take-le}
 use lib.IntN.{ℤ}
 use lib.Ieee.{Float}
-use Rattle.model.specs.Lists.{isEmpty}
 use Rattle.model.specs.Rows.{Row, isAbove, within}
 use Rattle.model.specs.Mode.{spanMode, fresh}
 use Rattle.model.specs.Partition.{aboveRows, otherRows}
@@ -17,7 +16,7 @@ use Rattle.checks.specs.Given.{settingsOf}
 use Rattle.checks.specs.declared.Settings.{Settings}
 use Rattle.layout.specs.declared.Leaf.{Leaf}
 use Rattle.rows.specs.Cells.{span}
-use Rattle.rows.specs.Flat.{Flat, heldIn, SameSize}
+use Rattle.rows.specs.Flat.{Flat, heldIn}
 use Rattle.rows.specs.Parted.{Partitioned, parted}
 use Rattle.rows.proofs.Cells.{length-held}
 use Rattle.rows.proofs.Shapes.{size-then, count-still, shaped-still}
@@ -26,7 +25,7 @@ use Rattle.node.specs.Evaluated.{Evaluated}
 use Rattle.leaf.specs.Fitting.{usesOf, LeafFits}
 use Rattle.leaf.specs.Made.{settledAt, MadeLeaf}
 use Rattle.grow.specs.Parts.{divided, RowsFit, RowsSplit}
-use Rattle.leaf.proofs.Making.{made-fitting}
+use Rattle.leaf.proofs.Making.{uses-still, made-fitting}
 use Rattle.grow.proofs.Parting.{parted-fitting}
 
 -- ---- four parts end to end, of which the second or the third is changed
@@ -55,16 +54,6 @@ module _ {A : Type 0} (f : List A → List A) (p a b d : List A) (first at end :
       let front : take at (p ++ a ++ b ++ d) ≡ p ++ a = ap (take at) (append-assoc (p ++ a) b d) ∙ take-at (p ++ a) (b ++ d) at upto-at in
       let back : drop end (p ++ a ++ b ++ d) ≡ d = drop-at (p ++ a ++ b) d end upto-end in
       rw (slice-third, front, back)
-
--- ---- residuals are given to lists as long
-empty-same : (l k : List ℤ) → length k ≡ length l → isEmpty k ≡ isEmpty l
-empty-same [] [] e = refl
-empty-same [] (v ∷ k) e = absurd (omega arith)
-empty-same (v ∷ l) [] e = absurd (omega arith)
-empty-same (v ∷ l) (w ∷ k) e = refl
-
-pub uses-same : (s : Settings) {x y : Flat} → SameSize x y → usesOf s y ≡ usesOf s x
-uses-same s {x} {y} h = ap (λ (b : Bool). s .«modal_offsets» && not b) (empty-same (x .res) (y .res) (h .res))
 
 -- ---- the parts of a split, one after the other: x is partitioned into y, gt made in y leaves `mid`, le made in `mid` leaves z
 module _ {s : Settings} {logs : List Float} {counts : List ℕ} {prop at : ℕ} {val : ℤ} {first end : ℕ} {x y : Flat}
@@ -112,10 +101,10 @@ module _ {s : Settings} {logs : List Float} {counts : List ℕ} {prop at : ℕ} 
       rows-y = done .changed .rows
 
       uses-y : usesOf s y ≡ uses
-      uses-y = uses-same s (done .changed .size)
+      uses-y = sym (uses-still s (done .changed .size))
 
       uses-mid : usesOf s mid ≡ uses
-      uses-mid = uses-same s (gt-made .changed .size) ∙ uses-y
+      uses-mid = sym (uses-still s (gt-made .changed .size)) ∙ uses-y
 
       rows-mid : heldIn mid ≡ take first rows ++ fresh uses above ++ others ++ drop end rows
       rows-mid =

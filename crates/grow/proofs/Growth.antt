@@ -24,8 +24,8 @@ use Rattle.layout.proofs.Queue.{choice-is, choice-none, same-queue}
 use Rattle.rows.specs.Flat.{Flat, SameSize}
 use Rattle.rows.proofs.Shapes.{size-same, size-then}
 use Rattle.leaf.specs.Fitting.{Fitting}
+use Rattle.leaf.proofs.Making.{uses-still}
 use Rattle.grow.specs.Grows.{jobIn, Grows, Growable, Splits, GrownTo}
-use Rattle.grow.proofs.Dividing.{uses-same}
 
 -- ---- the loop's test
 pub both-true : (m n : ℕ) → (ltb 0 m && ltb 0 n) ≡ true → (0 < m) × (0 < n)
@@ -141,7 +141,7 @@ module _ {s : Settings} {logs : List Float} {counts₀ counts : List ℕ} {x₀ 
         next st =
             let l = some-left in
             let less : suc (left - 1) ≡ left = omega arith in
-            ap (λ (u : Bool). steps (jobIn s logs x₀) (left - 1) (step (jobOf single (settingsOf s) logs u) st)) (uses-same s (h .size))
+            ap (λ (u : Bool). steps (jobIn s logs x₀) (left - 1) (step (jobOf single (settingsOf s) logs u) st)) (sym (uses-still s (h .size)))
             ∙ sym (steps-front (jobIn s logs x₀) (left - 1) st)
             ∙ ap (λ (m : ℕ). steps (jobIn s logs x₀) m st) less
 

@@ -12,7 +12,7 @@ use Rattle.model.specs.Rows.{Row, Span, tokOf, isAbove, within}
 use Rattle.model.specs.Partition.{second, lastFirst, inFront, atBack, parts, aboveRows, otherRows}
 use Rattle.model.proofs.Each.{Each, each-getD, each-append}
 use Rattle.checks.specs.declared.Settings.{Settings}
-use Rattle.rows.specs.Cells.{noRow}
+use Rattle.model.specs.Promise.{noRow}
 use Rattle.rows.specs.Flat.{Flat, heldIn, rowCount}
 use Rattle.rows.specs.Parted.{Partitioned, parted}
 use Rattle.rows.proofs.Cells.{length-held, tok-held}

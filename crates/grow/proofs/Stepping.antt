@@ -37,11 +37,11 @@ use Rattle.layout.proofs.Queue.{StandsIn, queue-split, fewer-room, same-room}
 use Rattle.rows.specs.Flat.{Flat, heldIn, rowCount}
 use Rattle.rows.proofs.Shapes.{count-still}
 use Rattle.leaf.specs.Fitting.{usesOf}
+use Rattle.leaf.proofs.Making.{uses-still}
 use Rattle.grow.specs.Parts.{gtOf, leOf, divided, RowsSplit, splitNodes}
 use Rattle.grow.specs.Grows.{jobIn, Number, Grows}
 use Rattle.grow.specs.declared.Sides.{Sides}
 use Rattle.grow.proofs.Numbers.{growth-number, evaluated-within, evaluated-number, job-fits, offered-shallow}
-use Rattle.grow.proofs.Dividing.{uses-same}
 use Rattle.grow.proofs.Choosing as choosing
 
 -- a leaf that the code made holds the cells of the model's
@@ -163,7 +163,7 @@ module _ {s : Settings} {logs : List Float} {counts : List ℕ} {x : Flat} {list
         omega arith
 
     uses-y : usesOf s y ≡ usesOf s x
-    uses-y = uses-same s (cut .changed .size)
+    uses-y = sym (uses-still s (cut .changed .size))
 
     count-y : rowCount y ≡ rowCount x
     count-y = count-still (cut .changed .size)

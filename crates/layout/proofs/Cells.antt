@@ -3,7 +3,7 @@ use mathlib.Core.Path.{_≡_, refl, sym, ap, _∙_}
 use mathlib.Core.List.{List, [], _∷_, _++_, append-assoc, append-nil}
 use Prim.Native.Nat.{ℕ, zero, suc, _+_, _*_, _-_, _≤_, _<_}
 use native.Mathlib.Nat.{zero-mul, suc-mul, mul-le-mul-right}
-use native.Mathlib.Numerals.{add-one}
+use native.Mathlib.Numerals.{add-one, add-two, add-three, add-four}
 use native.Mathlib.Omega.{arith}
 use lib.ListN.{length, getD, set, take, drop, length-append, length-drop, take-append-drop, List·getD-append, length-set}
 use lib.Seq.{sets-eq, paste, take-all, take-at, drop-at, drop-append-add, getD-append-add, drop-drop, length-take-le, split-at, set-split}
@@ -27,31 +27,17 @@ module _ {A : Type 0} where
 -- neighbouring cells stored one by one
 module _ {A : Type 0} (l : List A) (at : ℕ) where
   pub stores-two : (a b : A) → at + 2 ≤ length l → set (set l at a) (at + 1) b ≡ paste l at (a ∷ b ∷ []) 2
-  stores-two a b h =
-      let one : at + 1 ≡ suc at = omega arith in
-      rw one (sets-eq (a ∷ b ∷ []) l at h)
+  stores-two a b h = rw add-one (sets-eq (a ∷ b ∷ []) l at h)
 
   pub stores-three : (a b c : A) → at + 3 ≤ length l → set (set (set l at a) (at + 1) b) (at + 2) c ≡ paste l at (a ∷ b ∷ c ∷ []) 3
-  stores-three a b c h =
-      let one : at + 1 ≡ suc at = omega arith in
-      let two : at + 2 ≡ suc (suc at) = omega arith in
-      rw (one, two) (sets-eq (a ∷ b ∷ c ∷ []) l at h)
+  stores-three a b c h = rw (add-one, add-two) (sets-eq (a ∷ b ∷ c ∷ []) l at h)
 
   pub stores-four : (a b c d : A) → at + 4 ≤ length l → set (set (set (set l at a) (at + 1) b) (at + 2) c) (at + 3) d ≡ paste l at (a ∷ b ∷ c ∷ d ∷ []) 4
-  stores-four a b c d h =
-      let one : at + 1 ≡ suc at = omega arith in
-      let two : at + 2 ≡ suc (suc at) = omega arith in
-      let three : at + 3 ≡ suc (suc (suc at)) = omega arith in
-      rw (one, two, three) (sets-eq (a ∷ b ∷ c ∷ d ∷ []) l at h)
+  stores-four a b c d h = rw (add-one, add-two, add-three) (sets-eq (a ∷ b ∷ c ∷ d ∷ []) l at h)
 
   pub stores-five : (a b c d e : A) → at + 5 ≤ length l
       → set (set (set (set (set l at a) (at + 1) b) (at + 2) c) (at + 3) d) (at + 4) e ≡ paste l at (a ∷ b ∷ c ∷ d ∷ e ∷ []) 5
-  stores-five a b c d e h =
-      let one : at + 1 ≡ suc at = omega arith in
-      let two : at + 2 ≡ suc (suc at) = omega arith in
-      let three : at + 3 ≡ suc (suc (suc at)) = omega arith in
-      let four : at + 4 ≡ suc (suc (suc (suc at))) = omega arith in
-      rw (one, two, three, four) (sets-eq (a ∷ b ∷ c ∷ d ∷ e ∷ []) l at h)
+  stores-five a b c d e h = rw (add-one, add-two, add-three, add-four) (sets-eq (a ∷ b ∷ c ∷ d ∷ e ∷ []) l at h)
 
 module _ {E A : Type 0} (f : E → List A) where
   pub laid-append : (s t : List E) → laid f (s ++ t) ≡ laid f s ++ laid f t

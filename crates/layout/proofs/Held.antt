@@ -1,6 +1,6 @@
--- Lists that hold a tree: their lengths, one entry more, one changed, one made a split, one read. Assumes nothing.
+-- Lists that hold a tree: their lengths, one entry more, one made a split, one read. Assumes nothing.
 use mathlib.Core.Path.{_≡_, refl, sym, ap, _∙_}
-use mathlib.Core.List.{List, [], _∷_, _++_, append-nil}
+use mathlib.Core.List.{List, [], _∷_, _++_}
 use Prim.Native.Nat.{ℕ, suc, _+_, _*_, _≤_, _<_}
 use native.Mathlib.Nat.{mul-one, mul-le-mul-right, add-zero, le-trans}
 use native.Mathlib.Numerals.{add-one}
@@ -75,9 +75,6 @@ module _ (tree : List (Entry singles)) (lent : NodeLists) where
     spans = length-written (laid entrySpans tree) (lent .spans) (rw (spans-length tree) (room .spans));
   }
 
-  pub holding-length : {n : ℕ} → HasRoom (length tree) lent → HasRoom n lent → HasRoom n (holding tree lent)
-  holding-length {n} room wanted = room-same (holding-lengths room) wanted
-
   -- even without room for the tree, they are not shorter
   pub holding-room : {n : ℕ} → HasRoom n lent → HasRoom n (holding tree lent)
   unfolding holding
@@ -135,7 +132,7 @@ pub put-same : (i : ℕ) (e d : Entry singles) (x : NodeLists) → SameCells e d
 unfolding put
 put-same i e d x s = rw (s .words, s .values, s .costs, s .spans)
 
--- ---- one entry more, one changed, one made a split, one read
+-- ---- one entry more, one made a split, one read
 module _ (tree : List (Entry singles)) (lent : NodeLists) where
   pub put-more : (e : Entry singles) → HasRoom (length tree + 1) lent → put (length tree) e (holding tree lent) ≡ holding (tree ++ (e ∷ [])) lent
   unfolding put holding
@@ -149,23 +146,6 @@ module _ (tree : List (Entry singles)) (lent : NodeLists) where
       ∙ written-more entryCosts 1 (λ d. refl) tree e (lent .costs) (rw mul-one (room .costs)) in
       let spans =
       written-more entrySpans rowsPerSpan (λ d. refl) tree e (lent .spans) (room .spans) in
-      cc
-
-  pub put-changed : (i : ℕ) (e : Entry singles) → i < length tree → put i e (holding tree lent) ≡ holding (set tree i e) lent
-  unfolding put holding
-  put-changed i e lt =
-      let d : Entry singles = getD tree i noEntry in
-      let t : List (Entry singles) = set tree i e in
-      let words =
-      written-changed entryWords wordsPerNode words-each tree i wordsPerNode e noEntry (lent .words) (entryWords d) (entryWords e) [] lt
-      (sym (append-nil (entryWords d))) (sym (append-nil (entryWords e))) (words-each d) (words-each e) in
-      let values =
-      written-changed entryValues valuesPerNode (λ b. refl) tree i valuesPerNode e noEntry (lent .values) (entryValues d) (entryValues e) [] lt refl refl refl refl in
-      let costs : paste (writtenOver (laid entryCosts tree) (lent .costs)) i (entryCosts e) 1 ≡ writtenOver (laid entryCosts t) (lent .costs) =
-      ap (λ (k : ℕ). paste (writtenOver (laid entryCosts tree) (lent .costs)) k (entryCosts e) 1) (sym (mul-one i))
-      ∙ written-changed entryCosts 1 (λ b. refl) tree i 1 e noEntry (lent .costs) (entryCosts d) (entryCosts e) [] lt refl refl refl refl in
-      let spans =
-      written-changed entrySpans rowsPerSpan (λ b. refl) tree i rowsPerSpan e noEntry (lent .spans) (entrySpans d) (entrySpans e) [] lt refl refl refl refl in
       cc
 
   -- node i becomes a split, as the code makes it one
@@ -215,9 +195,6 @@ module _ (tree : List (Entry singles)) (lent : NodeLists) where
     -- the first cells, which the code reads at i times their number
     pub held-kind : getD (holding tree lent .words) (i * wordsPerNode) 0 ≡ getD (entryWords (getD tree i noEntry)) 0 0
     held-kind = ap (λ (k : ℕ). getD (holding tree lent .words) k 0) (sym (add-zero (i * wordsPerNode))) ∙ held-word 0 (omega arith)
-
-    pub held-val : getD (holding tree lent .values) (i * valuesPerNode) (pos 0) ≡ nodeVal (getD tree i noEntry .node)
-    held-val = ap (λ (k : ℕ). getD (holding tree lent .values) k (pos 0)) (sym (add-zero (i * valuesPerNode))) ∙ held-value 0 (omega arith)
 
     pub held-first : getD (holding tree lent .spans) (i * rowsPerSpan) 0 ≡ getD tree i noEntry .span .first
     held-first = ap (λ (k : ℕ). getD (holding tree lent .spans) k 0) (sym (add-zero (i * rowsPerSpan))) ∙ held-row 0 (omega arith)

@@ -63,16 +63,6 @@ pub few-waits : (node depth : ℕ) (o : Option (Offer singles)) → length (wait
 few-waits node depth none = omega arith
 few-waits node depth (some o) = omega arith
 
--- no more leaves wait than there are entries
-pub few-waiting : (i : ℕ) (t : List (Entry singles)) → length (waitingFrom i t) ≤ length t
-unfolding waitingFrom
-few-waiting i [] = omega arith
-few-waiting i (e ∷ t) =
-    let h = few-waiting (suc i) t in
-    let k = few-waits i (e .depth) (e .offer) in
-    let n = length-append (waits i (e .depth) (e .offer)) (waitingFrom (suc i) t) in
-    omega arith
-
 pub length-without : {A : Type 0} (k : ℕ) (l : List A) → k < length l → length (without k l) ≡ length l - 1
 length-without k l lt =
     let a = length-append (take k l) (drop (suc k) l) in
@@ -167,9 +157,6 @@ pub choice-some : (q : List (Waiting singles)) → 0 < length q → choiceOf q �
 choice-some [] h = absurd (omega arith)
 choice-some (w ∷ ws) h = refl
 
-pub best-inside : (q : List (Waiting singles)) → 0 < length q → bestOf q < length q
-best-inside q h = let low = best-below (laid waitGains q) (length q) in omega arith
-
 -- ---- the leaf split
 -- what waits at place k of the queue of t is entry `index`, and without its offer the queue is without it
 pub record Stands (b : ℕ) (t : List (Entry singles)) (q : List (Waiting singles)) (k : ℕ) : Type 0 where
@@ -262,6 +249,9 @@ fewer-room {m} {n} h le = let w : m * wordsPerLeaf ≤ n * wordsPerLeaf = mul-le
 pub same-room : {n : ℕ} {q p : QueueLists} → SameQueue q p → QueueRoom n q → QueueRoom n p
 same-room s h = record { words = rw (s .words) (h .words); values = rw (s .values) (h .values); gains = rw (s .gains) (h .gains) }
 
+pub same-itself : (q : QueueLists) → SameQueue q q
+same-itself q = record { words = refl; values = refl; gains = refl }
+
 pub same-queue : {q p r : QueueLists} → SameQueue q p → SameQueue p r → SameQueue q r
 same-queue a b = record { words = b .words ∙ a .words; values = b .values ∙ a .values; gains = b .gains ∙ a .gains }
 
@@ -300,6 +290,3 @@ module _ {waiting : ℕ} {q : QueueLists} {leaves : List (Waiting singles)} (h :
         ∙ ap (λ (l : List ℤ). getD l k (pos 0)) (h .values)
         ∙ ap (λ (i : ℕ). getD (laid waitValues leaves) i (pos 0)) at
         ∙ laid-read waitValues 1 (λ w. refl) leaves k 0 noWaiting (pos 0) inside (omega arith)
-
-    pub queued-gain : getD (q .gains) k nan ≡ getD leaves k noWaiting .offer .gain
-    queued-gain = sym (getD-take waiting (q .gains) k nan lt) ∙ ap (λ (l : List Float). getD l k nan) (h .gains) ∙ gain-at leaves k inside

@@ -3,20 +3,22 @@ use mathlib.Core.Path.{_≡_, refl, sym, ap, _∙_, subst}
 use mathlib.Core.Logic.{_⊎_, inl, inr}
 use mathlib.Core.Bool.{Bool, true, false, not, _&&_}
 use mathlib.Core.List.{List, [], _∷_}
-use Prim.Native.Nat.{ℕ, zero, suc, _+_, _-_, _*_, _≤_, _<_}
+use Prim.Native.Nat.{ℕ, suc, _+_, _-_, _*_, _≤_, _<_}
 use native.Mathlib.Decide.{decLe}
 use native.Mathlib.Omega.{arith}
-use borrow.Author.Tests.{lt-ltb}
-use lib.Dec.{ltb}
+use borrow.Author.Tests.{ltb-true}
 use lib.IntN.{ℤ}
-use lib.ListN.{length, getD, set, replicate, length-set}
+use lib.ListN.{length, getD, set, length-set}
 use lib.Seq.{slice, length-slice, getD-set-same, getD-set-other}
 use lib.Ieee.{Float}
 use Rattle.model.specs.Lists.{isEmpty}
 use Rattle.model.specs.Settings.{propsPerRow, toksPerRow}
 use Rattle.model.specs.Rows.{Row, Span, within}
 use Rattle.model.specs.Mode.{zeroToken, spanMode}
+use Rattle.model.proofs.Tests.{and-true}
+use Rattle.model.proofs.Vacated.{getD-blank}
 use Rattle.checks.specs.Given.{settingsOf}
+use Rattle.checks.proofs.Ranges.{given}
 use Rattle.checks.specs.declared.Settings.{Settings}
 use Rattle.cost.specs.Counted.{LogsReach}
 use Rattle.cost.proofs.Bridge.{logs-fewer}
@@ -25,32 +27,16 @@ use Rattle.mode.specs.Column.{rezeroed, modeAt, stepMode, stepTokens}
 use Rattle.mode.specs.Lent.{Inside, Clear, Steppable, LowTokens}
 use Rattle.mode.proofs.Stepped.{step-mode, step-rows}
 use Rattle.rows.specs.Cells.{span}
-use Rattle.rows.specs.Flat.{Flat, flat, heldIn, rowCount, hasResiduals, Spanned, SameSize, Changed}
+use Rattle.rows.specs.Flat.{Flat, flat, heldIn, rowCount, Spanned, SameSize, Changed}
 use Rattle.model.proofs.Settled.{put-same}
 use Rattle.rows.proofs.Cells.{length-held}
-use Rattle.rows.proofs.Shapes.{shaped-still, count-still}
+use Rattle.rows.proofs.Shapes.{shaped-still, count-still, residuals-still}
 use Rattle.node.specs.Evaluated.{Evaluated, Evaluable}
 use Rattle.leaf.specs.Fitting.{usesOf, Fitting}
 use Rattle.leaf.specs.Made.{settledAt, MadeLeaf}
 
--- ---- tests
-
-pub some-residuals : (l : List ℤ) → ltb 0 (length l) ≡ not (isEmpty l)
-some-residuals [] = refl
-some-residuals (x ∷ l) = lt-ltb 0 (length (x ∷ l)) (omega arith)
-
-right-true : (a b : Bool) → (a && b) ≡ true → b ≡ true
-right-true true b e = e
-right-true false b e = let z : _≡_ {A = ℕ} 0 1 = cc in absurd (omega arith)
-
-not-empty : {A : Type 0} (l : List A) → not (isEmpty l) ≡ true → 0 < length l
-not-empty [] e = let z : _≡_ {A = ℕ} 0 1 = cc in absurd (omega arith)
-not-empty (x ∷ l) e = omega arith
-
-getD-zeros : (n i : ℕ) → getD {A = ℕ} (replicate n 0) i 0 ≡ 0
-getD-zeros zero i = refl
-getD-zeros (suc n) zero = refl
-getD-zeros (suc n) (suc i) = getD-zeros n i
+pub residuals-given : (modal : Bool) (l : List ℤ) → (modal && not (isEmpty l)) ≡ true → 0 < length l
+residuals-given modal l e = ltb-true 0 (length l) (sym (given l) ∙ and-true modal (not (isEmpty l)) e .1)
 
 -- ---- zero tokens made anew
 
@@ -102,7 +88,7 @@ module _ {s : Settings} {logs : List Float} {counts : List ℕ} {x : Flat} {firs
   y = flat (x .props) (stepTokens uses first end (x .res) (x .toks)) (x .res)
 
   residuals : uses ≡ true → length (x .res) ≡ rowCount x
-  residuals e = f .shaped .res (not-empty (x .res) (right-true (s .«modal_offsets») (hasResiduals x) e))
+  residuals e = f .shaped .res (residuals-given (s .«modal_offsets») (x .res) e)
 
   inside : uses ≡ true → Inside first end (x .res)
   inside e = record { ordered = sp .ordered; inside = omega (arith, residuals e, sp .inside); few = omega (arith, residuals e, f .few) }
@@ -113,7 +99,7 @@ module _ {s : Settings} {logs : List Float} {counts : List ℕ} {x : Flat} {firs
   clear : Clear counts
   clear = record {
     long = omega (arith, f .room);
-    zeros = λ i h. ap (λ (l : List ℕ). getD l i 0) (f .zeros) ∙ getD-zeros (length counts) i;
+    zeros = λ i h. ap (λ (l : List ℕ). getD l i 0) (f .zeros) ∙ getD-blank (length counts) i 0;
   }
 
   pub steppable : Steppable uses (x .toks) (x .res) first end counts
@@ -158,12 +144,7 @@ module _ {s : Settings} {logs : List Float} {counts : List ℕ} {x : Flat} {firs
 
 -- lists as long use modes alike
 pub uses-still : {x y : Flat} (s : Settings) → SameSize x y → usesOf s x ≡ usesOf s y
-uses-still {x} {y} s size = ap (λ (b : Bool). s .«modal_offsets» && not b) (empty-still (x .res) (y .res) (size .res)) where
-  empty-still : (l k : List ℤ) → length k ≡ length l → isEmpty l ≡ isEmpty k
-  empty-still [] [] e = refl
-  empty-still [] (v ∷ k) e = absurd (omega arith)
-  empty-still (v ∷ l) [] e = absurd (omega arith)
-  empty-still (v ∷ l) (w ∷ k) e = refl
+uses-still s size = ap (λ (b : Bool). s .«modal_offsets» && b) (sym (residuals-still size))
 
 -- what holds of lists holds of lists as long whose tokens are below the alphabet
 pub fitting-still : {s : Settings} {logs : List Float} {counts : List ℕ} {x y : Flat} → Fitting s logs counts x → SameSize x y

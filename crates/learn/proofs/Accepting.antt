@@ -1,18 +1,20 @@
 -- What the checks ensure: lists that fit, with room for a tree of so many leaves. Assumes nothing.
-use mathlib.Core.Path.{_≡_, refl, sym, ap, _∙_, subst}
+use mathlib.Core.Path.{_≡_, sym, ap, _∙_, subst}
 use mathlib.Core.Logic.{inl, inr}
-use mathlib.Core.Bool.{Bool, true, false}
-use mathlib.Core.List.{List, [], _∷_}
-use Prim.Native.Nat.{ℕ, zero, suc, _-_, _*_, _<_}
+use mathlib.Core.Bool.{false}
+use mathlib.Core.List.{List}
+use Prim.Native.Nat.{ℕ, _-_, _*_}
 use native.Mathlib.Omega.{arith}
 use lib.Dec.{T}
 use lib.IntN.{pos}
-use lib.ListN.{length, getD, replicate, length-replicate}
+use lib.ListN.{length, replicate, length-replicate}
 use lib.Ieee.{Float, fin, nan}
 use Rattle.model.specs.Single.{singles}
 use Rattle.model.specs.Profile.{isBetween}
 use Rattle.model.specs.Cost.{logOf}
 use Rattle.model.proofs.SingleLawful.{single-lawful}
+use Rattle.model.proofs.Places.{getD-any, length-each}
+use Rattle.model.proofs.Tests.{true-T}
 use Rattle.checks.specs.Given.{settingsOf}
 use Rattle.checks.specs.declared.Settings.{Settings}
 use Rattle.checks.proofs.Passed.{Accepted}
@@ -23,22 +25,12 @@ use Rattle.rows.proofs.Whole.{flat-changed}
 use Rattle.model.specs.Rows.{Row}
 use Rattle.model.specs.Learn.{Result}
 use Rattle.model.specs.Operations.{Outcome, accepted, Tree, treeOf}
-use Rattle.rows.proofs.Cells.{length-range}
 use Rattle.lent.specs.Lists.{Lists, lists, lentIn, storedQueue, waitingAt, leavesLent, clearQueue, listsAfter}
 use Rattle.lent.proofs.Read.{room-read}
 use Rattle.leaf.specs.Fitting.{usesOf, Fitting}
 use Rattle.finish.specs.Finished.{FinishedTo}
 use Rattle.finish.specs.declared.Finished.{Finished}
 use Rattle.learn.specs.Learns.{Plantable, Flattened}
-
--- inside a list it is all the same what stands past its end
-default : {A : Type 0} (l : List A) (i : ℕ) (d e : A) → i < length l → getD l i d ≡ getD l i e
-default [] i d e h = absurd (omega arith)
-default (x ∷ l) zero d e h = refl
-default (x ∷ l) (suc i) d e h = default l i d e (omega arith)
-
-yes-true : {b : Bool} → b ≡ true → T b
-yes-true e = subst T (sym e) tt
 
 module _ {s : Settings} {logs : List Float} (x : Lists) {rows : ℕ} (a : Accepted s logs (lentIn x) rows) (counts : List ℕ) (cleared : counts ≡ replicate (length (x .counts)) 0) where
   long : length counts ≡ length (x .counts)
@@ -59,10 +51,10 @@ module _ {s : Settings} {logs : List Float} (x : Lists) {rows : ℕ} (a : Accept
         };
         few = p .lists .rows;
         below = a .tokens;
-        modal = λ e. p .modal (yes-true e);
+        modal = λ e. p .modal (true-T _ e);
         logs-reach = record {
           long = p .logs-enough;
-          fit = λ c some h. subst (λ (v : Float). T (isBetween (fin false 0 (pos 0)) (fin false 1 (pos 5)) v)) (default logs c nan (singles .nought) (omega (arith, p .logs-enough))) (a .log-fits c some (omega arith));
+          fit = λ c some h. subst (λ (v : Float). T (isBetween (fin false 0 (pos 0)) (fin false 1 (pos 5)) v)) (getD-any logs c nan (singles .nought) (omega (arith, p .logs-enough))) (a .log-fits c some (omega arith));
         };
         room = omega (arith, p .rooms .counts, long);
         zeros = cleared ∙ ap (λ (n : ℕ). replicate n 0) (sym long);
@@ -72,7 +64,7 @@ module _ {s : Settings} {logs : List Float} (x : Lists) {rows : ℕ} (a : Accept
   unfolding storedQueue
   queue-room =
       let q = x .queue in
-      let many = length-range (waitingAt q) 0 (leavesLent (q .words) (q .values) (q .gains)) in
+      let many = length-each (waitingAt q) 0 (leavesLent (q .words) (q .values) (q .gains)) in
       let room = a .model .rooms .queue in
       record { words = omega arith; values = omega arith; gains = omega arith }
 

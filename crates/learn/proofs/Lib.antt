@@ -1,4 +1,4 @@
--- `Accepting`: what the checks ensure. `Flatly`: flat bits. `Planting`: the root. `Answering`: the two answers.
+-- `Accepting`: what the checks ensure. `Flatly`: flat bits. `Planting`: the root. `Answering`: rooms.
 pub mod Planting
 pub mod Flatly
 pub mod Accepting

@@ -3,11 +3,10 @@ use mathlib.Core.Path.{_≡_, refl, sym, ap, _∙_, subst}
 use mathlib.Core.Bool.{Bool, true}
 use mathlib.Core.List.{List, [], _∷_, _++_, append-nil}
 use mathlib.Core.Option.{Option}
-use Prim.Native.Nat.{ℕ, zero, suc, _+_, _-_, _≤_}
+use Prim.Native.Nat.{ℕ, zero, suc, _+_, _-_}
 use native.Mathlib.Omega.{arith}
 use borrow.Author.Tests.{lt-ltb}
 use lib.Dec.{ltb}
-use lib.IntN.{ℤ}
 use lib.ListN.{length, getD, drop-of-length-le}
 use lib.Seq.{take-all}
 use lib.Ieee.{Float, isNan}
@@ -23,7 +22,6 @@ use Rattle.model.proofs.Fresh.{length-fresh}
 use Rattle.model.proofs.Root.{noSeeds, root-keeps}
 use Rattle.model.proofs.Health.{root-healthy}
 use Rattle.model.proofs.Growing.{root-sized}
-use Rattle.model.proofs.NeverMinusZero.{info-ordinary, ordinary-number}
 use Rattle.model.proofs.Lawful.{JobFits}
 use Rattle.model.proofs.SingleLawful.{single-lawful}
 use Rattle.checks.specs.Given.{settingsOf}
@@ -43,6 +41,7 @@ use Rattle.finish.specs.Finished.{FinishedTo}
 use Rattle.finish.specs.declared.Finished.{Finished}
 use Rattle.leaf.specs.Fitting.{usesOf, Fitting, LeafFits}
 use Rattle.leaf.specs.Made.{MadeLeaf}
+use Rattle.grow.proofs.Numbers.{evaluated-number}
 use Rattle.grow.specs.Grows.{jobIn, Number, Grows}
 use Rattle.learn.specs.Learns.{Plantable}
 use Rattle.model.proofs.Invariant.{Invariant}
@@ -82,10 +81,6 @@ module _ {s : Settings} {logs : List Float} {counts : List ℕ} {x : Flat} {n : 
   mine : within (span 0 rows) given ≡ given
   mine = take-all rows given (omega (arith, counted))
 
-  pub number : (mode : ℤ) (l : List Row) → length l ≤ rowCount x → Number (infoOf (settingsOf s) logs mode l .cost)
-  number mode l h = ordinary-number (infoOf (settingsOf s) logs mode l .cost)
-      (info-ordinary (settingsOf s) logs (rowCount x) (p .fitting .settings .alphabet .1) (p .fitting .few) (p .logs-small) mode l h)
-
   module _ {y : Flat} {r : Leaf} (m : MadeLeaf scored s logs 0 (span 0 rows) x y r) where
     info-is : infoIs (r .info) ≡ infoOf (settingsOf s) logs (spanMode (usesOf s x) given) (fresh (usesOf s x) given)
     info-is = rw mine at (m .leaf .info)
@@ -94,15 +89,12 @@ module _ {s : Settings} {logs : List Float} {counts : List ℕ} {x : Flat} {n : 
     pub root-number : Number (r .info .cost)
     root-number =
         let e = ap (λ (i : Info singles). i .cost) info-is in
-        subst Number (sym e) (number (spanMode (usesOf s x) given) (fresh (usesOf s x) given) (omega (arith, length-fresh (usesOf s x) given, length-held (x .props) (x .toks) (x .res))))
+        subst Number (sym e) (evaluated-number (p .fitting) (spanMode (usesOf s x) given) (fresh (usesOf s x) given) (omega (arith, length-fresh (usesOf s x) given, length-held (x .props) (x .toks) (x .res))))
 
     rows-are : heldIn y ≡ fresh (usesOf s x) given
     rows-are = m .changed .rows ∙ rw (mine, drop-of-length-le given {i = rows} (omega (arith, counted))) (append-nil (fresh (usesOf s x) given))
 
     -- ---- the lists afterwards
-    root-entry : Entry singles
-    root-entry = leafOver j (fresh (usesOf s x) given) (spanMode (usesOf s x) given) (record { first = 0; end = length given }) 0
-
     nodes-are : put 0 (leafWith (r .info) 0 rows) n ≡ holding (root .tree) n
     unfolding rootState leafOver
     nodes-are =
@@ -135,7 +127,7 @@ module _ {s : Settings} {logs : List Float} {counts : List ℕ} {x : Flat} {n : 
           summed = cost ∙ ap (λ (i : Info singles). i .cost) info-is;
           inv = subst (λ (u : Bool). Invariant u noSeeds given root) (uses-still s (m .changed .size)) (root-keeps j given);
           healthy = root-healthy (single-lawful .bounds) j given (subst (JobFits (single-lawful .bounds) j) (sym (length-held (x .props) (x .toks) (x .res))) (p .lawful)) noSeeds;
-          sized = root-sized Number (rowCount y) j zero-number (λ mode l h. number mode l (omega arith)) given (omega (arith, length-held (x .props) (x .toks) (x .res)));
+          sized = root-sized Number (rowCount y) j zero-number (λ mode l h. evaluated-number (p .fitting) mode l (omega arith)) given (omega (arith, length-held (x .props) (x .toks) (x .res)));
           shallow = λ k h o e. elim k [ zero ↦ omega arith | suc i ↦ omega arith ];
         }
 

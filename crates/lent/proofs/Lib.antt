@@ -1,2 +1,3 @@
--- `Read`: what the model reads in the lists after acceptance.
+-- `Read`: what the model reads in the lists after acceptance. `Answered`: the answer of an operation.
 pub mod Read
+pub mod Answered

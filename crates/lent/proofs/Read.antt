@@ -3,13 +3,13 @@ use mathlib.Core.Path.{_≡_, refl, sym, ap, _∙_}
 use mathlib.Core.Bool.{false}
 use mathlib.Core.List.{List, [], _∷_, map}
 use mathlib.Core.Option.{Option, none, some}
-use Prim.Native.Nat.{ℕ, zero, suc, _+_, _-_, _*_, _/_, _≤_, _<_}
+use Prim.Native.Nat.{ℕ, _+_, _-_, _*_, _/_, _≤_, _<_}
 use native.Mathlib.Decide.{decLe}
 use native.Mathlib.Nat.{add-zero, mul-one}
 use native.Mathlib.Omega.{arith}
 use lib.IntN.{ℤ, pos}
-use lib.ListN.{length, getD, drop, replicate, length-append, length-drop, length-replicate, length-map, getD-replicate, List·getD-append, List·getD-map}
-use lib.Seq.{ext-getD, getD-append-add, getD-drop}
+use lib.ListN.{length, getD, replicate, length-replicate, length-map, getD-replicate, List·getD-map}
+use lib.Seq.{ext-getD}
 use lib.Ieee.{Float, nan}
 use Rattle.model.specs.Lists.{range, writtenOver}
 use Rattle.model.specs.Settings.{Settings}
@@ -22,6 +22,9 @@ use Rattle.model.specs.Tree.{faultOf}
 use Rattle.model.specs.Profile.{single}
 use Rattle.model.specs.Refuse.{Refusal, refuseAt, isShortOfSeedRoom, learnRefusal, deepenRefusal}
 use Rattle.model.specs.Operations.{accepted, unless, treeOf, learn, deepen}
+use Rattle.model.proofs.Places.{length-each, each-at}
+use Rattle.model.proofs.Written.{length-written, getD-written, getD-unwritten}
+use Rattle.model.proofs.Vacated.{getD-blank}
 use Rattle.model.proofs.Tests.{named}
 use Rattle.model.proofs.Accepted.{passed-all, seed-rooms-in, learnedFrom, deepenedFrom}
 use Rattle.model.proofs.Demand3.{learned-fits, deepened-fits}
@@ -31,7 +34,6 @@ use Rattle.layout.specs.Layout.{kindAt, propAt, gtAt, leAt, predAt, valAt, offs
 use Rattle.layout.specs.Tree.{laid, NodeLists, HasRoom, nodeWords, nodeVal}
 use Rattle.layout.specs.Waiting.{QueueLists}
 use Rattle.layout.proofs.Cells.{laid-length, written-read}
-use Rattle.rows.proofs.Cells.{length-range, getD-range}
 use Rattle.lent.specs.Lists.{Lists, nodesLent, spansLent, leavesLent, spanAt, waitingAt, storedNodes, storedSpans, storedQueue, lentIn, recordWords, recordValues, recordCosts, spanRows, nodesAfter, clearQueue, listsAfter, readAfter, learnLists, deepenLists}
 
 -- ---- lists of entries read off other lists
@@ -41,38 +43,15 @@ module _ {E : Type 0} (z : E) (f g : ℕ → E) (new : List E) (n : ℕ) (fits :
   -- the first entries are new, and those past them are as before
   read-over : map f (range 0 n) ≡ writtenOver new (map g (range 0 n))
   read-over =
-      let long = length-range f 0 n in
-      let old = length-range g 0 n in
-      let rest : length (drop (length new) (map g (range 0 n))) ≡ n - length new = length-drop (length new) (map g (range 0 n)) ∙ ap (λ (k : ℕ). k - length new) old in
+      let long = length-each f 0 n in
+      let old = length-each g 0 n in
       ext-getD z (map f (range 0 n)) (writtenOver new (map g (range 0 n)))
-      (long ∙ sym (length-append new (drop (length new) (map g (range 0 n))) ∙ omega arith))
-      (λ i h. getD-range f z 0 n i (omega arith) ∙ at i (omega arith) (decLe (i + 1) (length new)))
+      (long ∙ sym (length-written new (map g (range 0 n)) (omega arith) ∙ old))
+      (λ i h. each-at f n i z (omega arith) ∙ at i (omega arith) (decLe (i + 1) (length new)))
     where
-      at : (i : ℕ) → i < n → Dec (i + 1 ≤ length new) → f (0 + i) ≡ getD (writtenOver new (map g (range 0 n))) i z
-      at i h (yes lt) =
-          let i-is : 0 + i ≡ i = omega arith in
-          ap f i-is ∙ here i (omega arith) ∙ sym (List·getD-append new (drop (length new) (map g (range 0 n))) z i (omega arith))
-      at i h (no ge) =
-          let k : ℕ = i - length new in
-          let i-is : i ≡ length new + k = omega arith in
-          let zero-i : 0 + i ≡ i = omega arith in
-          let g-i : 0 + (length new + k) ≡ i = omega arith in
-          ap f zero-i ∙ past i (omega arith) h
-          ∙ sym (ap (λ (m : ℕ). getD (writtenOver new (map g (range 0 n))) m z) i-is
-          ∙ getD-append-add new (drop (length new) (map g (range 0 n))) k z
-          ∙ getD-drop (length new) (map g (range 0 n)) k z
-          ∙ getD-range g z 0 n (length new + k) (omega arith)
-          ∙ ap g g-i)
-
--- a cell past those written
-past-written : {A : Type 0} (new l : List A) (i : ℕ) (d : A) → length new ≤ i → getD (writtenOver new l) i d ≡ getD l i d
-past-written new l i d h =
-    let k : ℕ = i - length new in
-    let is : i ≡ length new + k = omega arith in
-    ap (λ (m : ℕ). getD (writtenOver new l) m d) is ∙ getD-append-add new (drop (length new) l) k d ∙ getD-drop (length new) l k d ∙ ap (λ (m : ℕ). getD l m d) (sym is)
-
-length-over : {A : Type 0} (new l : List A) → length new ≤ length l → length (writtenOver new l) ≡ length l
-length-over new l h = length-append new (drop (length new) l) ∙ omega (arith, length-drop (length new) l)
+      at : (i : ℕ) → i < n → Dec (i + 1 ≤ length new) → f i ≡ getD (writtenOver new (map g (range 0 n))) i z
+      at i h (yes lt) = here i (omega arith) ∙ sym (getD-written new (map g (range 0 n)) z i (omega arith))
+      at i h (no ge) = past i (omega arith) h ∙ sym (getD-unwritten new (map g (range 0 n)) z i (omega arith) ∙ each-at g n i z h)
 
 -- ---- nodes
 
@@ -115,15 +94,15 @@ module _ (r : Result singles) (n : NodeLists) (room : HasRoom (length (r .record
 
   same-words : length (m .words) ≡ length (n .words)
   unfolding nodesAfter
-  same-words = length-over (laid recordWords (r .records)) (n .words) (omega (arith, long-words, room .words))
+  same-words = length-written (laid recordWords (r .records)) (n .words) (omega (arith, long-words, room .words))
 
   same-values : length (m .values) ≡ length (n .values)
   unfolding nodesAfter
-  same-values = length-over (laid recordValues (r .records)) (n .values) (omega (arith, long-values, room .values))
+  same-values = length-written (laid recordValues (r .records)) (n .values) (omega (arith, long-values, room .values))
 
   same-costs : length (m .costs) ≡ length (n .costs)
   unfolding nodesAfter
-  same-costs = length-over (laid recordCosts (r .records)) (n .costs) (omega (arith, long-costs, room .costs))
+  same-costs = length-written (laid recordCosts (r .records)) (n .costs) (omega (arith, long-costs, room .costs))
 
   pub same-nodes : nodesLent (m .words) (m .values) (m .costs) ≡ nodesLent (n .words) (n .values) (n .costs)
   same-nodes = rw (same-words, same-values, same-costs)
@@ -146,10 +125,10 @@ module _ (r : Result singles) (n : NodeLists) (room : HasRoom (length (r .record
   unfolding nodesAfter
   node-past i h =
       let ge : k ≤ i = omega (arith, length-map (r .records) stored) in
-      let word : (j : ℕ) → getD (m .words) (i * 5 + j) 0 ≡ getD (n .words) (i * 5 + j) 0 = λ j. past-written (laid recordWords (r .records)) (n .words) (i * 5 + j) 0 (omega (arith, long-words)) in
+      let word : (j : ℕ) → getD (m .words) (i * 5 + j) 0 ≡ getD (n .words) (i * 5 + j) 0 = λ j. getD-unwritten (laid recordWords (r .records)) (n .words) 0 (i * 5 + j) (omega (arith, long-words)) in
       let value : (j : ℕ) → getD (m .values) (i * 2 + j) (pos 0) ≡ getD (n .values) (i * 2 + j) (pos 0) =
-      λ j. past-written (laid recordValues (r .records)) (n .values) (i * 2 + j) (pos 0) (omega (arith, long-values)) in
-      let cost : getD (m .costs) i nan ≡ getD (n .costs) i nan = past-written (laid recordCosts (r .records)) (n .costs) i nan (omega (arith, long-costs)) in
+      λ j. getD-unwritten (laid recordValues (r .records)) (n .values) (pos 0) (i * 2 + j) (omega (arith, long-values)) in
+      let cost : getD (m .costs) i nan ≡ getD (n .costs) i nan = getD-unwritten (laid recordCosts (r .records)) (n .costs) nan i (omega (arith, long-costs)) in
       let first : i * 5 + 0 ≡ i * 5 = add-zero (i * 5) in
       let front : i * 2 + 0 ≡ i * 2 = add-zero (i * 2) in
       rw (rw first at (word 0), word 1, word 2, word 3, word 4, rw front at (value 0), value 1, cost)
@@ -178,14 +157,14 @@ module _ (spans : List Span) (l : List ℕ) (room : length spans * 2 ≤ length 
   pub spans-read : storedSpans after ≡ writtenOver spans (storedSpans l)
   unfolding storedSpans
   spans-read =
-      let same : length after ≡ length l = length-over (laid spanRows spans) l (omega (arith, long-spans)) in
+      let same : length after ≡ length l = length-written (laid spanRows spans) l (omega (arith, long-spans)) in
       let fits : length spans ≤ length l / 2 = omega arith in
       rw same
       (read-over noSpan (spanAt after) (spanAt l) spans (length l / 2) fits
       (λ i h.
       let first : i * 2 + 0 ≡ i * 2 = add-zero (i * 2) in
       rw (rw first at (written-read spanRows 2 (λ e. refl) spans i 0 noSpan 0 l h (omega arith)), written-read spanRows 2 (λ e. refl) spans i 1 noSpan 0 l h (omega arith)))
-      (λ i h lt. rw (past-written (laid spanRows spans) l (i * 2) 0 (omega (arith, long-spans)), past-written (laid spanRows spans) l (i * 2 + 1) 0 (omega (arith, long-spans)))))
+      (λ i h lt. rw (getD-unwritten (laid spanRows spans) l 0 (i * 2) (omega (arith, long-spans)), getD-unwritten (laid spanRows spans) l 0 (i * 2 + 1) (omega (arith, long-spans)))))
 
 -- ---- the queue
 
@@ -196,27 +175,21 @@ queue-read q =
     let p = clearQueue q in
     let same : leavesLent (p .words) (p .values) (p .gains) ≡ n =
     rw (length-replicate {A = ℕ} (length (q .words)) 0, length-replicate (length (q .values)) (pos 0), length-replicate (length (q .gains)) (singles .nought)) in
-    let long = length-range (waitingAt q) 0 n in
-    let left = length-range (waitingAt p) 0 n in
+    let long = length-each (waitingAt q) 0 n in
+    let left = length-each (waitingAt p) 0 n in
     rw (same, long)
     (ext-getD noWaiting (map (waitingAt p) (range 0 n)) (replicate n noWaiting) (left ∙ sym (length-replicate n noWaiting))
     (λ i h.
     let lt : i < n = omega arith in
-    let zero-i : 0 + i ≡ i = omega arith in
-    getD-range (waitingAt p) noWaiting 0 n i lt ∙ ap (waitingAt p) zero-i
+    each-at (waitingAt p) n i noWaiting lt
     ∙ rw (
-      zeros (length (q .words)) (i * 3),
-      zeros (length (q .words)) (i * 3 + 2),
-      zeros (length (q .words)) (i * 3 + 1),
+      getD-blank {A = ℕ} (length (q .words)) (i * 3) 0,
+      getD-blank {A = ℕ} (length (q .words)) (i * 3 + 2) 0,
+      getD-blank {A = ℕ} (length (q .words)) (i * 3 + 1) 0,
       getD-replicate (length (q .values)) i (pos 0) (pos 0) (omega arith),
       getD-replicate (length (q .gains)) i (singles .nought) nan (omega arith),
     )
     (sym (getD-replicate n i noWaiting noWaiting lt))))
-  where
-    zeros : (n i : ℕ) → getD {A = ℕ} (replicate n 0) i 0 ≡ 0
-    zeros zero i = refl
-    zeros (suc n) zero = refl
-    zeros (suc n) (suc i) = zeros n i
 
 -- ---- the operations
 
@@ -231,8 +204,8 @@ pub room-read : (x : Lists) (n : ℕ) → n ≤ length (lentIn x .nodes) → n �
 unfolding storedNodes storedSpans
 room-read x n held spans =
     let m = x .nodes in
-    let long = length-range (storedAt (m .words) (m .values) (m .costs)) 0 (nodesLent (m .words) (m .values) (m .costs)) in
-    let many = length-range (spanAt (m .spans)) 0 (spansLent (m .spans)) in
+    let long = length-each (storedAt (m .words) (m .values) (m .costs)) 0 (nodesLent (m .words) (m .values) (m .costs)) in
+    let many = length-each (spanAt (m .spans)) 0 (spansLent (m .spans)) in
     record { words = omega arith; values = omega arith; costs = omega arith; spans = omega arith }
 
 module _ (t : Settings singles) (logs : List Float) (x : Lists) where

@@ -2,15 +2,16 @@
 use mathlib.Core.Path.{_≡_, refl}
 use mathlib.Core.Bool.{true, false}
 use mathlib.Core.List.{[], _∷_, _++_}
-use Prim.Native.Nat.{ℕ, suc, _+_, _-_, _≤_, _<_}
+use Prim.Native.Nat.{ℕ, _+_, _-_, _≤_, _<_}
 use native.Mathlib.Omega.{arith}
 use borrow.Author.Tests.{lt-ltb, le-ltb, ltb-true}
 use lib.IntN.{ℤ, pos, negsuc, _-ℤ_, natAbs}
 use lib.Signed.{ltZ}
 use mir.Syntax.{w32, w64}
 use mir.Val.{SFits, Fits, toZ, ofZ}
-use mir.ValLaws.{toZ-ofZ, toZ-pos}
+use mir.ValLaws.{toZ-ofZ}
 use Rattle.model.specs.Pack.{pattern}
+use Rattle.entropy.proofs.Words.{high-read, high-cast}
 use Rattle.listing.specs.Text.{decimal, signedDecimal}
 use Rattle.listing.specs.Listing.{signed}
 
@@ -20,25 +21,9 @@ pub low-pattern : (p : ℕ) → p < 2147483648 → toZ w32 p ≡ signed p
 unfolding signed
 low-pattern p lt = rw (lt-ltb p 2147483648 lt)
 
-module _ (p : ℕ) (le : 2147483648 ≤ p) (fits : Fits w32 p) where
-  abbrev difference : ℤ
-  difference = toZ w64 p -ℤ pos 4294967296
-
-  difference-is : difference ≡ negsuc (4294967296 - suc p)
-  difference-is = let lt = fits .fits in rw (toZ-pos w64 p (omega arith), lt-ltb p 4294967296 (omega arith))
-
-  pub high-difference : SFits w64 difference
-  high-difference = rw difference-is (record { sfits = omega arith })
-
-  read : toZ w64 (ofZ w64 difference) ≡ negsuc (4294967296 - suc p)
-  read = rw (toZ-ofZ w64 difference high-difference) difference-is
-
-  pub high-cast : SFits w32 (toZ w64 (ofZ w64 difference))
-  high-cast = rw read (record { sfits = omega arith })
-
-  pub high-pattern : toZ w32 (ofZ w32 (toZ w64 (ofZ w64 difference))) ≡ signed p
-  unfolding signed
-  high-pattern = rw (toZ-ofZ w32 (toZ w64 (ofZ w64 difference)) high-cast, read, le-ltb p 2147483648 le)
+pub high-pattern : (p : ℕ) → 2147483648 ≤ p → Fits w32 p → toZ w32 (ofZ w32 (toZ w64 (ofZ w64 (toZ w64 p -ℤ pos 4294967296)))) ≡ signed p
+unfolding signed
+high-pattern p le fits = rw (toZ-ofZ w32 (toZ w64 (ofZ w64 (toZ w64 p -ℤ pos 4294967296))) (high-cast p le fits), high-read p le fits, le-ltb p 2147483648 le)
 
 -- ---- a number's magnitude, from its pattern
 

@@ -21,7 +21,7 @@ use Rattle.model.proofs.Accepted.{passed-all, seed-rooms-in, learnedFrom, deepe
 use Rattle.model.proofs.Demand3.{learned-fits, deepened-fits}
 use Rattle.model.proofs.Learned.{result-laws}
 use Rattle.model.proofs.SingleLawful.{single-lawful}
-use Rattle.rows.proofs.Cells.{length-range}
+use Rattle.model.proofs.Places.{length-each}
 use Rattle.lent.specs.Lists.{spansLent, spanAt, storedSpans}
 use Rattle.lent.proofs.Read.{spans-read, queue-read}
 use Rattle.learn.specs.Answer.{outcomeOf, after}
@@ -38,7 +38,7 @@ nodes-agree rs x = map-written storedOf (map nodeRecord rs) (x .nodes) ∙ rw (m
 
 span-room : (l : List ℕ) (n : ℕ) → n ≤ length (storedSpans l) → n * 2 ≤ length l
 unfolding storedSpans
-span-room l n h = let many = length-range (spanAt l) 0 (spansLent l) in omega arith
+span-room l n h = let many = length-each (spanAt l) 0 (spansLent l) in omega arith
 
 lists-agree : (r : Result singles) (x : Lists) → length (r .spans) ≤ length (lentIn x .spans) → lentIn (listsAfter r x) ≡ lentAfter r (lentIn x)
 unfolding listsAfter lentAfter

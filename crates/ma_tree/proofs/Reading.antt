@@ -14,7 +14,7 @@ use Rattle.model.specs.Lent.{Stored}
 use Rattle.model.specs.Operations.{ContextLists, leafContexts}
 use Rattle.layout.specs.Layout.{wordsPerNode, valuesPerNode, storedAt, nodesHeld, storedIn}
 use Rattle.layout.specs.Tree.{nodeLists}
-use Rattle.rows.proofs.Cells.{length-range, getD-range}
+use Rattle.model.proofs.Places.{length-each, each-at}
 use Rattle.lent.specs.Lists.{nodesLent, storedNodes}
 use Rattle.records.specs.Records.{storedOf, noRecord}
 use Rattle.records.specs.declared.MaNode.{MaNode}
@@ -61,7 +61,7 @@ module _ (nodes : List MaNode) (words : List ℕ) (values : List ℤ) (costs : L
   -- read off lists that begin as these do
   read-first : (f : ℕ → Stored singles) → ((i : ℕ) → i < n → f i ≡ storedAt words values costs i) → map f (range 0 n) ≡ take maxNodes (map storedOf nodes)
   read-first f entry =
-      let long = length-range f 0 n in
+      let long = length-each f 0 n in
       let cut = length-take maxNodes (map storedOf nodes) in
       let all = length-map nodes storedOf in
       ext-getD (storedOf noRecord) (map f (range 0 n)) (take maxNodes (map storedOf nodes)) (omega arith)
@@ -70,7 +70,7 @@ module _ (nodes : List MaNode) (words : List ℕ) (values : List ℤ) (costs : L
       let few : i < maxNodes = omega arith in
       let i-is : 0 + i ≡ i = omega arith in
       let there : i < copied (length nodes) = omega arith in
-      getD-range f (storedOf noRecord) 0 n i lt ∙ ap f i-is ∙ entry i lt ∙ same .each i there
+      each-at f n i (storedOf noRecord) lt ∙ entry i lt ∙ same .each i there
       ∙ sym (getD-take maxNodes (map storedOf nodes) i (storedOf noRecord) few ∙ List·getD-map storedOf nodes i noRecord))
 
   -- of the parts that are lent, words and values as long as n entries ask for

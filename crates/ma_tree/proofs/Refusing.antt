@@ -11,7 +11,7 @@ use Rattle.checks.specs.declared.Settings.{Settings}
 use Rattle.checks.specs.declared.Rooms.{Rooms}
 use Rattle.checks.specs.declared.Check.the-variants.{Pass, Refused}
 use Rattle.checks.proofs.Passed.{deepening, deepen-passed, deepen-refused}
-use Rattle.rows.proofs.Cells.{length-range}
+use Rattle.model.proofs.Places.{length-each}
 use Rattle.lent.specs.Lists.{spansLent, leavesLent, spanAt, waitingAt, storedSpans, storedQueue}
 use Rattle.learn.specs.Answer.{after}
 use Rattle.learn.specs.declared.Learned.the-variants.{Refused as Denied}
@@ -30,8 +30,8 @@ lends-records x room n s q c =
       res = refl;
       rooms = record {
         nodes = length-map (x .nodes) storedOf ∙ sym n;
-        spans = length-range (spanAt (x .spans)) 0 (spansLent (x .spans)) ∙ sym s;
-        queue = length-range (waitingAt (x .queue)) 0 (leavesLent (x .queue .words) (x .queue .values) (x .queue .gains)) ∙ sym q;
+        spans = length-each (spanAt (x .spans)) 0 (spansLent (x .spans)) ∙ sym s;
+        queue = length-each (waitingAt (x .queue)) 0 (leavesLent (x .queue .words) (x .queue .values) (x .queue .gains)) ∙ sym q;
         counts = sym c;
       };
     }

@@ -22,8 +22,7 @@ use Rattle.layout.specs.Layout.{wordsPerNode, valuesPerNode, storedAt}
 use Rattle.layout.specs.Tree.{nodeLists}
 use Rattle.layout.specs.Waiting.{QueueLists}
 use Rattle.rows.specs.Flat.{Flat}
-use Rattle.rows.proofs.Cells.{length-range}
-use Rattle.tree.proofs.Lists.{each-written}
+use Rattle.model.proofs.Places.{length-each, each-written}
 use Rattle.learn.specs.Answer.{after}
 use Rattle.learn.specs.declared.Learned.{Learned}
 use Rattle.lent.specs.Lists as core
@@ -106,7 +105,7 @@ module _ (nodes : List MaNode) (n : ℕ) (held : n ≤ length nodes) (words word
   filled-made =
       let room : core.nodesLent words values costs ≡ n = rw (w, v, c) (omega arith) in
       let entries = map (storedAt words values costs) (range 0 n) in
-      let long : length (map recordOf entries) ≡ n = length-map entries recordOf ∙ length-range (storedAt words values costs) 0 n in
+      let long : length (map recordOf entries) ≡ n = length-map entries recordOf ∙ length-each (storedAt words values costs) 0 n in
       rw (room, long, map-map recordOf (storedAt words values costs) (range 0 n))
       (filled-each (nodeOf (words ++ words′) (values ++ values′) (costs ++ costs′)) nodes n held
       ∙ ap (λ (r : List MaNode). r ++ drop n nodes)

@@ -9,6 +9,7 @@ use lib.Dec.{eqb}
 use lib.IntN.{ℤ, pos, negsuc, negℤ, _+ℤ_, _-ℤ_, natAbs, +ℤ-idr, +ℤ-assoc, +ℤ-comm, +ℤ-negℤ-cancel, negℤ-+ℤ}
 use lib.Signed.{ltZ, mag}
 use Rattle.model.specs.Lists.{eqZ}
+use Rattle.model.proofs.Tests.{eqZ-same, eqZ-other}
 
 -- v is low or above it
 pub record Above (low v : ℤ) : Type 0 where
@@ -65,20 +66,10 @@ mag-less j (suc k) n h g = go (decLt j (suc k))
 pub eqZ-above : (low : ℤ) (j k : ℕ) → eqZ (low +ℤ pos j) (low +ℤ pos k) ≡ eqb j k
 eqZ-above low j k = go (ℕ-discrete j k)
   where
-    same : (z : ℤ) → eqZ z z ≡ true
-    same (pos n) = eq-eqb n n refl
-    same (negsuc n) = eq-eqb n n refl
-
-    other : (y z : ℤ) → (y ≡ z → ⊥) → eqZ y z ≡ false
-    other (pos m) (pos n) ne = ne-eqb m n (λ e. ne (ap pos e))
-    other (pos m) (negsuc n) ne = refl
-    other (negsuc m) (pos n) ne = refl
-    other (negsuc m) (negsuc n) ne = ne-eqb m n (λ e. ne (ap negsuc e))
-
     go : Dec (j ≡ k) → eqZ (low +ℤ pos j) (low +ℤ pos k) ≡ eqb j k
-    go (yes e) = rw (e, same (low +ℤ pos k), eq-eqb k k refl)
+    go (yes e) = rw (e, eqZ-same (low +ℤ pos k), eq-eqb k k refl)
     go (no ne) =
-        other (low +ℤ pos j) (low +ℤ pos k) (λ e. ne (ap natAbs (sym (above-less low j) ∙ ap (λ (z : ℤ). z -ℤ low) e ∙ above-less low k)))
+        eqZ-other (low +ℤ pos j) (low +ℤ pos k) (λ e. ne (ap natAbs (sym (above-less low j) ∙ ap (λ (z : ℤ). z -ℤ low) e ∙ above-less low k)))
         ∙ sym (ne-eqb j k ne)
 
 -- a number between two that are held by the same bits

@@ -1,34 +1,24 @@
 -- The mode step on the flat lists is the model's on the rows that they hold. Assumes nothing.
 use mathlib.Core.Path.{_≡_, refl, sym, ap, _∙_}
 use mathlib.Core.Bool.{Bool, true, false}
-use mathlib.Core.List.{List, [], _∷_, _++_, map, append-nil}
+use mathlib.Core.List.{List, _∷_, _++_, map, append-nil}
 use Prim.Native.Nat.{ℕ, zero, suc, _+_, _-_, _*_, _/_, _≤_, _<_}
 use native.Mathlib.Omega.{arith}
 use lib.IntN.{ℤ, pos}
 use lib.ListN.{length, getD, set, take, drop, take-append-drop}
-use lib.Seq.{slice, slice-empty, slice-cons, take-set-lt, take-set-le, drop-set-lt, drop-set-add, take-suc-set, take-take, append-snoc, getD-drop}
+use lib.Seq.{slice, slice-empty, slice-cons, take-set-lt, take-set-le, drop-set-lt, drop-set-add, take-suc-set, take-take, append-snoc}
 use Rattle.model.specs.Settings.{propsPerRow, toksPerRow}
 use Rattle.model.specs.Rows.{Row, Span, within, withZero, rowsOf, rowsHeld, resOf}
 use Rattle.model.specs.Mode.{mode, zeroToken, rebased, spanMode, fresh}
+use Rattle.model.specs.Promise.{noRow}
+use Rattle.model.proofs.Places.{row-at, length-rowsOf}
 use Rattle.mode.specs.Column.{rezeroed, modeAt, tokensAt, stepMode, stepTokens}
 use Rattle.mode.specs.Lent.{Inside}
 
 -- ---- rows in the flat lists
 
-length-rows : (n : ℕ) (ps : List ℤ) (ts : List ℕ) (rs : List ℤ) → length (rowsOf n ps ts rs) ≡ n
-length-rows zero ps ts rs = refl
-length-rows (suc n) ps ts rs = ap suc (length-rows n (drop propsPerRow ps) (drop toksPerRow ts) (drop 1 rs))
-
--- what is read past the last row
-noRow : Row
-noRow = record { props = []; toks = []; res = pos 0 }
-
 row-res : (n i : ℕ) (ps : List ℤ) (ts : List ℕ) (rs : List ℤ) → i < n → getD (rowsOf n ps ts rs) i noRow .res ≡ getD rs i (pos 0)
-row-res zero i ps ts rs h = absurd (omega arith)
-row-res (suc n) zero ps ts rs h = refl
-row-res (suc n) (suc i) ps ts rs h =
-    let next : 1 + i ≡ suc i = omega arith in
-    row-res n i (drop propsPerRow ps) (drop toksPerRow ts) (drop 1 rs) (omega arith) ∙ getD-drop 1 rs i (pos 0) ∙ ap (λ (j : ℕ). getD rs j (pos 0)) next
+row-res n i ps ts rs h = ap (λ (r : Row). r .res) (row-at n ps ts rs i h)
 
 -- a token that is stored in the zero predictor's column is its row's
 stored : (n i t : ℕ) (ps : List ℤ) (ts : List ℕ) (rs : List ℤ) → i < n
@@ -62,7 +52,7 @@ module _ (n : ℕ) (ps res : List ℤ) (long : n ≤ length res) where
   rows tok = rowsOf n ps tok res
 
   there : (end : ℕ) (tok : List ℕ) → end ≤ n → end ≤ length (rows tok)
-  there end tok h = omega (arith, length-rows n ps tok res)
+  there end tok h = omega (arith, length-rowsOf n ps tok res)
 
   -- their residuals
   span-res : (k i end : ℕ) (tok : List ℕ) → i + k ≡ end → end ≤ n → resOf (slice i end (rows tok)) ≡ slice i end res

@@ -4,7 +4,7 @@ use mathlib.Core.Path.{refl, ap}
 use Prim.Native.Nat.{ℕ, zero, suc, _+_, _-_, _*_, _^_, _≤_, _<_}
 use native.Mathlib.Nat.{one-mul}
 use native.Mathlib.Omega.{arith}
-use mathlib.Core.Bool.{Bool, false}
+use mathlib.Core.Bool.{false}
 use mathlib.Core.List.{List, [], _∷_}
 use lib.ListN.{length, getD, take, drop, length-take, length-drop}
 use lib.IntN.{pos}
@@ -14,14 +14,14 @@ use lib.Ieee.Fits.{and-l, and-r}
 use lib.Ieee.Exact.{HasValue}
 use lib.Ieee.Back.{round-whole}
 use Rattle.ieee.specs.Within.{Within, Held, within-mono, add-within, sub-within, mul-within, ofNat-within, between-within}
-use Rattle.model.specs.Lists.{all}
 use Rattle.model.specs.Settings.{Settings, maxRows}
 use Rattle.model.specs.Rows.{Row}
 use Rattle.model.specs.Cost.{histogram, extraFrom, logOf, withCount, entropyFrom, histogramCost, costOf}
 use Rattle.model.specs.Single.{singles, single}
 use Rattle.model.specs.Profile.{isBetween, single as learner}
 use Rattle.model.proofs.LogZero.{log-read}
-use Rattle.model.proofs.Histogram.{sumOf, length-histogram, histogram-sum, histogram-extra}
+use Rattle.model.proofs.Keeping.{all-at}
+use Rattle.model.proofs.Histogram.{sumOf, length-histogram, histogram-sum, extraFrom-le, histogram-extra}
 
 -- ---- the logarithms
 -- entries 1 to n are at most 32 in size
@@ -56,18 +56,22 @@ entropy-within logs n bits (c ∷ cs) k l r h i w =
     let rest = entropy-within logs n next cs (suc k) l r (omega arith) (omega arith) (count-within logs n bits c k l r (omega arith) (omega arith) w) in
     within-mono (entropyFrom singles logs (logOf singles logs n) next cs) (omega arith) rest
 
+-- the cost of counts that add up to at most n
+pub counts-within : (hist : List ℕ) (n : ℕ) (logs : List Float) → sumOf hist ≤ n → n ≤ maxRows → length hist ≤ 256 → LogsWithin n logs → Within (257 * 2 ^ 22) (histogramCost singles logs n hist)
+unfolding histogramCost
+counts-within hist n logs h r a l =
+    let start : Within (0 * 2 ^ 22) (singles .nought) = lit≤ tt in
+    let entropy = entropy-within logs n (singles .nought) hist 0 l r h (omega arith) start in
+    let sum = entropyFrom singles logs (logOf singles logs n) (singles .nought) hist in
+    let extra = ofNat-within binary32 (extraFrom 0 hist) (1 * 2 ^ 22) (held 1 22 (lit< tt) (lit≤ tt)) (omega (arith, extraFrom-le 0 hist (omega arith))) in
+    add-within binary32 sum (single (extraFrom 0 hist)) (256 * 2 ^ 22) (1 * 2 ^ 22) (257 * 2 ^ 22) (held 257 22 (lit< tt) (lit≤ tt)) (lit≤ tt)
+    (within-mono sum (omega arith) entropy) extra
+
 pub cost-within : (t : Settings singles) (logs : List Float) (rows : List Row) (p : ℕ) → t .alphabet ≤ 256 → length rows ≤ maxRows → LogsWithin (length rows) logs
     → Within (257 * 2 ^ 22) (costOf t logs rows p)
-unfolding costOf histogramCost
+unfolding costOf
 cost-within t logs rows p a r l =
-    let h = histogram (t .alphabet) p rows in
-    let n = length-histogram (t .alphabet) p rows in
-    let start : Within (0 * 2 ^ 22) (singles .nought) = lit≤ tt in
-    let entropy = entropy-within logs (length rows) (singles .nought) h 0 l r (histogram-sum (t .alphabet) p rows) (omega arith) start in
-    let sum = entropyFrom singles logs (logOf singles logs (length rows)) (singles .nought) h in
-    let extra = ofNat-within binary32 (extraFrom 0 h) (1 * 2 ^ 22) (held 1 22 (lit< tt) (lit≤ tt)) (omega (arith, histogram-extra (t .alphabet) p rows a)) in
-    add-within binary32 sum (single (extraFrom 0 h)) (256 * 2 ^ 22) (1 * 2 ^ 22) (257 * 2 ^ 22) (held 257 22 (lit< tt) (lit≤ tt)) (lit≤ tt)
-    (within-mono sum (omega arith) entropy) extra
+    counts-within (histogram (t .alphabet) p rows) (length rows) logs (histogram-sum (t .alphabet) p rows) r (omega (arith, length-histogram (t .alphabet) p rows)) l
 
 -- ---- casts
 -- a whole number up to 2 ^ 24 has its own value in single precision
@@ -75,7 +79,7 @@ pub single-exact : (n : ℕ) → n ≤ 2 ^ 24 → HasValue (single n) false n 1
 unfolding ofInt
 single-exact n h = round-whole binary32 false n h
 
-getD-le-sum : (cs : List ℕ) (i : ℕ) → getD cs i 0 ≤ sumOf cs
+pub getD-le-sum : (cs : List ℕ) (i : ℕ) → getD cs i 0 ≤ sumOf cs
 getD-le-sum [] i = omega arith
 getD-le-sum (c ∷ cs) zero = omega arith
 getD-le-sum (c ∷ cs) (suc i) = omega (arith, getD-le-sum cs i)
@@ -87,12 +91,8 @@ pub extra-exact : (alphabet p : ℕ) (rows : List Row) → alphabet ≤ 256 → 
 extra-exact alphabet p rows a r = single-exact (extraFrom 0 (histogram alphabet p rows)) (omega (arith, histogram-extra alphabet p rows a))
 
 -- ---- what the checks show
-all-at : (test : Float → Bool) (xs : List Float) (i : ℕ) (z : Float) → T (all test xs) → i < length xs → T (test (getD xs i z))
-all-at test [] i z t h = absurd (omega arith)
-all-at test (x ∷ xs) zero z t h = and-l (test x) (all test xs) t
-all-at test (x ∷ xs) (suc i) z t h = all-at test xs i z (and-r (test x) (all test xs) t) (omega arith)
-
-between : (x : Float) (k : ℕ) → T (isBetween (fin false 0 (pos 0)) (fin false 1 (pos k)) x) → Within (2 ^ k) x
+-- a number from 0 to 2 ^ k
+pub between : (x : Float) (k : ℕ) → T (isBetween (fin false 0 (pos 0)) (fin false 1 (pos k)) x) → Within (2 ^ k) x
 between x k t =
     let lo = le (fin false 0 (pos 0)) x in
     let hi = le x (fin false 1 (pos k)) in
@@ -105,4 +105,4 @@ pub logs-within : (n : ℕ) (logs : List Float) → n < length logs → T (learn
 logs-within n logs h t c p k =
     let part = take n (drop 1 logs) in
     let z = singles .nought in
-    rw (log-read singles n logs c p k) at (between (getD part (c - 1) z) 5 (all-at (isBetween (fin false 0 (pos 0)) (fin false 1 (pos 5))) part (c - 1) z t (simp (length-take, length-drop) (omega arith))))
+    rw (log-read singles n logs c p k) at (between (getD part (c - 1) z) 5 (all-at (isBetween (fin false 0 (pos 0)) (fin false 1 (pos 5))) part (c - 1) z (simp (length-take, length-drop) (omega arith)) t))

@@ -8,7 +8,7 @@ use mathlib.Core.Bool.{Bool, true, false, cond, true≢false}
 use mathlib.Core.List.{List, [], _∷_, _++_, map, map-map, map-append}
 use mathlib.Core.Option.{none}
 use lib.ListN.{length, getD, take, replicate, length-map, length-append, length-replicate, List·getD-map, List·getD-append}
-use lib.Seq.{length-slice, take-at, getD-take, getD-drop, getD-set-same}
+use lib.Seq.{length-slice, take-at, getD-set-same}
 use lib.IntN.{ℤ}
 use lib.Dec.{T, ltb, ltb→lt}
 use Rattle.model.specs.Lists.{all}
@@ -24,6 +24,9 @@ use Rattle.model.specs.Settle.{settled}
 use Rattle.model.specs.Learn.{Result, resultOf, pruned, settledState}
 use Rattle.model.specs.Promise.{noRow}
 use Rattle.model.proofs.Lawful.{Bounds}
+use Rattle.model.proofs.Paths.{T→true}
+use Rattle.model.proofs.Keeping.{all-at}
+use Rattle.model.proofs.Slices.{getD-slice}
 use Rattle.model.proofs.Results.{hasTokens, LeafOfResult, ResultKept, ResultFresh, ResultFreshAt}
 use Rattle.model.proofs.Invariant.{Invariant, entryAt, node-at}
 use Rattle.model.proofs.Health.{Covered, Healthy}
@@ -36,7 +39,7 @@ use Rattle.model.proofs.Settled.{settled-length, settled-placed, settle
 -- ---- a fresh row's token
 -- an element of a part
 getD-within : (s : Span) (rows : List Row) (i : ℕ) → s .first ≤ i → i < s .end → getD (within s rows) (i - s .first) noRow ≡ getD rows i noRow
-getD-within s rows i f l = let e : s .first + (i - s .first) ≡ i = omega arith in getD-drop (s .first) (take (s .end) rows) (i - s .first) noRow ∙ ap (λ (k : ℕ). getD (take (s .end) rows) k noRow) e ∙ getD-take (s .end) rows i noRow l
+getD-within s rows i f l = let e : s .first + (i - s .first) ≡ i = omega arith in getD-slice (s .first) (s .end) rows (i - s .first) noRow (omega arith) ∙ ap (λ (k : ℕ). getD rows k noRow) e
 
 rebased-token : (m : ℤ) (rows : List Row) (i : ℕ) → i < length rows → 0 < length (getD rows i noRow .toks) → tokOf (getD (rebased m rows) i noRow) 0 ≡ zeroToken m (getD (rebased m rows) i noRow .res)
 unfolding rebased
@@ -47,12 +50,6 @@ rebased-token m (r ∷ rs) (suc i) h w = rebased-token m rs i (omega arith) w
 fresh-token : (rows : List Row) → fresh true rows ≡ rows → (i : ℕ) → i < length rows → 0 < length (getD rows i noRow .toks) → tokOf (getD rows i noRow) 0 ≡ zeroToken (mode (resOf rows)) (getD rows i noRow .res)
 unfolding fresh spanMode
 fresh-token rows e i h w = subst (λ (l : List Row). tokOf (getD l i noRow) 0 ≡ zeroToken (mode (resOf rows)) (getD l i noRow .res)) e (rebased-token (mode (resOf rows)) rows i h w)
-
--- an element of a list whose every element passes
-all-at : (p : Row → Bool) (rows : List Row) (i : ℕ) → i < length rows → T (all p rows) → T (p (getD rows i noRow))
-all-at p [] i h t = absurd (lt-irrefl i (omega arith))
-all-at p (r ∷ rs) zero h t = lib.Ieee.Fits.and-l (p r) (all p rs) t
-all-at p (r ∷ rs) (suc i) h t = all-at p rs i (omega arith) (lib.Ieee.Fits.and-r (p r) (all p rs) t)
 
 module _ {M : Meter} where
   nodes-of-records : (es : List (Entry M)) → nodesOf (map recordOf es) ≡ treeNodes es
@@ -242,7 +239,7 @@ module _ {M : Meter} where
           leaf-number = k;
           is-leaf = (rw (count-shown done (length tree) flat (finished-done .shorter)) l, rw (record-shown done (length tree) flat (finished-done .shorter) k l) t);
           inside = rw sp (a, b);
-          token = rw (sp, rows-shown done (length tree) flat (finished-done .shorter)) (rw (getD-within span (done .rows) i a b) at (fresh-token (within span (done .rows)) fresh-here (i - span .first) low (rw (getD-within span (done .rows) i a b) (ltb→lt 0 _ (all-at hasTokens (done .rows) i (rw (rows-shown done (length tree) flat (finished-done .shorter)) at inside) wide)))));
+          token = rw (sp, rows-shown done (length tree) flat (finished-done .shorter)) (rw (getD-within span (done .rows) i a b) at (fresh-token (within span (done .rows)) fresh-here (i - span .first) low (rw (getD-within span (done .rows) i a b) (ltb→lt 0 _ (all-at hasTokens (done .rows) i noRow (rw (rows-shown done (length tree) flat (finished-done .shorter)) at inside) wide)))));
         }
           where
             span : Span
@@ -254,9 +251,5 @@ module _ {M : Meter} where
             low : i - span .first < length (within span (done .rows))
             low = omega (arith, length-slice (span .first) (span .end) (done .rows) (finished-done .placed .bounds k l .1), a, b)
 
-            is-true : (b : Bool) → T b → b ≡ true
-            is-true true t = refl
-            is-true false t = absurd t
-
             fresh-here : fresh true (within span (done .rows)) ≡ within span (done .rows)
-            fresh-here = subst (λ (u : Bool). fresh u (within span (done .rows)) ≡ within span (done .rows)) (is-true (j .uses) uses) (finished-fresh h k l t)
+            fresh-here = subst (λ (u : Bool). fresh u (within span (done .rows)) ≡ within span (done .rows)) (T→true (j .uses) uses) (finished-fresh h k l t)

@@ -1,6 +1,6 @@
 -- Offsets and thresholds are values of the rows, so they fit 32 bits as these do: a mode is 0 or one of the residuals, an offered threshold is a property
 -- of some row. Assumes nothing.
-use mathlib.Core.Path.{_≡_, refl, sym, ap, subst}
+use mathlib.Core.Path.{_≡_, refl, sym, subst}
 use mathlib.Core.Logic.{_⊎_, inl, inr}
 use Prim.Native.Nat.{ℕ, zero, suc, _+_, _-_, _*_, _/_, _^_, _≤_, _<_, min}
 use native.Mathlib.Nat.{div-lt-iff-lt-mul, mul-le-mul-right, mul-comm, suc-mul, le-of-lt, not-suc-le-zero}
@@ -9,9 +9,9 @@ use mathlib.Core.Bool.{Bool, true, false, cond}
 use mathlib.Core.List.{List, [], _∷_, map, List·Memᴰ, List·Memᴰ·head, List·Memᴰ·tail, List·Memᴰ·cases-cons, List·Memᴰ·not-nil, Memᴰ·cast, Memᴰ·of-map}
 use mathlib.Core.Option.{some}
 use lib.ListN.{length, getD}
-use lib.IntN.{ℤ, pos, negsuc, sucℤ}
+use lib.IntN.{ℤ, pos, sucℤ}
 use lib.Signed.{ltZ, mag}
-use lib.Dec.{T, eqb, ltb, eqb→eq, ltb→lt, lit<}
+use lib.Dec.{T, eqb, ltb, ltb→lt, lit<}
 use Rattle.model.specs.Lists.{range, countIf, eqZ}
 use Rattle.model.specs.Meter.{Meter}
 use Rattle.model.specs.Settings.{Settings}
@@ -22,18 +22,13 @@ use Rattle.model.specs.Cost.{bestPredictor}
 use Rattle.model.specs.Evaluate.{planOf, infoOf, offered}
 use Rattle.model.specs.Job.{Offer}
 use Rattle.model.proofs.InRange.{IsOffer, offered-is}
+use Rattle.model.proofs.Tests.{eqZ-eq}
 
 -- from -2 ^ 31 to 2 ^ 31 - 1: `mag` of a negative number is one less than its size
 abbrev pub Fits32 : ℤ → Type 0
 Fits32 v = mag v < 2 ^ 31
 
 -- ---- modes
-eqZ-eq : (a b : ℤ) → T (eqZ a b) → a ≡ b
-eqZ-eq (pos a) (pos b) t = ap pos (eqb→eq a b t)
-eqZ-eq (pos a) (negsuc b) t = absurd t
-eqZ-eq (negsuc a) (pos b) t = absurd t
-eqZ-eq (negsuc a) (negsuc b) t = ap negsuc (eqb→eq a b t)
-
 -- what is counted is there
 counted : (v : ℤ) (rs : List ℤ) → 0 < countIf (eqZ v) rs → List·Memᴰ v rs
 counted v [] h = absurd (not-suc-le-zero h)

@@ -1,43 +1,40 @@
 -- A histogram's counts add up to at most the rows, and its extra bits are at most 61 a row. Assumes nothing.
-use mathlib.Core.Path.{_≡_, refl, ap, _∙_}
+use mathlib.Core.Path.{_≡_, refl}
 use Prim.Native.Nat.{ℕ, zero, suc, _+_, _-_, _*_, _/_, _≤_, _<_}
 use native.Mathlib.Nat.{mul-le-mul-left}
 use native.Mathlib.Omega.{arith}
 use mathlib.Core.Bool.{Bool, true, false, cond}
 use mathlib.Core.List.{List, [], _∷_, map}
-use lib.ListN.{length, length-map}
+use lib.ListN.{length}
 use lib.Dec.{T, ltb, eqb, eqb→eq}
 use Rattle.model.specs.Lists.{range, countIf}
 use Rattle.model.specs.Rows.{Row, tokOf}
 use Rattle.model.specs.Token.{extraCount}
 use Rattle.model.specs.Cost.{hasToken, histogram, extraFrom}
+use Rattle.model.proofs.Places.{length-each}
 
 abbrev pub sumOf : List ℕ → ℕ
 sumOf [] = 0
 sumOf (c ∷ cs) = c + sumOf cs
 
 -- ---- the counts
-length-range : (first count : ℕ) → length (range first count) ≡ count
-length-range first zero = refl
-length-range first (suc count) = ap suc (length-range (suc first) count)
-
 pub length-histogram : (alphabet p : ℕ) (rows : List Row) → length (histogram alphabet p rows) ≡ alphabet
 unfolding histogram
-length-histogram alphabet p rows = length-map (range 0 alphabet) (λ (t : ℕ). countIf (hasToken p t) rows) ∙ length-range 0 alphabet
+length-histogram alphabet p rows = length-each (λ (t : ℕ). countIf (hasToken p t) rows) 0 alphabet
 
-sum-map-add : (f g : ℕ → ℕ) (ts : List ℕ) → sumOf (map (λ (t : ℕ). f t + g t) ts) ≡ sumOf (map f ts) + sumOf (map g ts)
+pub sum-map-add : (f g : ℕ → ℕ) (ts : List ℕ) → sumOf (map (λ (t : ℕ). f t + g t) ts) ≡ sumOf (map f ts) + sumOf (map g ts)
 sum-map-add f g [] = refl
 sum-map-add f g (t ∷ ts) = let ih = sum-map-add f g ts in omega arith
 
-sum-map-zero : (ts : List ℕ) → sumOf (map (λ (t : ℕ). 0) ts) ≡ 0
+pub sum-map-zero : (ts : List ℕ) → sumOf (map (λ (t : ℕ). 0) ts) ≡ 0
 sum-map-zero [] = refl
 sum-map-zero (t ∷ ts) = omega (arith, sum-map-zero ts)
 
 -- how often a number stands in a range
-abbrev hits : ℕ → List ℕ → ℕ
+abbrev pub hits : ℕ → List ℕ → ℕ
 hits x ts = sumOf (map (λ (t : ℕ). cond (eqb x t) 1 0) ts)
 
-hits-before : (x first count : ℕ) → x < first → hits x (range first count) ≡ 0
+pub hits-before : (x first count : ℕ) → x < first → hits x (range first count) ≡ 0
 hits-before x first zero h = refl
 hits-before x first (suc count) h = go (eqb x first) (eqb→eq x first) (hits-before x (suc first) count (omega arith))
   where
@@ -74,7 +71,7 @@ extraCount-le t h = go (ltb t 16)
     go true = omega arith
     go false = omega arith
 
-extraFrom-le : (t : ℕ) (cs : List ℕ) → t + length cs ≤ 256 → extraFrom t cs ≤ 61 * sumOf cs
+pub extraFrom-le : (t : ℕ) (cs : List ℕ) → t + length cs ≤ 256 → extraFrom t cs ≤ 61 * sumOf cs
 unfolding extraFrom
 extraFrom-le t [] h = omega arith
 extraFrom-le t (c ∷ cs) h =

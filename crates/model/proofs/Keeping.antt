@@ -1,10 +1,10 @@
 -- Laws of `keep` and `all`. Assumes nothing.
 use mathlib.Core.Path.{_≡_, refl}
-use Prim.Native.Nat.{suc, _+_, _≤_}
+use Prim.Native.Nat.{ℕ, zero, suc, _+_, _≤_, _<_}
 use native.Mathlib.Omega.{arith}
 use mathlib.Core.Bool.{Bool, true, false, cond, not}
 use mathlib.Core.List.{List, [], _∷_}
-use lib.ListN.{length}
+use lib.ListN.{length, getD}
 use lib.Dec.{T}
 use lib.Ieee.Fits.{and-i, and-l, and-r}
 use Rattle.model.specs.Lists.{countIf, keep, all}
@@ -23,6 +23,12 @@ module _ {ℓ} {A : Type ℓ} where
 
   pub length-keep-le : (p : A → Bool) (xs : List A) → length (keep p xs) ≤ length xs
   length-keep-le p xs = omega (arith, length-keep p xs, count-at-most p xs)
+
+  -- every element passes
+  pub all-at : (p : A → Bool) (xs : List A) (i : ℕ) (z : A) → i < length xs → T (all p xs) → T (p (getD xs i z))
+  all-at p [] i z h t = absurd (omega arith)
+  all-at p (x ∷ xs) zero z h t = and-l (p x) (all p xs) t
+  all-at p (x ∷ xs) (suc i) z h t = all-at p xs i z (omega arith) (and-r (p x) (all p xs) t)
 
   -- what every element passes, the kept ones pass
   pub all-keep : (p q : A → Bool) (xs : List A) → T (all p xs) → T (all p (keep q xs))

@@ -2,6 +2,8 @@ pub mod Bench
 pub mod Agree
 pub mod Lawful
 pub mod Results
+pub mod Places
+pub mod Stored
 pub mod Counting
 pub mod Parts
 pub mod Extended

@@ -7,7 +7,7 @@ use mathlib.Core.Bool.{Bool, true, false, not, cond, true≢false}
 use mathlib.Core.List.{List, [], _∷_}
 use lib.ListN.{length, getD, drop, length-append, length-drop, length-set, length-map}
 use lib.Seq.{take-at, drop-at, length-take-le}
-use lib.IntN.{ℤ, pos, negsuc}
+use lib.IntN.{ℤ, pos}
 use lib.Dec.{T, eqb, ltb, eqb→eq, lt→ltb}
 use lib.Ieee.Fits.{and-i, and-l, and-r}
 use Rattle.model.specs.Lists.{all, isEmpty, eqZ}
@@ -17,6 +17,8 @@ use Rattle.model.specs.Rows.{Row, rowsOf, joined, propsOf, toksOf, resOf
 use Rattle.model.specs.Learn.{Result}
 use Rattle.model.specs.Lent.{Lent, rowCount, rowsIn, hasResiduals, lentAfter}
 use Rattle.model.proofs.Results.{hasTokens, ResultKept}
+use Rattle.model.proofs.Places.{length-rowsOf}
+use Rattle.model.proofs.Tests.{eqZ-eq}
 use Rattle.model.proofs.Accepted.{Even}
 
 -- ---- tests of one row, none of which looks at the zero token
@@ -28,12 +30,6 @@ hasToks r = eqb (length (r .toks)) toksPerRow
 
 abbrev hasNoRes : Row → Bool
 hasNoRes r = eqZ (r .res) (pos 0)
-
-eqZ→eq : (a b : ℤ) → T (eqZ a b) → a ≡ b
-eqZ→eq (pos a) (pos b) t = ap pos (eqb→eq a b t)
-eqZ→eq (pos a) (negsuc b) t = absurd t
-eqZ→eq (negsuc a) (pos b) t = absurd t
-eqZ→eq (negsuc a) (negsuc b) t = ap negsuc (eqb→eq a b t)
 
 -- ---- lists of rows
 all-more : {A : Type 0} (p q : A → Bool) (xs : List A) → ((x : A) → T (p x) → T (q x)) → T (all p xs) → T (all q xs)
@@ -47,10 +43,6 @@ length-joined part w (r ∷ rs) t =
     let here = eqb→eq (length (part r)) w (and-l (eqb (length (part r)) w) _ t) in
     let further = length-joined part w rs (and-r (eqb (length (part r)) w) _ t) in
     omega (arith, length-append (part r) (joined part rs))
-
-length-rows : (n : ℕ) (ps : List ℤ) (ts : List ℕ) (rs : List ℤ) → length (rowsOf n ps ts rs) ≡ n
-length-rows zero ps ts rs = refl
-length-rows (suc n) ps ts rs = ap suc (length-rows n (drop propsPerRow ps) (drop toksPerRow ts) (drop 1 rs))
 
 -- rows that are written and read back; the residuals are written if `given`, and else each is 0
 listed : (given : Bool) (rows : List Row) → T (all hasProps rows) → T (all hasToks rows) → (given ≡ false → T (all hasNoRes rows))
@@ -71,7 +63,7 @@ listed given (r ∷ rows) ps ts rs =
   where
     first : (b : Bool) → (b ≡ false → T (all hasNoRes (r ∷ rows))) → getD (cond b (resOf (r ∷ rows)) []) 0 (pos 0) ≡ r .res
     first true f = refl
-    first false f = sym (eqZ→eq (r .res) (pos 0) (and-l (hasNoRes r) (all hasNoRes rows) (f refl)))
+    first false f = sym (eqZ-eq (r .res) (pos 0) (and-l (hasNoRes r) (all hasNoRes rows) (f refl)))
 
     others : (b : Bool) → drop 1 (cond b (resOf (r ∷ rows)) []) ≡ cond b (resOf rows) []
     others true = refl
@@ -91,7 +83,7 @@ rows-bare zero ps ts = tt
 rows-bare (suc n) ps ts = rows-bare n (drop propsPerRow ps) (drop toksPerRow ts)
 
 pub length-rowsIn : {M : Meter} (x : Lent M) → length (rowsIn x) ≡ rowCount x
-length-rowsIn x = length-rows (rowCount x) (x .props) (x .toks) (x .res)
+length-rowsIn x = length-rowsOf (rowCount x) (x .props) (x .toks) (x .res)
 
 module _ {M : Meter} (x : Lent M) (even : Even x) where
   wide : T (all hasProps (rowsIn x)) × T (all hasToks (rowsIn x))

@@ -11,7 +11,7 @@ use mathlib.Core.Option.{some}
 use lib.ListN.{length, getD}
 use lib.IntN.{ℤ, pos}
 use lib.Dec.{T, lit≤, lit<}
-use lib.Ieee.{Float, nan, inf, fin, binary32, add, sub, mul, neg, lt, fits, isNan}
+use lib.Ieee.{Float, nan, inf, fin, binary32, add, sub, mul, neg, lt, fits}
 use lib.Ieee.Fits.{add-fits, sub-fits, mul-fits, ofInt-fits}
 use lib.Ieee.Scale.{finite}
 use Rattle.ieee.specs.Within.{Within, within-finite, add-within, sub-within}
@@ -44,13 +44,6 @@ pub record Ordinary (x : Float) : Type 0 where
 pub compared : (x y : Float) → Ordinary x → Ordinary y → Comparison x y
 compared x y p q = comparison binary32 x y (p .is-finite) (q .is-finite) (p .is-single) (q .is-single) (p .not-minus-zero) (q .not-minus-zero)
 
--- such a number is its own value in double precision too: the cast asks that it is no NaN
-pub ordinary-number : (x : Float) → Ordinary x → T (not (isNan x))
-unfolding isNan
-ordinary-number nan p = absurd (p .is-finite)
-ordinary-number (inf s) p = tt
-ordinary-number (fin s m e) p = tt
-
 -- ---- never -0: a cost is a sum that starts at +0
 -- a single-precision number other than -0
 abbrev Plus : Float → Type 0
@@ -77,9 +70,6 @@ cost-plus t logs rows p =
     let h = histogram (t .alphabet) p rows in
     let top = logOf singles logs (length rows) in
     plus-add (entropyFrom singles logs top (singles .nought) h) (single (extraFrom 0 h)) (entropy-plus logs top (singles .nought) h plus-nought) (ofInt-fits binary32 (pos (extraFrom 0 h)))
-
-pub cost-not-minus-zero : (t : Settings singles) (logs : List Float) (rows : List Row) (p : ℕ) → T (not (minusZero (costOf t logs rows p)))
-cost-not-minus-zero t logs rows p = cost-plus t logs rows p .1
 
 nought-ordinary : Ordinary (singles .nought)
 nought-ordinary = record { is-finite = tt; is-single = plus-nought .0; not-minus-zero = plus-nought .1 }
@@ -154,26 +144,12 @@ module _ (t : Settings singles) (logs : List Float) (n : ℕ) (small : t .alphab
   deepened-ordinary uses limit seed rows h k =
       deepened-costs (λ (c : Float). Ordinary c ⊎ (c ≡ singles .endless)) n (jobOf learner t logs uses) (inl nought-ordinary) (λ mode rs l. inl (info-ordinary mode rs l)) (inr refl) limit seed rows h k
 
-  -- the growth term gt + le - parent
-  pub growth-finite : (gt le parent : List Row) (p q r : ℕ) → length gt ≤ n → length le ≤ n → length parent ≤ n
-      → T (finite (sub binary32 (add binary32 (costOf t logs gt p) (costOf t logs le q)) (costOf t logs parent r)))
-  growth-finite gt le parent p q r g l h =
-      let x = costOf t logs gt p in
-      let y = costOf t logs le q in
-      let z = costOf t logs parent r in
-      within-finite (sub binary32 (add binary32 x y) z) (771 * 2 ^ 22)
-      (sub-within binary32 (add binary32 x y) z (514 * 2 ^ 22) (257 * 2 ^ 22) (771 * 2 ^ 22) (held 771 22 (lit< tt) (lit≤ tt)) (lit≤ tt)
-      (sum-bounded x y (cost-bounded gt p g) (cost-bounded le q l) .0) (cost-bounded parent r h .0))
-
   -- ---- a side, and both sides of a threshold
   side-bounded : (p : ℕ) (ps : List ℕ) (rows : List Row) → length rows ≤ n → Bounded (257 * 2 ^ 22) (sideCost t logs (p ∷ ps) rows)
   unfolding sideCost lowestCost
   side-bounded p ps rows h =
       lowest-is (Bounded (257 * 2 ^ 22)) (costOf t logs rows) (cond (lt (costOf t logs rows p) (inf false)) (costOf t logs rows p) (inf false)) ps (λ q. cost-bounded rows q h)
       (first-is (Bounded (257 * 2 ^ 22)) (costOf t logs rows p) (cost-finite rows p h) (cost-bounded rows p h))
-
-  pub side-ordinary : (p : ℕ) (ps : List ℕ) (rows : List Row) → length rows ≤ n → Ordinary (sideCost t logs (p ∷ ps) rows)
-  side-ordinary p ps rows h = ordinary (sideCost t logs (p ∷ ps) rows) (257 * 2 ^ 22) (side-bounded p ps rows h)
 
   sides-bounded : (p : ℕ) (ps : List ℕ) (le gt : List Row) → length le ≤ n → length gt ≤ n → Bounded (514 * 2 ^ 22) (add binary32 (sideCost t logs (p ∷ ps) le) (sideCost t logs (p ∷ ps) gt))
   sides-bounded p ps le gt h k = sum-bounded (sideCost t logs (p ∷ ps) le) (sideCost t logs (p ∷ ps) gt) (side-bounded p ps le h) (side-bounded p ps gt k)

@@ -1,7 +1,7 @@
 -- Small laws of the operations: what holds of each accepted answer and its lent lists. Assumes nothing.
 use mathlib.Core.Path.{_≡_, refl, sym, ap, _∙_}
-use Prim.Native.Nat.{ℕ, zero, suc, _+_, _*_, _/_, _-_, _≤_, _<_, min, max}
-use native.Mathlib.Nat.{zero-add, le-div-iff-mul-le, div-lt-iff-lt-mul, div-mul-le-self, mul-le-mul-right}
+use Prim.Native.Nat.{ℕ, suc, _+_, _*_, _/_, _-_, _≤_, _<_, min, max}
+use native.Mathlib.Nat.{le-div-iff-mul-le, div-lt-iff-lt-mul, div-mul-le-self, mul-le-mul-right}
 use native.Mathlib.Omega.{arith}
 use mathlib.Core.List.{List, map}
 use lib.ListN.{length, getD, take, drop, replicate, length-map}
@@ -20,6 +20,7 @@ use Rattle.model.specs.Refuse.{contextsRefusal, sampleRefusal}
 use Rattle.model.specs.Operations.{accepted, Tree, treeOf, learn, deepen, ContextLists, leafContexts, sample}
 use Rattle.model.specs.Promise.{spanAt, recordAt, Unpruned}
 use Rattle.model.proofs.Lawful.{Lawful}
+use Rattle.model.proofs.Places.{length-each, each-at}
 use Rattle.model.proofs.Results.{ResultLaws}
 use Rattle.model.proofs.Tests.{passed, named, neither, not-below}
 use Rattle.model.proofs.Accepted.{accepted-by, learn-accepted, deepen-accepted}
@@ -116,15 +117,6 @@ contexts-accepted nodes count x y leaves e =
     })
 
 -- ---- even sampling
-length-range : (first count : ℕ) → length (range first count) ≡ count
-length-range first zero = refl
-length-range first (suc count) = ap suc (length-range (suc first) count)
-
-map-range : {A : Type 0} (f : ℕ → A) (z : A) (first count i : ℕ) → i < count → getD (map f (range first count)) i z ≡ f (first + i)
-map-range f z first zero i h = absurd (omega arith)
-map-range f z first (suc count) zero h = ap f (omega arith)
-map-range f z first (suc count) (suc i) h = map-range f z (suc first) count i (omega arith) ∙ ap f (omega arith)
-
 -- the row numbers picked: so many, evenly spread, ascending; entries past them are unchanged
 pub record Sampled (rows target : ℕ) (out : List ℕ) (picked : ℕ) (y : List ℕ) : Type 0 where
   pub number : picked ≡ min rows target
@@ -137,11 +129,11 @@ pub record Sampled (rows target : ℕ) (out : List ℕ) (picked : ℕ) (y : List
 module _ (rows target : ℕ) where
   length-even : length (evenSample rows target) ≡ min rows target
   unfolding evenSample
-  length-even = length-map (range 0 (min rows target)) _ ∙ length-range 0 (min rows target)
+  length-even = length-each (λ (k : ℕ). k * rows / min rows target) 0 (min rows target)
 
   even-at : (i : ℕ) → i < min rows target → getD (evenSample rows target) i 0 ≡ i * rows / min rows target
   unfolding evenSample
-  even-at i h = map-range (λ (k : ℕ). k * rows / min rows target) 0 0 (min rows target) i h ∙ rw zero-add
+  even-at i h = each-at (λ (k : ℕ). k * rows / min rows target) (min rows target) i 0 h
 
 -- of n rows picked from at least as many
 module _ (rows n : ℕ) (enough : n ≤ rows) where

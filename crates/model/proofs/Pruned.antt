@@ -6,7 +6,7 @@ use native.Mathlib.Nat.{lt-irrefl, zero-add}
 use native.Mathlib.Omega.{arith}
 use native.Mathlib.Decide.{ℕ-discrete, decLt}
 use mathlib.Core.Bool.{Bool, true, false, cond, _||_}
-use mathlib.Core.List.{List, [], _∷_, map, map-map, List·Memᴰ, Memᴰ·cast}
+use mathlib.Core.List.{List, map, map-map, List·Memᴰ, Memᴰ·cast}
 use lib.ListN.{length, getD, length-map, List·getD-map, List·getD-eq-default}
 use lib.IntN.{ℤ, pos}
 use lib.Signed.{ltZ}
@@ -15,6 +15,7 @@ use Rattle.model.specs.Meter.{Meter}
 use Rattle.model.specs.Tree.{Node, split, leaf, isLeaf, towards, follow, reach, leafReached}
 use Rattle.model.specs.Grow.{Entry, noEntry, treeNodes}
 use Rattle.model.specs.Prune.{preorder, placeOf, renumbered, moved, prunedNodes, prunedTree}
+use Rattle.model.proofs.Places.{getD-any}
 use Rattle.model.proofs.Paths.{meets, Forward, AllForward, eqb-same, eqb-other, towards-in}
 use Rattle.model.proofs.Family.{ChildOf, Child, Twins, Family, Anc, parent, under, leaf-no-child, child-forward, towards-child}
 use Rattle.model.proofs.Preorder.{place-at, place-of, mem-getD, pre-range, root-in, pre-closed, pre-parent, pre-no-repeat, place-forward}
@@ -38,12 +39,6 @@ pub reach-much-more : (nodes : List Node) → AllForward nodes → (ps : List �
 reach-much-more nodes fw ps zero fuel i h b = ap (λ (f : ℕ). reach f nodes ps i) (zero-add fuel)
 reach-much-more nodes fw ps (suc more) fuel i h b = let e : suc more + fuel ≡ suc (more + fuel) = omega arith in
     ap (λ (f : ℕ). reach f nodes ps i) e ∙ reach-more nodes fw ps (more + fuel) i h (omega arith) ∙ reach-much-more nodes fw ps more fuel i h b
-
--- inside a list the default is never read
-getD-any : {A : Type 0} (l : List A) (q : ℕ) (d d' : A) → q < length l → getD l q d ≡ getD l q d'
-getD-any [] q d d' h = absurd (lt-irrefl q (omega arith))
-getD-any (x ∷ xs) zero d d' h = refl
-getD-any (x ∷ xs) (suc q) d d' h = getD-any xs q d d' (omega arith)
 
 head-is : (nodes : List Node) (f r : ℕ) → 0 < f → getD (preorder f nodes r) 0 0 ≡ r
 unfolding preorder

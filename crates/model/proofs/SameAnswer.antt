@@ -12,14 +12,14 @@ use lib.IntN.{ℤ}
 use lib.Dec.{eqb, ltb}
 use borrow.Author.Tests.{le-ltb}
 use Rattle.model.specs.Meter.{Meter}
-use Rattle.model.specs.Rows.{Row, Span, rowsOf}
+use Rattle.model.specs.Rows.{Row, Span}
 use Rattle.model.specs.Mode.{spanMode, fresh}
 use Rattle.model.specs.Tree.{Node, split, leaf, Info, Record, nodesOf, leafReached, faultOf}
 use Rattle.model.specs.Job.{Offer, Job}
 use Rattle.model.specs.Grow.{Entry, State, Choice, noChoice, chosen, grownBits, noEntry, leafOver, greater, choiceFrom, gtRows, leRows, gtSpan, leSpan, gtLeaf, leLeaf, splitRows, becomeSplit, splitAt, stepTo, step, steps}
 use Rattle.model.specs.Learn.{leafCount, pruned, settledState, finished, rootState, learned}
 use Rattle.model.specs.Deepen.{depthsOf, rowsAt, seedLeaf, withLeafCost, withSeedNode, seedFrom, seedState, deepened}
-use Rattle.model.specs.Settings.{Settings, propsPerRow, toksPerRow}
+use Rattle.model.specs.Settings.{Settings}
 use Rattle.model.specs.Evaluate.{infoOf, offered}
 use Rattle.model.specs.Flat.{flatBits}
 use Rattle.model.specs.Profile.{Profile, jobOf}
@@ -27,6 +27,7 @@ use Rattle.model.specs.Lent.{Lent, rowCount, rowsIn, usesModes, treeIn, 
 use Rattle.model.specs.Refuse.{Refusal, refuseAt, isBadLogs, isShortOfSeedRoom, refusedBefore, learnRefusal, deepenRefusal}
 use Rattle.model.specs.Operations.{unless, treeOf, learn, deepen}
 use Rattle.model.proofs.LogZero.{Alike, read-alike, info-alike, offered-alike, flat-alike}
+use Rattle.model.proofs.Places.{length-rowsOf}
 use Rattle.model.proofs.Fresh.{length-fresh}
 use Rattle.model.proofs.Keeping.{length-keep-le}
 use Rattle.model.proofs.Growing.{Sized, steps-sized, root-sized, seed-sized, length-sides, length-within}
@@ -156,10 +157,6 @@ module _ (P : Profile) (t : Settings (P .meter)) (logs logs' : List (P .meter .C
       deepened-same n (jobOf P t logs uses) (infoOf t logs') (offered t logs') (flatBits t logs')
       (info-alike (P .meter) n logs logs' a t) (offered-alike (P .meter) n logs logs' a t) (flat-alike (P .meter) n logs logs' a t) limit seed rows (le-refl n)
 
-length-rows : (n : ℕ) (ps : List ℤ) (ts : List ℕ) (rs : List ℤ) → length (rowsOf n ps ts rs) ≡ n
-length-rows zero ps ts rs = refl
-length-rows (suc n) ps ts rs = ap suc (length-rows n (drop propsPerRow ps) (drop toksPerRow ts) (drop 1 rs))
-
 module _ (P : Profile) (t : Settings (P .meter)) (logs logs' : List (P .meter .Cost)) (x : Lent (P .meter))
     (reach : rowCount x < length logs) (reach' : rowCount x < length logs') (same : take (rowCount x) (drop 1 logs) ≡ take (rowCount x) (drop 1 logs')) where
   logs-same : isBadLogs P logs x ≡ isBadLogs P logs' x
@@ -175,7 +172,7 @@ module _ (P : Profile) (t : Settings (P .meter)) (logs logs' : List (P .meter .C
   refusal-same short last = rw logs-same
 
   alike : Alike (P .meter) (length (rowsIn x)) logs logs'
-  alike = rw (length-rows (rowCount x) (x .props) (x .toks) (x .res)) (read-alike (P .meter) (rowCount x) logs logs' same)
+  alike = rw (length-rowsOf (rowCount x) (x .props) (x .toks) (x .res)) (read-alike (P .meter) (rowCount x) logs logs' same)
 
   pub learn-alike : learn P t logs x ≡ learn P t logs' x
   unfolding learn learnRefusal

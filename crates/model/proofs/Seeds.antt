@@ -15,7 +15,7 @@ use lib.Dec.{T, eqb, eqb→eq, ltb, ltb→lt, lt→ltb}
 use Rattle.model.specs.Lists.{countIf, keep}
 use Rattle.model.specs.Meter.{Meter}
 use Rattle.model.specs.Rows.{Row, Span, noSpan, within}
-use Rattle.model.specs.Mode.{fresh, rebased, spanMode}
+use Rattle.model.specs.Mode.{fresh, spanMode}
 use Rattle.model.specs.Tree.{Node, split, leaf, isLeaf, Info, Record, blankRecord, nodesOf, leafReached, faultOf}
 use Rattle.model.specs.Job.{Offer, Job}
 use Rattle.model.specs.Grow.{Entry, State, noEntry, treeNodes, leafOver}
@@ -25,15 +25,10 @@ use Rattle.model.proofs.Lawful.{Bounds, JobFits}
 use Rattle.model.proofs.Counting.{count-map, count-keep, count-ext, count-none, count-all, count-below, length-keep, count-at-most}
 use Rattle.model.proofs.Paths.{T→true, meets-leaf, reached-leaf}
 use Rattle.model.proofs.Family.{Child, leaf-no-child}
-use Rattle.model.proofs.Fresh.{fresh-key, fresh-twice, length-fresh}
+use Rattle.model.proofs.Fresh.{fresh-key, fresh-twice, fresh-none, length-fresh}
 use Rattle.model.proofs.Invariant.{Invariant, passes, entryAt, node-at, none-is-no-some}
 use Rattle.model.proofs.Sound.{FieldsFit, Sound, sound, sound-count}
 use Rattle.model.proofs.Health.{EntryFits, Covered, Healthy, leafOver-fits, leafOver-small}
-
-fresh-nil : (uses : Bool) → fresh uses [] ≡ []
-unfolding fresh rebased
-fresh-nil true = refl
-fresh-nil false = refl
 
 T→not-false : (b : Bool) → T b → not b ≡ false
 T→not-false true t = refl
@@ -195,13 +190,13 @@ module _ {M : Meter} (B : Bounds M) (j : Job M) (seed : List (Record M)) (rows :
       with-rows : (mine : List Row) → rowsAt nodes i rows ≡ mine → Seeding (suc i) (withSeedNode j leaf info depth mine s)
       with-rows [] q = next i s sg (emptyLeaf info depth) (fresh (j .uses) []) (s .bits) (record {
         same = sym e;
-        span = inl (refl, ap length (fresh-nil (j .uses)));
-        mine = λ t. sym (ap (fresh (j .uses)) q ∙ fresh-nil (j .uses));
+        span = inl (refl, ap length (fresh-none (j .uses)));
+        mine = λ t. sym (ap (fresh (j .uses)) q ∙ fresh-none (j .uses));
         endless = λ z. absurd (true≢false (sym z ∙ is-no-split));
         offer = λ o z. absurd (none-is-no-some o z);
         fits = record { node-fits = f; pred-fits = f; offer-fits = tt };
         small = λ z. B .small-nought;
-        enough = ap length (fresh-nil (j .uses)) ∙ counted [] q;
+        enough = ap length (fresh-none (j .uses)) ∙ counted [] q;
       })
       with-rows (r ∷ rs) q = next i s sg x fr (withLeafCost (s .bits) x (r ∷ rs)) (record {
         same = sym e;

@@ -20,17 +20,18 @@ module _ {ℓ} {A : Type ℓ} where
       ∙ sym (drop-append-le c (take a m) (drop a m) (omega arith))
       ∙ ap (drop c) (take-append-drop a m)
 
+  -- an element of a slice
+  pub getD-slice : (c d : ℕ) (l : List A) (i : ℕ) (z : A) → c + i < d → getD (slice c d l) i z ≡ getD l (c + i) z
+  getD-slice c d l i z h = getD-drop c (take d l) i z ∙ getD-take d l (c + i) z h
+
   -- equal elements, equal slices
   pub slice-ext : (z : A) (c d : ℕ) (l l' : List A) → d ≤ length l → length l' ≡ length l → ((k : ℕ) → c ≤ k → k < d → getD l' k z ≡ getD l k z) → slice c d l' ≡ slice c d l
   slice-ext z c d l l' dl e same = ext-getD z (slice c d l') (slice c d l) (length-slice c d l' (omega arith) ∙ sym (length-slice c d l dl)) each
     where
-      at : (m : List A) → d ≤ length m → (i : ℕ) → i < d - c → getD (slice c d m) i z ≡ getD m (c + i) z
-      at m dm i h = getD-drop c (take d m) i z ∙ getD-take d m (c + i) z (omega arith)
-
       each : (i : ℕ) → i < length (slice c d l') → getD (slice c d l') i z ≡ getD (slice c d l) i z
       each i h =
           let g : i < d - c = omega (arith, length-slice c d l' (omega arith)) in
-          at l' (omega arith) i g ∙ same (c + i) (omega arith) (omega arith) ∙ sym (at l dl i g)
+          getD-slice c d l' i z (omega arith) ∙ same (c + i) (omega arith) (omega arith) ∙ sym (getD-slice c d l i z (omega arith))
 
   module _ (rows : List A) (a b : ℕ) (ab : a ≤ b) (bn : b ≤ length rows) (gt le : List A) (fits : length gt + length le ≡ b - a) where
     abbrev replaced : List A

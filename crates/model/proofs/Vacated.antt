@@ -16,7 +16,8 @@ use Rattle.model.specs.Learn.{Result, resultOf, pruned, settledState, le
 use Rattle.model.specs.Deepen.{seedState, deepened}
 use Rattle.model.proofs.Results.{recordOfResult, spanOfResult, treeOfResult}
 
-getD-blank : {A : Type 0} (n k : ℕ) (z : A) → getD (replicate n z) k z ≡ z
+-- a blank list
+pub getD-blank : {A : Type 0} (n k : ℕ) (z : A) → getD (replicate n z) k z ≡ z
 getD-blank zero k z = refl
 getD-blank (suc n) zero z = refl
 getD-blank (suc n) (suc k) z = getD-blank n k z

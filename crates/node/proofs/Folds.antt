@@ -14,7 +14,7 @@ use Rattle.model.specs.Settings.{Settings}
 use Rattle.model.specs.Rows.{Row}
 use Rattle.model.specs.Score.{Score as ModelScore, nothing, scoreOf, scoreFrom}
 use Rattle.model.specs.Evaluate.{Best, at, better, bestFrom, planOf, isRepeated, offerOf}
-use Rattle.cost.proofs.Numbers.{values-length}
+use Rattle.model.proofs.Places.{length-each}
 use Rattle.node.specs.declared.Best as declared
 use Rattle.node.specs.declared.Best.the-variants.{Nowhere, At}
 use Rattle.score.specs.declared.Score as Score
@@ -60,7 +60,7 @@ module _ (t : Settings singles) (logs : List Float) (preds : List ℕ) (mine : L
 
   pub rest-end : (b : Best singles) (k : ℕ) → n ≤ k → rest b k ≡ b
   unfolding bestFrom
-  rest-end b k h = ap (bestFrom t logs preds mine b) (drop-of-length-le (map orderAt (range 0 n)) {i = k} (omega (arith, values-length orderAt n)))
+  rest-end b k h = ap (bestFrom t logs preds mine b) (drop-of-length-le (map orderAt (range 0 n)) {i = k} (omega (arith, length-each orderAt 0 n)))
 
 -- ---- what is offered
 

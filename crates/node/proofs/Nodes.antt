@@ -15,6 +15,7 @@ use Rattle.model.specs.Settings as model
 use Rattle.model.specs.Rows.{Row}
 use Rattle.model.specs.Job as job
 use Rattle.model.specs.Evaluate.{bestSplit, offerOf, isScored, infoOf, offered}
+use Rattle.model.proofs.Tests.{and-true}
 use Rattle.checks.specs.declared.Settings.{Settings}
 use Rattle.checks.specs.Given.{settingsOf}
 use Rattle.cost.specs.declared.Cheapest.{Cheapest}
@@ -26,7 +27,6 @@ use Rattle.layout.specs.declared.Offer.{Offer}
 use Rattle.layout.specs.declared.Offer.the-variants.{Nothing}
 use Rattle.layout.specs.Values.{infoIs, offerIs}
 use Rattle.node.specs.Evaluated.{Evaluable, Evaluated, spanRows, scoredAt, infoWith}
-use Rattle.node.proofs.Orders.{and-both}
 use Rattle.node.proofs.Rooms.{take-zeros}
 use Rattle.node.proofs.Sides.{span-length, some-usable, hist-length}
 
@@ -76,7 +76,7 @@ module _ {props : List ℤ} {tok : List ℕ} {first end : ℕ} {s : Settings} {l
           → Evaluated (record { info = info; offer = offer }) wanted t logs mode depth mine
       unfolding offered
       evaluated-scored e {offer} o =
-          let both = and-both wanted scored e in
+          let both = and-true wanted scored e in
           let cost = infoOf t logs mode mine .cost in
           let passes : isScored t depth cost mine ≡ true = sym scored-is ∙ sym test ∙ both .1 in
           let here : offerIs offer ≡ theirs =

@@ -14,7 +14,8 @@ use lib.ListN.{drop}
 use lib.Seq.{drop-cons}
 use Rattle.model.specs.Lists.{range, all}
 use Rattle.model.specs.Evaluate.{propertyOrder, twin}
-use Rattle.cost.proofs.Numbers.{values-length, values-at}
+use Rattle.model.proofs.Places.{length-each, each-at}
+use Rattle.model.proofs.Tests.{and-true}
 use Rattle.node.specs.Order.{orderAt, orderCount}
 
 pub order-is : (weighted : Bool) → propertyOrder weighted ≡ map orderAt (range 0 (orderCount weighted))
@@ -26,21 +27,17 @@ order-is false = refl
 pub order-more : (n k : ℕ) → k < n → drop k (map orderAt (range 0 n)) ≡ orderAt k ∷ drop (k + 1) (map orderAt (range 0 n))
 order-more n k h =
     let e : suc k ≡ k + 1 = omega arith in
-    drop-cons (map orderAt (range 0 n)) k 0 (omega (arith, values-length orderAt n))
-    ∙ ap (λ (q : ℕ). q ∷ drop (suc k) (map orderAt (range 0 n))) (values-at orderAt n k 0 h)
+    drop-cons (map orderAt (range 0 n)) k 0 (omega (arith, length-each orderAt 0 n))
+    ∙ ap (λ (q : ℕ). q ∷ drop (suc k) (map orderAt (range 0 n))) (each-at orderAt n k 0 h)
     ∙ ap (λ (i : ℕ). orderAt k ∷ drop i (map orderAt (range 0 n))) e
-
-pub and-both : (a b : Bool) → (a && b) ≡ true → (a ≡ true) × (b ≡ true)
-and-both true b e = (refl, e)
-and-both false b e = let z : _≡_ {A = ℕ} 0 1 = cc in absurd (omega arith)
 
 -- a test that a whole range passes
 in-each : (p : ℕ → Bool) (first n k : ℕ) → all p (range first n) ≡ true → k < n → p (first + k) ≡ true
 in-each p first zero k e h = absurd (omega arith)
-in-each p first (suc n) zero e h = rw (add-zero first) (and-both (p first) (all p (range (suc first) n)) e .0)
+in-each p first (suc n) zero e h = rw (add-zero first) (and-true (p first) (all p (range (suc first) n)) e .0)
 in-each p first (suc n) (suc k) e h =
     let i : suc first + k ≡ first + suc k = omega arith in
-    ap p (sym i) ∙ in-each p (suc first) n k (and-both (p first) (all p (range (suc first) n)) e .1) (omega arith)
+    ap p (sym i) ∙ in-each p (suc first) n k (and-true (p first) (all p (range (suc first) n)) e .1) (omega arith)
 
 at-each : (p : ℕ → Bool) (k : ℕ) → all p (range 0 24) ≡ true → k < 24 → p k ≡ true
 at-each p k e h = let i : 0 + k ≡ k = omega arith in ap p (sym i) ∙ in-each p 0 24 k e h
@@ -77,11 +74,11 @@ preceded k h = at-each isPreceded k refl h
 
 pub order-place : (k : ℕ) → k < 24 → placeOf (orderAt k) ≡ k
 unfolding isPlaced
-order-place k h = eqb-true (placeOf (orderAt k)) k (and-both (eqb (placeOf (orderAt k)) k) (ltb (orderAt k) 24) (placed k h) .0)
+order-place k h = eqb-true (placeOf (orderAt k)) k (and-true (eqb (placeOf (orderAt k)) k) (ltb (orderAt k) 24) (placed k h) .0)
 
 pub order-below : (k : ℕ) → k < 24 → orderAt k < 24
 unfolding isPlaced
-order-below k h = ltb-true (orderAt k) 24 (and-both (eqb (placeOf (orderAt k)) k) (ltb (orderAt k) 24) (placed k h) .1)
+order-below k h = ltb-true (orderAt k) 24 (and-true (eqb (placeOf (orderAt k)) k) (ltb (orderAt k) 24) (placed k h) .1)
 
 -- no property twice
 pub order-once : (j k : ℕ) → j < 24 → k < 24 → orderAt j ≡ orderAt k → j ≡ k
@@ -91,8 +88,8 @@ order-once j k h l e = sym (order-place j h) ∙ ap placeOf e ∙ order-place k 
 pub twin-before : (k a : ℕ) → k < 24 → twin (orderAt k) ≡ some a → (placeOf a < k) × (orderAt (placeOf a) ≡ a) × (twin a ≡ none)
 unfolding isPreceded precedes
 twin-before k a h e =
-    let all3 = and-both (ltb (placeOf a) k) (eqb (orderAt (placeOf a)) a && isNone (twin a)) (ap (precedes k) (sym e) ∙ preceded k h) in
-    let two = and-both (eqb (orderAt (placeOf a)) a) (isNone (twin a)) (all3 .1) in
+    let all3 = and-true (ltb (placeOf a) k) (eqb (orderAt (placeOf a)) a && isNone (twin a)) (ap (precedes k) (sym e) ∙ preceded k h) in
+    let two = and-true (eqb (orderAt (placeOf a)) a) (isNone (twin a)) (all3 .1) in
     (ltb-true (placeOf a) k (all3 .0), eqb-true (orderAt (placeOf a)) a (two .0), none-is (twin a) (two .1))
 
 -- ---- a property's twin, as the code finds it

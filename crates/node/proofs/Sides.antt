@@ -13,12 +13,12 @@ use Rattle.model.specs.Rows.{rowsOf}
 use Rattle.model.specs.Cost.{sidePredictors}
 use Rattle.model.proofs.Keeping.{length-keep-le}
 use Rattle.model.proofs.Written.{take-written}
+use Rattle.model.proofs.Places.{length-range, length-rowsOf}
 use Rattle.checks.specs.declared.Settings.{Settings}
 use Rattle.checks.specs.Given.{settingsOf}
 use Rattle.cost.specs.Histograms.{histograms, CountsSpan}
 use Rattle.cost.specs.Predictors.{mayUse, usablePredictors, nodeCosts, sortedPredictors, costIn}
-use Rattle.cost.proofs.Numbers.{Each, Passes, keep-passes, length-range}
-use Rattle.cost.proofs.RowReads.{rows-length}
+use Rattle.cost.proofs.Numbers.{Each, Passes, keep-passes}
 use Rattle.cost.proofs.Histograms.{histograms-length}
 use Rattle.cost.proofs.Sorting.{byCost-length, byCost-each}
 use Rattle.cost.proofs.Bridge.{sides-is, usable-is}
@@ -31,7 +31,7 @@ some-there [] e = let z : _≡_ {A = ℕ} 0 1 = cc in absurd (omega arith)
 some-there (x ∷ xs) e = omega arith
 
 pub span-length : (props : List ℤ) (tok : List ℕ) (first end rows : ℕ) (rs : List ℤ) → end ≤ rows → length (spanRows first end props tok rows rs) ≡ end - first
-span-length props tok first end rows rs h = length-slice first end (rowsOf rows props tok rs) (omega (arith, rows-length rows props tok rs))
+span-length props tok first end rows rs h = length-slice first end (rowsOf rows props tok rs) (omega (arith, length-rowsOf rows props tok rs))
 
 pub costs-length : (hist : List ℕ) (total alphabet : ℕ) (weighted : Bool) (allowed : ℕ) (logs : List Float)
     → length (nodeCosts hist total alphabet weighted allowed logs) ≡ 14

@@ -4,15 +4,15 @@ use mathlib.Core.Bool.{Bool, true, false, _&&_}
 use mathlib.Core.List.{List, [], _∷_, map}
 use Prim.Native.Nat.{ℕ, zero, suc, _+_, _-_, _*_, _≤_, _<_}
 use native.Mathlib.Omega.{arith}
-use borrow.Author.Tests.{eq-eqb}
-use lib.IntN.{ℤ, pos, negsuc}
+use lib.IntN.{ℤ, pos}
 use lib.ListN.{length, getD}
 use lib.Seq.{slice, slice-empty, slice-cons}
 use Rattle.model.specs.Lists.{range, all, eqZ}
 use Rattle.model.specs.Rows.{Row, propOf, rowsOf}
+use Rattle.model.specs.Promise.{noRow}
+use Rattle.model.proofs.Places.{length-rowsOf, property-at}
+use Rattle.model.proofs.Tests.{eqZ-same, eqZ-other}
 use Rattle.candidates.specs.Column.{column}
-use Rattle.candidates.proofs.Order.{test-equal}
-use Rattle.cost.proofs.RowReads.{noRow, rows-length, property-at}
 use Rattle.node.specs.Order.{equalColumns}
 use Rattle.node.specs.Evaluated.{spanRows}
 
@@ -35,7 +35,7 @@ module _ (ps : List ℤ) (tok : List ℕ) (first end rows : ℕ) (rs : List ℤ)
   span-map : {A : Type 0} (f : Row → A) (g : ℕ → A) → ((i : ℕ) → i < end → f (getD (rowsOf rows ps tok rs) i noRow) ≡ g i)
       → map f mine ≡ map g (range first (end - first))
   span-map f g same =
-      let fits : end ≤ length (rowsOf rows ps tok rs) = omega (arith, rows-length rows ps tok rs) in
+      let fits : end ≤ length (rowsOf rows ps tok rs) = omega (arith, length-rowsOf rows ps tok rs) in
       let e : first + (end - first) ≡ end = omega arith in
       map-span f g (rowsOf rows ps tok rs) end fits same (end - first) first e
 
@@ -59,17 +59,6 @@ module _ (ps : List ℤ) (tok : List ℕ) (first end rows : ℕ) (rs : List ℤ)
 
 -- ---- row by row
 
-eqZ-same : (x : ℤ) → eqZ x x ≡ true
-eqZ-same (pos a) = eq-eqb a a refl
-eqZ-same (negsuc a) = eq-eqb a a refl
-
-eqZ-not : (x y : ℤ) → (x ≡ y → ⊥) → eqZ x y ≡ false
-eqZ-not x y n = go (eqZ x y) refl
-  where
-    go : (b : Bool) → eqZ x y ≡ b → b ≡ false
-    go true e = absurd (n (test-equal x y e))
-    go false e = refl
-
 module _ (ps : List ℤ) (row end a b : ℕ) where
   abbrev left : ℤ
   left = getD ps (row * 24 + a) (pos 0)
@@ -89,7 +78,7 @@ module _ (ps : List ℤ) (row end a b : ℕ) where
   equal-turn h e = sym (equal-more h ∙ ap (λ (x : Bool). x && equalColumns ps (row + 1) end a b) (ap (eqZ left) (sym e) ∙ eqZ-same left))
 
   pub equal-stop : row < end → (left ≡ right → ⊥) → false ≡ equalColumns ps row end a b
-  equal-stop h n = sym (equal-more h ∙ ap (λ (x : Bool). x && equalColumns ps (row + 1) end a b) (eqZ-not left right n))
+  equal-stop h n = sym (equal-more h ∙ ap (λ (x : Bool). x && equalColumns ps (row + 1) end a b) (eqZ-other left right n))
 
   pub equal-end : end ≤ row → true ≡ equalColumns ps row end a b
   unfolding equalColumns

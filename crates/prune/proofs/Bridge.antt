@@ -25,14 +25,8 @@ use Rattle.prune.specs.Prices.{AllPriceable, ShowsTree, PricedAs}
 use Rattle.prune.specs.Order.{ShownAs, ShowsNodes, Walkable, Ordered}
 use Rattle.prune.specs.Moves.{wordCells, valueCells, costCells, spanCells, compactedLists, AllMovable}
 use Rattle.prune.specs.Held.{HoldsTree, prunedEntries}
-use Rattle.prune.proofs.Held.{held-length, held-read, held-compacted}
-
-pub words-wide : (e : Entry singles) → length (entryWords e) ≡ 5
-words-wide e = go (e .node)
-  where
-    go : (m : Node) → length (nodeWords m (e .info .pred)) ≡ 5
-    go (split p v g l) = refl
-    go leaf = refl
+use Rattle.layout.proofs.Held.{words-each, room-same, holding-lengths, held-word, held-value, held-cost, held-row}
+use Rattle.prune.proofs.Held.{held-compacted}
 
 -- a node's last word is its predictor
 pred-word : (m : Node) (pred : ℕ) → getD (nodeWords m pred) 4 0 ≡ pred
@@ -48,54 +42,19 @@ module _ {x : NodeLists} {count : ℕ} {price : Float} {tree : List (Entry singl
   many = length-map tree (λ (e : Entry singles). e .node) ∙ sym (h .many)
 
   word : (i j : ℕ) → i < count → j < 5 → getD (x .words) (i * 5 + j) 0 ≡ getD (entryWords (entry i)) j 0
-  unfolding holding
-  word i j a b = held-read entryWords 5 words-wide tree (lent .words) (x .words) (ap (λ (y : NodeLists). y .words) (h .lists)) (h .room .words) i j 0
-      (omega (arith, h .many)) b
+  word i j a b = ap (λ (y : NodeLists). getD (y .words) (i * 5 + j) 0) (h .lists) ∙ held-word tree lent i (omega (arith, h .many)) j b
 
   value : (i j : ℕ) → i < count → j < 2 → getD (x .values) (i * 2 + j) (pos 0) ≡ getD (entryValues (entry i)) j (pos 0)
-  unfolding holding
-  value i j a b = held-read entryValues 2 (λ e. refl) tree (lent .values) (x .values) (ap (λ (y : NodeLists). y .values) (h .lists)) (h .room .values) i j
-      (pos 0) (omega (arith, h .many)) b
+  value i j a b = ap (λ (y : NodeLists). getD (y .values) (i * 2 + j) (pos 0)) (h .lists) ∙ held-value tree lent i (omega (arith, h .many)) j b
 
   span : (i j : ℕ) → i < count → j < 2 → getD (x .spans) (i * 2 + j) 0 ≡ getD (entrySpans (entry i)) j 0
-  unfolding holding
-  span i j a b = held-read entrySpans 2 (λ e. refl) tree (lent .spans) (x .spans) (ap (λ (y : NodeLists). y .spans) (h .lists)) (h .room .spans) i j 0
-      (omega (arith, h .many)) b
+  span i j a b = ap (λ (y : NodeLists). getD (y .spans) (i * 2 + j) 0) (h .lists) ∙ held-row tree lent i (omega (arith, h .many)) j b
 
   cost : (i : ℕ) → i < count → getD (x .costs) i nan ≡ entry i .info .cost
-  unfolding holding
-  cost i a = let z : i * 1 + 0 ≡ i = omega arith in let b : length tree * 1 ≤ length (lent .costs) = omega (arith, h .room .costs) in
-      ap (λ (k : ℕ). getD (x .costs) k nan) (sym z)
-      ∙ held-read entryCosts 1 (λ e. refl) tree (lent .costs) (x .costs) (ap (λ (y : NodeLists). y .costs) (h .lists)) b i 0 nan (omega (arith, h .many))
-      (omega arith)
+  cost i a = ap (λ (y : NodeLists). getD (y .costs) i nan) (h .lists) ∙ held-cost tree lent i (omega (arith, h .many))
 
   room : HasRoom count x
-  unfolding holding
-  room = record {
-    words = omega (
-      arith,
-      h .many,
-      h .room .words,
-      held-length entryWords 5 words-wide tree (lent .words) (x .words)
-          (ap (λ (y : NodeLists). y .words) (h .lists)) (h .room .words),
-    );
-    values = omega (
-      arith,
-      h .many,
-      h .room .values,
-      held-length entryValues 2 (λ e. refl) tree (lent .values) (x .values)
-          (ap (λ (y : NodeLists). y .values) (h .lists)) (h .room .values),
-    );
-    costs = let b : length tree * 1 ≤ length (lent .costs) = omega (arith, h .room .costs) in
-        omega (arith, h .many, b, held-length entryCosts 1 (λ e. refl) tree (lent .costs) (x .costs) (ap (λ (y : NodeLists). y .costs) (h .lists)) b);
-    spans = omega (
-      arith,
-      h .many,
-      h .room .spans,
-      held-length entrySpans 2 (λ e. refl) tree (lent .spans) (x .spans)
-          (ap (λ (y : NodeLists). y .spans) (h .lists)) (h .room .spans),
-    );
-  }
+  room = rw (h .lists, h .many) (room-same (holding-lengths tree lent (h .room)) (h .room))
 
   -- the words of node i, by what it is
   words-of : (i : ℕ) → i < count → (m : Node) → entry i .node ≡ m → (j : ℕ) → j < 5
@@ -318,18 +277,17 @@ module _ {x : NodeLists} {count : ℕ} {price : Float} {tree : List (Entry singl
       })
         where
           words-are : compactedLists splits order places (length new) (length tree) x .words ≡ holding (prunedEntries price tree) lent .words
-          words-are = held-compacted entryWords 5 words-wide tree (lent .words) (x .words) (ap (λ (y : NodeLists). y .words) (h .lists)) (h .room .words)
+          words-are = held-compacted entryWords 5 words-each tree (lent .words) (x .words) (ap (λ (y : NodeLists). y .words) (h .lists))
               (wordCells (x .words) splits order places) 0 new fewer refl (λ q a. new-words q (rw found-is a))
 
           values-are : compactedLists splits order places (length new) (length tree) x .values ≡ holding (prunedEntries price tree) lent .values
-          values-are = held-compacted entryValues 2 (λ e. refl) tree (lent .values) (x .values) (ap (λ (y : NodeLists). y .values) (h .lists)) (h .room .values)
+          values-are = held-compacted entryValues 2 (λ e. refl) tree (lent .values) (x .values) (ap (λ (y : NodeLists). y .values) (h .lists))
               (valueCells (x .values) splits order) (pos 0) new fewer refl (λ q a. new-values q (rw found-is a))
 
           costs-are : compactedLists splits order places (length new) (length tree) x .costs ≡ holding (prunedEntries price tree) lent .costs
-          costs-are = let b : length tree * 1 ≤ length (lent .costs) = omega (arith, h .room .costs) in
-              held-compacted entryCosts 1 (λ e. refl) tree (lent .costs) (x .costs) (ap (λ (y : NodeLists). y .costs) (h .lists)) b
+          costs-are = held-compacted entryCosts 1 (λ e. refl) tree (lent .costs) (x .costs) (ap (λ (y : NodeLists). y .costs) (h .lists))
               (costCells (x .costs) order) (singles .nought) new fewer refl (λ q a. new-costs q (rw found-is a))
 
           spans-are : compactedLists splits order places (length new) (length tree) x .spans ≡ holding (prunedEntries price tree) lent .spans
-          spans-are = held-compacted entrySpans 2 (λ e. refl) tree (lent .spans) (x .spans) (ap (λ (y : NodeLists). y .spans) (h .lists)) (h .room .spans)
+          spans-are = held-compacted entrySpans 2 (λ e. refl) tree (lent .spans) (x .spans) (ap (λ (y : NodeLists). y .spans) (h .lists))
               (spanCells (x .spans) order) 0 new fewer refl (λ q a. new-spans q (rw found-is a))

@@ -4,18 +4,14 @@ use mathlib.Core.Path.{_≡_, refl, sym, ap, _∙_}
 use Prim.Native.Nat.{ℕ, _-_, _*_, _≤_}
 use native.Mathlib.Omega.{arith}
 use mathlib.Core.List.{List, _++_, append-assoc}
-use lib.ListN.{length, drop, replicate, length-append}
+use lib.ListN.{length, drop, length-append}
 use lib.Seq.{drop-append-seam}
-use lib.Ieee.{Float}
 use Rattle.model.specs.Lists.{writtenOver}
 use Rattle.model.specs.Single.{singles}
-use Rattle.model.specs.Grow.{Entry, noEntry}
-use Rattle.model.specs.Prune.{prunedTree}
+use Rattle.model.specs.Grow.{Entry}
 use Rattle.layout.specs.Tree.{laid, NodeLists, holding, HasRoom, entryWords, entryValues, entryCosts, entrySpans}
-use Rattle.prune.specs.declared.Pruned.{Pruned}
-use Rattle.prune.specs.Held.{prunedEntries, PrunedAs}
-use Rattle.prune.proofs.Held.{laid-append, laid-length}
-use Rattle.prune.proofs.Bridge.{words-wide}
+use Rattle.layout.proofs.Cells.{laid-append, laid-length}
+use Rattle.layout.proofs.Held.{words-each}
 
 module _ {A : Type 0} (part : Entry singles → List A) (w : ℕ) (wide : (e : Entry singles) → length (part e) ≡ w) (front back : List (Entry singles))
     (lent : List A) where
@@ -24,7 +20,7 @@ module _ {A : Type 0} (part : Entry singles → List A) (w : ℕ) (wide : (e : E
 
   parts : whole ≡ laid part front ++ (laid part back ++ drop (length (laid part (front ++ back))) lent)
   parts =
-      ap (λ (l : List A). l ++ drop (length (laid part (front ++ back))) lent) (laid-append part w wide front back)
+      ap (λ (l : List A). l ++ drop (length (laid part (front ++ back))) lent) (laid-append part front back)
       ∙ append-assoc (laid part front) (laid part back) (drop (length (laid part (front ++ back))) lent)
 
   first-over : whole ≡ writtenOver (laid part front) whole
@@ -42,7 +38,7 @@ module _ (front back : List (Entry singles)) (lent : NodeLists) where
   pub front-held : holding (front ++ back) lent ≡ holding front (holding (front ++ back) lent)
   unfolding holding
   front-held = λ j. record {
-    words = first-over entryWords 5 words-wide front back (lent .words) j;
+    words = first-over entryWords 5 words-each front back (lent .words) j;
     values = first-over entryValues 2 (λ e. refl) front back (lent .values) j;
     costs = first-over entryCosts 1 (λ e. refl) front back (lent .costs) j;
     spans = first-over entrySpans 2 (λ e. refl) front back (lent .spans) j;
@@ -51,17 +47,8 @@ module _ (front back : List (Entry singles)) (lent : NodeLists) where
   pub front-room : HasRoom (length front) (holding (front ++ back) lent)
   unfolding holding
   front-room = record {
-    words = first-room entryWords 5 words-wide front back (lent .words);
+    words = first-room entryWords 5 words-each front back (lent .words);
     values = first-room entryValues 2 (λ e. refl) front back (lent .values);
     costs = let a = first-room entryCosts 1 (λ e. refl) front back (lent .costs) in omega arith;
     spans = first-room entrySpans 2 (λ e. refl) front back (lent .spans);
   }
-
--- what pruning leaves, as lists that hold the pruned tree alone
-pub pruned-held : {price : Float} {tree : List (Entry singles)} {lent y : NodeLists} {r : Pruned} → PrunedAs price tree lent y r
-    → (y ≡ holding (prunedTree {M = singles} price tree) (holding (prunedEntries price tree) lent))
-    × HasRoom (length (prunedTree {M = singles} price tree)) (holding (prunedEntries price tree) lent)
-pruned-held {price} {tree} {lent} p =
-    let new = prunedTree {M = singles} price tree in
-    let vacated = replicate (length tree - length new) noEntry in
-    (p .lists ∙ front-held new vacated lent, front-room new vacated lent)

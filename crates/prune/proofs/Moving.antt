@@ -1,31 +1,22 @@
 -- Entries gathered into a list one after the other, and copied back with blanks behind them. Assumes nothing.
 use mathlib.Core.Path.{_≡_, refl, sym, ap, _∙_}
 use Prim.Native.Nat.{ℕ, zero, suc, _+_, _-_, _*_, _≤_, _<_}
-use native.Mathlib.Nat.{zero-add, add-zero, zero-mul}
-use native.Mathlib.Numerals.{add-one, add-two, add-three, add-four}
+use native.Mathlib.Nat.{zero-add, zero-mul, mul-one}
+use native.Mathlib.Numerals.{add-one}
 use native.Mathlib.Omega.{arith}
 use mathlib.Core.Bool.{Bool, true, false}
-use mathlib.Core.List.{List, [], _∷_, _++_, append-assoc, append-nil}
-use lib.ListN.{length, getD, set, take, drop, replicate, length-append}
-use lib.Seq.{paste, paste-suc, sets, sets-eq, take-at, take-length, drop-drop, take-append-add, drop-append-add, take-all}
+use mathlib.Core.List.{List, [], _∷_, _++_}
+use lib.ListN.{length, getD, set, take, drop, replicate}
+use lib.Seq.{paste, paste-suc, take-at, drop-drop, take-append-add, drop-append-add, take-all}
 use Rattle.model.specs.Lists.{range}
+use Rattle.model.proofs.Places.{length-range, range-more}
 use Rattle.layout.specs.Tree.{laid}
+use Rattle.layout.proofs.Cells.{set-paste, laid-one, laid-length}
 use Rattle.prune.specs.Moves.{wordsFrom, wordCells, gathered, compacted}
 
 module _ {A : Type 0} where
-  -- a run of stores is a paste
-  pub stores-paste : (l : List A) (at : ℕ) (vs : List A) → at + length vs ≤ length l → sets l at vs ≡ paste l at vs (length vs)
-  stores-paste l at vs h = sets-eq vs l at h ∙ ap (λ (v : List A). take at l ++ v ++ drop (at + length vs) l) (sym (take-length vs))
-
   pub one-store : (l : List A) (q : ℕ) (a : A) → q < length l → set l q a ≡ paste l (q * 1) (a ∷ []) 1
-  one-store l q a h = let e : q * 1 ≡ q = omega arith in rw e (stores-paste l q (a ∷ []) (omega arith))
-
-  pub two-stores : (l : List A) (at : ℕ) (a b : A) → at + 2 ≤ length l → set (set l at a) (at + 1) b ≡ paste l at (a ∷ b ∷ []) 2
-  two-stores l at a b h = rw add-one (stores-paste l at (a ∷ b ∷ []) h)
-
-  pub five-stores : (l : List A) (at : ℕ) (a b c d e : A) → at + 5 ≤ length l
-      → set (set (set (set (set l at a) (at + 1) b) (at + 2) c) (at + 3) d) (at + 4) e ≡ paste l at (a ∷ b ∷ c ∷ d ∷ e ∷ []) 5
-  five-stores l at a b c d e h = rw (add-one, add-two, add-three, add-four) (stores-paste l at (a ∷ b ∷ c ∷ d ∷ e ∷ []) h)
+  one-store l q a h = rw mul-one (set-paste l q a h)
 
   -- one number more is copied
   pub copy-more : (z : A) (s d now : List A) (k : ℕ) → k < length d → k < length s → now ≡ paste d 0 s k → set now k (getD s k z) ≡ paste d 0 s (k + 1)
@@ -44,15 +35,9 @@ module _ {A : Type 0} where
   take-blank (suc k) (suc n) b h = ap (λ (l : List A). b ∷ l) (take-blank k n b (omega arith))
 
   module _ (w : ℕ) (cells : ℕ → List A) where
-    laid-more : (f n : ℕ) → laid cells (range f (suc n)) ≡ laid cells (range f n) ++ cells (f + n)
-    laid-more f zero = rw add-zero (append-nil (cells f))
-    laid-more f (suc n) = let e : suc f + n ≡ f + suc n = omega arith in
-        ap (λ (l : List A). cells f ++ l) (rw e at (laid-more (suc f) n)) ∙ sym (append-assoc (cells f) (laid cells (range (suc f) n)) (cells (f + suc n)))
-
     module _ (wide : (q : ℕ) → length (cells q) ≡ w) where
-      pub laid-long : (f n : ℕ) → length (laid cells (range f n)) ≡ n * w
-      laid-long f zero = sym (zero-mul w)
-      laid-long f (suc n) = length-append (cells f) (laid cells (range (suc f) n)) ∙ (let a = laid-long (suc f) n in let b = wide f in omega arith)
+      laid-long : (n : ℕ) → length (laid cells (range 0 n)) ≡ n * w
+      laid-long n = laid-length cells w wide (range 0 n) ∙ ap (λ (k : ℕ). k * w) (length-range 0 n)
 
       pub gathered-none : (l : List A) → l ≡ gathered w cells 0 l
       gathered-none l = rw zero-mul
@@ -60,24 +45,19 @@ module _ {A : Type 0} where
       pub gathered-more : (q : ℕ) (l : List A) → paste (gathered w cells q l) (q * w) (cells q) w ≡ gathered w cells (q + 1) l
       gathered-more q l =
           let p = laid cells (range 0 q) in
-          let long = laid-long 0 q in
+          let long = laid-long q in
           let e : q * w + w ≡ length p + w = omega arith in
           let f : (q + 1) * w ≡ q * w + w = omega arith in
-          let one : laid cells (range 0 (q + 1)) ≡ p ++ cells q = ap (λ (n : ℕ). laid cells (range 0 n)) (add-one q) ∙ laid-more 0 q
-          ∙ ap (λ (k : ℕ). p ++ cells k) (zero-add q) in
+          let one : laid cells (range 0 (q + 1)) ≡ p ++ cells q = ap (λ (n : ℕ). laid cells (range 0 n)) (add-one q) ∙ ap (laid cells) (range-more q) ∙ laid-one cells (range 0 q) q in
           let rest : drop (q * w + w) (p ++ drop (q * w) l) ≡ drop (q * w + w) l = ap (λ (k : ℕ). drop k (p ++ drop (q * w) l)) e
           ∙ drop-append-add p (drop (q * w) l) w ∙ drop-drop w (q * w) l in
           rw (take-at p (drop (q * w) l) (q * w) long, take-all w (cells q) (omega (arith, wide q)), rest, one, f)
-
-      pub gathered-length : (q : ℕ) (l : List A) → q * w ≤ length l → length (gathered w cells q l) ≡ length l
-      gathered-length q l h = length-append (laid cells (range 0 q)) (drop (q * w) l)
-          ∙ (let a = laid-long 0 q in let b = lib.ListN.length-drop (q * w) l in omega arith)
 
       pub compacts : (blank : A) (n count size : ℕ) (l : List A) → n ≤ count → count * w ≤ size
           → paste l 0 (gathered w cells n (replicate size blank)) (count * w) ≡ compacted w cells blank n count l
       compacts blank n count size l few most =
           let p = laid cells (range 0 n) in
-          let long = laid-long 0 n in
+          let long = laid-long n in
           let m : n * w ≤ count * w = native.Mathlib.Nat.mul-le-mul-right w few in
           let parts : count * w ≡ length p + (count - n) * w = parted in
           let front : take (count * w) (p ++ drop (n * w) (replicate size blank)) ≡ p ++ replicate ((count - n) * w) blank =
@@ -87,7 +67,7 @@ module _ {A : Type 0} where
           rw (zero-add, front)
         where
           parted : count * w ≡ length (laid cells (range 0 n)) + (count - n) * w
-          parted = let e : count ≡ n + (count - n) = omega arith in let a = laid-long 0 n in
+          parted = let e : count ≡ n + (count - n) = omega arith in let a = laid-long n in
               ap (λ (k : ℕ). k * w) e ∙ (omega arith)
 
 -- every node has five words

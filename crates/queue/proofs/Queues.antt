@@ -10,7 +10,6 @@ use lib.Seq.{paste, take-all, take-at, drop-at, take-take, take-paste, length-ta
 use lib.IntN.{ℤ}
 use lib.Ieee.{Float}
 use Rattle.model.specs.Single.{singles}
-use Rattle.model.specs.Job as model
 use Rattle.model.specs.Lent.{Waiting}
 use Rattle.layout.specs.Tree.{laid}
 use Rattle.layout.specs.Waiting.{QueueLists, queueLists, Queued, QueueRoom, SameQueue, without, waitWords, waitValues, waitGains}
@@ -117,6 +116,3 @@ same-taken q waiting k lt room = record {
 pub same-added : (q : QueueLists) (waiting node prop depth : ℕ) (val : ℤ) (gain : Float)
     → SameQueue q (queueLists (set (set (set (q .words) (waiting * 3) node) (waiting * 3 + 1) prop) (waiting * 3 + 2) depth) (set (q .values) waiting val) (set (q .gains) waiting gain))
 same-added q waiting node prop depth val gain = record { words = simp length-set; values = simp length-set; gains = simp length-set }
-
-pub same-itself : (q : QueueLists) → SameQueue q q
-same-itself q = record { words = refl; values = refl; gains = refl }

@@ -8,8 +8,8 @@ use lib.ListN.{length, drop, take-append-drop, length-drop}
 use lib.IntN.{ℤ}
 use Rattle.model.specs.Lists.{isEmpty}
 use Rattle.model.specs.Rows.{Row, rowsOf, propsOf, toksOf, resOf}
-use Rattle.rows.specs.Flat.{Flat, flatOf, hasResiduals, heldIn, rowCount, Shaped, SameSize, Changed}
-use Rattle.rows.proofs.Shapes.{shaped-still}
+use Rattle.rows.specs.Flat.{Flat, flatOf, hasResiduals, heldIn, rowCount, Shaped, Changed}
+use Rattle.rows.proofs.Shapes.{shaped-still, residuals-still}
 
 none : {A : Type 0} (l : List A) → length l ≡ 0 → [] ≡ l
 none [] e = refl
@@ -41,18 +41,7 @@ flat-held x s = λ i. record {
   residuals [] one = refl
   residuals (z ∷ rs) one = all-res (rowCount x) (x .props) (x .toks) (z ∷ rs) (one (omega arith))
 
-as-empty : {A : Type 0} (l k : List A) → length l ≡ length k → isEmpty l ≡ isEmpty k
-as-empty [] [] e = refl
-as-empty [] (x ∷ k) e = absurd (omega arith)
-as-empty (x ∷ l) [] e = absurd (omega arith)
-as-empty (x ∷ l) (y ∷ k) e = refl
-
 -- what an operation leaves, list by list
 pub flat-changed : {f : List Row → List Row} {x y : Flat} → Shaped x → Changed f x y → y ≡ flatOf (hasResiduals x) (f (heldIn x))
 flat-changed {f = f} {x = x} {y = y} s c =
-    let e : hasResiduals y ≡ hasResiduals x = ap not (as-empty (y .res) (x .res) (c .size .res)) in
-    sym (flat-held y (shaped-still (c .size) s)) ∙ ap (flatOf (hasResiduals y)) (c .rows) ∙ ap (λ (b : Bool). flatOf b (f (heldIn x))) e
-
--- lists as long that hold the same rows are the same
-pub same-lists : {x y : Flat} → Shaped x → SameSize x y → heldIn y ≡ heldIn x → y ≡ x
-same-lists {x} s size e = flat-changed {f = λ (rows : List Row). rows} s (record { rows = e; size = size }) ∙ flat-held x s
+    sym (flat-held y (shaped-still (c .size) s)) ∙ ap (flatOf (hasResiduals y)) (c .rows) ∙ ap (λ (b : Bool). flatOf b (f (heldIn x))) (residuals-still (c .size))

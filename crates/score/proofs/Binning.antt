@@ -12,24 +12,23 @@ use lib.Dec.{T, eqb, ltb, ltb→lt}
 use lib.IntN.{ℤ, pos, negsuc}
 use lib.Signed.{ltZ, ltZ-yes, ltZ-no, _<ℤ_, _≤ℤ_, <ℤ-≤ℤ-trans}
 use lib.ListN.{length, getD, drop, drop-of-length-le}
-use lib.Seq.{drop-cons, slice, getD-take, getD-drop, length-slice}
+use lib.Seq.{drop-cons, slice, length-slice}
 use Rattle.model.specs.Lists.{countIf, keep}
 use Rattle.model.specs.Settings.{propsPerRow, toksPerRow}
 use Rattle.model.specs.Rows.{Row, propOf, tokOf, isAbove, within, rowsOf}
 use Rattle.model.specs.Cost.{hasToken}
 use Rattle.model.proofs.Counting.{count-at-most, count-keep}
+use Rattle.model.specs.Promise.{noRow}
+use Rattle.model.proofs.Places.{length-rowsOf, property-at, token-at}
+use Rattle.model.proofs.Tests.{true-T}
+use Rattle.model.proofs.Slices.{getD-slice}
 use Rattle.cost.specs.Histograms.{spanOf}
 use Rattle.cost.proofs.Blocks.{part-end}
-use Rattle.cost.proofs.RowReads.{noRow, rows-length, token-at, property-at}
 use Rattle.score.specs.Bins.{talliedRows, summed, binOf, binAt, binCell, widthOf, Ascends, Low, InLanes, Lanes, RowsThere, SumsLow}
 use Rattle.score.proofs.Tallies.{countTo, sumTo, sumTo-le, sumTo-ext, rows-at, rows-length as tallied-rows-length, summed-at, summed-past}
 use Rattle.score.proofs.Lanes.{lane-within, bin-hits, sum-rows}
 
 -- ---- candidates in ascending order: at most candidate b is the same as in a bin up to b
-
-true-T : (b : Bool) → b ≡ true → T b
-true-T true e = tt
-true-T false e = absurd (let z : _≡_ {A = ℕ} 0 1 = ap (λ (b : Bool). cond b 1 0) e in omega arith)
 
 false-T : (b : Bool) → b ≡ false → T (not b)
 false-T false e = tt
@@ -179,7 +178,7 @@ pub record Held (ps : List ℤ) (tok : List ℕ) (first n : ℕ) (rows : List Ro
 pub held : (ps : List ℤ) (tok : List ℕ) (first end rows : ℕ) (rs : List ℤ) → first ≤ end → end ≤ rows → Held ps tok first (end - first) (within (spanOf first end) (rowsOf rows ps tok rs))
 held ps tok first end rows rs o h =
     record {
-      long = length-slice first end all (omega (arith, rows-length rows ps tok rs));
+      long = length-slice first end all (omega (arith, length-rowsOf rows ps tok rs));
       token = λ k p l m. ap (λ (r : Row). tokOf r p) (at k l) ∙ token-at rows ps tok rs (first + k) p (omega arith) m;
       property = λ k q l m. ap (λ (r : Row). propOf r q) (at k l) ∙ property-at rows ps tok rs (first + k) q (omega arith) m;
     }
@@ -188,7 +187,7 @@ held ps tok first end rows rs o h =
     all = rowsOf rows ps tok rs
 
     at : (k : ℕ) → k < end - first → getD (slice first end all) k noRow ≡ getD all (first + k) noRow
-    at k l = getD-drop first _ k noRow ∙ getD-take end all (first + k) noRow (omega arith)
+    at k l = getD-slice first end all k noRow (omega arith)
 
 -- ---- a span in windows
 

@@ -1,17 +1,18 @@
 -- Counts and histograms of the two sides of a threshold. Assumes nothing.
 use mathlib.Core.Path.{_≡_, refl, sym, ap, _∙_}
 use mathlib.Core.Bool.{Bool, true, false, cond, not}
-use mathlib.Core.List.{List, [], _∷_, _++_, map}
+use mathlib.Core.List.{List, [], _∷_, _++_}
 use Prim.Native.Nat.{ℕ, zero, suc, _+_, _-_, _≤_, _<_}
 use native.Mathlib.Omega.{arith}
 use native.Mathlib.Decide.{ℕ-discrete}
 use borrow.Author.Tests.{eq-eqb, ne-eqb}
-use lib.Dec.{eqb}
 use lib.ListN.{length, getD, take, drop, take-append-drop}
 use Rattle.model.specs.Lists.{range, countIf, keep}
 use Rattle.model.specs.Rows.{Row, tokOf}
 use Rattle.model.specs.Cost.{hasToken, histogram}
+use Rattle.model.proofs.Histogram.{sumOf, hits, sum-map-add, sum-map-zero, hits-before}
 use Rattle.cost.specs.Counted.{rowsIn}
+use Rattle.cost.proofs.Sums.{rows-are}
 
 module _ {A : Type 0} where
   -- the two parts have all
@@ -65,37 +66,24 @@ unfolding rowsIn
 rowsIn-none [] z = refl
 rowsIn-none (c ∷ cs) z = omega (arith, z 0 (omega arith), rowsIn-none cs (λ t l. z (suc t) (omega arith)))
 
-rowsIn-sum : (f g : ℕ → ℕ) (xs : List ℕ) → rowsIn (map (λ (t : ℕ). f t + g t) xs) ≡ rowsIn (map f xs) + rowsIn (map g xs)
-unfolding rowsIn
-rowsIn-sum f g [] = refl
-rowsIn-sum f g (x ∷ xs) = omega (arith, rowsIn-sum f g xs)
-
-rowsIn-zeros : (xs : List ℕ) → rowsIn (map (λ (t : ℕ). 0) xs) ≡ 0
-unfolding rowsIn
-rowsIn-zeros [] = refl
-rowsIn-zeros (x ∷ xs) = omega (arith, rowsIn-zeros xs)
-
 -- a number is found once in a range that it lies in
-rowsIn-past : (v first n : ℕ) → v < first → rowsIn (map (λ (t : ℕ). cond (eqb v t) 1 0) (range first n)) ≡ 0
-unfolding rowsIn
-rowsIn-past v first zero h = refl
-rowsIn-past v first (suc n) h = rw (ne-eqb v first (λ e. omega arith)) (let ih = rowsIn-past v (suc first) n (omega arith) in omega arith)
-
-rowsIn-one : (v first n : ℕ) → first ≤ v → v < first + n → rowsIn (map (λ (t : ℕ). cond (eqb v t) 1 0) (range first n)) ≡ 1
-unfolding rowsIn
-rowsIn-one v first zero l h = absurd (omega arith)
-rowsIn-one v first (suc n) l h = elim (ℕ-discrete v first) [
-  | yes e ↦ rw (eq-eqb v first e) (let past = rowsIn-past v (suc first) n (omega arith) in omega arith)
-  | no e ↦ rw (ne-eqb v first e) (let ih = rowsIn-one v (suc first) n (omega arith) (omega arith) in omega arith)
+hits-one : (v first n : ℕ) → first ≤ v → v < first + n → hits v (range first n) ≡ 1
+hits-one v first zero l h = absurd (omega arith)
+hits-one v first (suc n) l h = elim (ℕ-discrete v first) [
+  | yes e ↦ rw (eq-eqb v first e) (let past = hits-before v (suc first) n (omega arith) in omega arith)
+  | no e ↦ rw (ne-eqb v first e) (let ih = hits-one v (suc first) n (omega arith) (omega arith) in omega arith)
 ]
+
+histogram-total : (alphabet p : ℕ) (d : Row) (rows : List Row) → All (λ (r : Row). tokOf r p < alphabet) d rows → sumOf (histogram alphabet p rows) ≡ length rows
+unfolding histogram
+histogram-total alphabet p d [] h = sum-map-zero (range 0 alphabet)
+histogram-total alphabet p d (r ∷ rs) h =
+    let s = sum-map-add (λ (t : ℕ). cond (hasToken p t r) 1 0) (λ (t : ℕ). countIf (hasToken p t) rs) (range 0 alphabet) in
+    let own = h 0 (omega arith) in
+    let one = hits-one (tokOf r p) 0 alphabet (omega arith) (omega arith) in
+    let ih = histogram-total alphabet p d rs (λ k l. h (suc k) (omega arith)) in
+    omega arith
 
 -- a histogram counts each row once, if the tokens are below the alphabet
 pub histogram-counts : (alphabet p : ℕ) (d : Row) (rows : List Row) → All (λ (r : Row). tokOf r p < alphabet) d rows → rowsIn (histogram alphabet p rows) ≡ length rows
-unfolding histogram
-histogram-counts alphabet p d [] h = rowsIn-zeros (range 0 alphabet)
-histogram-counts alphabet p d (r ∷ rs) h =
-    let s = rowsIn-sum (λ (t : ℕ). cond (hasToken p t r) 1 0) (λ (t : ℕ). countIf (hasToken p t) rs) (range 0 alphabet) in
-    let own = h 0 (omega arith) in
-    let one = rowsIn-one (tokOf r p) 0 alphabet (omega arith) (omega arith) in
-    let ih = histogram-counts alphabet p d rs (λ k l. h (suc k) (omega arith)) in
-    omega arith
+histogram-counts alphabet p d rows h = rows-are (histogram alphabet p rows) ∙ histogram-total alphabet p d rows h

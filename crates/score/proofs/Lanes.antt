@@ -115,11 +115,7 @@ module _ {A : Type 0} (q : A → Bool) (d : A) where
       let own = h 0 (omega arith) in
       omega (arith, sumTo-shift f (length rs))
 
-  -- a test that no row passes, and one that some row passes
-  pub count-never : (rows : List A) → ((k : ℕ) → k < length rows → q (getD rows k d) ≡ false) → countIf q rows ≡ 0
-  count-never [] h = refl
-  count-never (r ∷ rs) h = rw (h 0 (omega arith)) (omega (arith, count-never rs (λ k l. h (suc k) (omega arith))))
-
+  -- a test that some row passes
   pub count-some : (rows : List A) (k : ℕ) → k < length rows → q (getD rows k d) ≡ true → 0 < countIf q rows
   count-some [] k h e = absurd (omega arith)
   count-some (r ∷ rs) zero h e = rw e (omega arith)

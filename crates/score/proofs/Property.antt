@@ -17,10 +17,10 @@ use Rattle.model.specs.Rows.{Row, tokOf, isAbove, within, rowsOf}
 use Rattle.model.specs.Single.{singles}
 use Rattle.model.specs.Cost.{histogram, logOf, extraFrom, costOf}
 use Rattle.model.specs.Score.{Score, threshold, sideCost, scoreSides, scoreAt, scoreOf}
+use Rattle.model.specs.Promise.{noRow}
 use Rattle.cost.specs.Counted.{rowsIn}
 use Rattle.cost.specs.Histograms.{part, spanOf}
 use Rattle.cost.proofs.Blocks.{part-end}
-use Rattle.cost.proofs.RowReads.{noRow}
 use Rattle.cost.proofs.Histograms.{histogram-length, histogram-rows, histograms-length}
 use Rattle.score.specs.declared.sides.Sides.{Sides}
 use Rattle.score.specs.Windows.{packed, windowAt, Windows}

@@ -18,9 +18,10 @@ use Rattle.model.specs.Rows.{Row}
 use Rattle.model.specs.Single.{singles}
 use Rattle.model.specs.Cost.{hasToken, histogram, logOf, entropyFrom, extraFrom, histogramCost, costOf}
 use Rattle.model.specs.Score.{Score, nothing, threshold, lower, lowestCost, sideCost, scoreSides, scoreFrom}
+use Rattle.model.proofs.Places.{getD-any}
 use Rattle.cost.specs.Counted.{rowsIn}
 use Rattle.cost.specs.Histograms.{part}
-use Rattle.cost.proofs.Sums.{getD-there, entropy-zeros}
+use Rattle.cost.proofs.Sums.{entropy-zeros}
 use Rattle.cost.proofs.Histograms.{histogram-length, histogram-rows}
 use Rattle.score.specs.declared.Score as answer
 use Rattle.score.specs.declared.Score.the-variants.{Nothing, Threshold}
@@ -362,8 +363,8 @@ module _ (cells node : List ℕ) (alphabet : ℕ) (preds firsts offs : List ℕ)
   at-both z f low reach sides e =
       let val = getD cands k (pos 0) in
       let lowest : Float → Float → Sides = λ a b. lowestTo (laneAt cells node alphabet preds firsts offs (k * stride) a b logs) (length preds) in
-      let le = getD-there logs size nan (singles .nought) (omega arith) in
-      let gt = getD-there logs (total - size) nan (singles .nought) (omega arith) in
+      let le = getD-any logs size nan (singles .nought) (omega arith) in
+      let gt = getD-any logs (total - size) nan (singles .nought) (omega arith) in
       ap (λ (b : Sides). threshold val (singles .plus (b .le) (b .gt)))
       (e ∙ ap (λ (a : Float). lowest a (getD logs (total - size) nan)) le ∙ ap (lowest (getD logs size (singles .nought))) gt)
       ∙ sym (scored-both size total val (lowest (getD logs size (singles .nought)) (getD logs (total - size) (singles .nought))) z f)

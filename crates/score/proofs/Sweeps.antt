@@ -1,14 +1,11 @@
 -- Turns and ends of the sweeps over a window's counts. Assumes nothing.
 use mathlib.Core.Path.{_≡_, refl, sym, ap, _∙_}
-use mathlib.Core.Bool.{Bool, true, false, cond}
 use mathlib.Core.List.{List, [], _∷_}
 use Prim.Native.Nat.{ℕ, zero, suc, _+_, _-_, _*_, _/_, _≤_, _<_}
-use native.Mathlib.Nat.{mul-le-mul-left, add-mul}
+use native.Mathlib.Nat.{add-mul}
 use native.Mathlib.Numerals.{add-one}
 use native.Mathlib.Decide.{decLe}
 use native.Mathlib.Omega.{arith}
-use borrow.Author.Tests.{lt-ltb}
-use lib.Dec.{ltb}
 use lib.ListN.{length, getD, drop, drop-of-length-le}
 use lib.Seq.{drop-cons}
 use lib.Ieee.{Float}
@@ -17,7 +14,7 @@ use Rattle.model.specs.Single.{singles}
 use Rattle.model.specs.Token.{extraCount}
 use Rattle.model.specs.Cost.{extraFrom}
 use Rattle.cost.specs.Counted.{rowsIn}
-use Rattle.cost.proofs.Sums.{count-le-rows, extra-from-16}
+use Rattle.cost.proofs.Sums.{count-le-rows, extra-from-16, extra-le-rows, extra-skip}
 use Rattle.score.specs.declared.sides.Sides.{Sides}
 use Rattle.score.specs.Sides.{rest, entropiesOf, costsOf, SideCounted}
 
@@ -67,35 +64,9 @@ turn left node logs t h l =
 
 -- ---- the sum of extra bits, where the first count is of the token `first`
 
-extra-le : (t : ℕ) → t < 256 → extraCount t ≤ 61
-unfolding extraCount
-extra-le t h = go (ltb t 16)
-  where
-    go : (b : Bool) → cond b 0 (t / 4 - 2) ≤ 61
-    go true = omega arith
-    go false = omega arith
-
-pub extraFrom-le : (t : ℕ) (hist : List ℕ) → t + length hist ≤ 256 → extraFrom t hist ≤ 61 * rowsIn hist
-unfolding extraFrom rowsIn
-extraFrom-le t [] h = omega arith
-extraFrom-le t (c ∷ cs) h =
-    let a : c * extraCount t ≤ c * 61 = mul-le-mul-left c (extra-le t (omega arith)) in
-    let b : extraFrom (suc t) cs ≤ 61 * rowsIn cs = extraFrom-le (suc t) cs (omega arith) in
-    omega arith
-
--- tokens under 16 have none
-extra-skip : (first n : ℕ) (hist : List ℕ) → first + n ≤ 16 → extraFrom (first + n) (drop n hist) ≡ extraFrom first hist
-unfolding extraFrom extraCount
-extra-skip first zero hist h = let e : first + 0 ≡ first = omega arith in rw e
-extra-skip first (suc n) [] h = refl
-extra-skip first (suc n) (c ∷ cs) h =
-    let e : first + suc n ≡ suc first + n = omega arith in
-    let ih : extraFrom (first + suc n) (drop n cs) ≡ extraFrom (suc first) cs = ap (λ (k : ℕ). extraFrom k (drop n cs)) e ∙ extra-skip (suc first) n cs (omega arith) in
-    rw (lt-ltb first 16 (omega arith)) (omega arith)
-
 pub extra-start : (first : ℕ) (hist : List ℕ) → extraFrom (first + (16 - first)) (drop (16 - first) hist) ≡ extraFrom first hist
 extra-start first hist = elim (decLe first 16) [
-  | yes h ↦ extra-skip first (16 - first) hist (omega arith)
+  | yes h ↦ sym (extra-skip first (16 - first) hist (omega arith))
   | no h ↦ (let z : 16 - first ≡ 0 = omega arith in let e : first + 0 ≡ first = omega arith in rw (z, e))
 ]
 
@@ -114,7 +85,7 @@ extra-turn hist first t raw count tokens rows from h e inv =
     ap (λ (n : ℕ). n * extraCount (first + t)) e ∙ ap (λ (n : ℕ). count * n) (extra-from-16 (first + t) from) in
     let step : extraFrom (first + t) (drop t hist) ≡ getD hist t 0 * extraCount (first + t) + extraFrom (first + suc t) (drop (suc t) hist) =
     ap (extraFrom (first + t)) (drop-cons hist t 0 h) ∙ ap (λ (n : ℕ). getD hist t 0 * extraCount (first + t) + extraFrom n (drop (suc t) hist)) next in
-    let b = extraFrom-le first hist tokens in
+    let b = extra-le-rows first hist tokens in
     record { small = omega arith; own = omega arith; whole = rw add-one (omega arith) }
 
 pub extra-end : (hist : List ℕ) (first t raw : ℕ) → length hist ≤ t → raw + extraFrom (first + t) (drop t hist) ≡ extraFrom first hist → raw ≡ extraFrom first hist

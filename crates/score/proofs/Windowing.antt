@@ -15,9 +15,9 @@ use Rattle.model.specs.Lists.{countIf}
 use Rattle.model.specs.Settings.{toksPerRow}
 use Rattle.model.specs.Rows.{Row, tokOf, within, rowsOf}
 use Rattle.model.specs.Cost.{hasToken, histogram}
+use Rattle.model.specs.Promise.{noRow}
+use Rattle.model.proofs.Places.{each-at}
 use Rattle.cost.specs.Histograms.{part, spanOf}
-use Rattle.cost.proofs.Numbers.{values-at}
-use Rattle.cost.proofs.RowReads.{noRow}
 use Rattle.cost.proofs.Histograms.{histograms-part}
 use Rattle.score.specs.declared.windows.Window.{Window}
 use Rattle.score.specs.Windows.{widened, windowOf, windowAt, packed, Packed, Windows}
@@ -155,7 +155,7 @@ part-window node start alphabet h =
 
 pub histogram-at : (alphabet p : ℕ) (rows : List Row) (t : ℕ) → t < alphabet → getD (histogram alphabet p rows) t 0 ≡ countIf (hasToken p t) rows
 unfolding histogram
-histogram-at alphabet p rows t h = values-at (λ (t : ℕ). countIf (hasToken p t) rows) alphabet t 0 h
+histogram-at alphabet p rows t h = each-at (λ (t : ℕ). countIf (hasToken p t) rows) alphabet t 0 h
 
 module _ (ps : List ℤ) (tok : List ℕ) (first end prop : ℕ) (cands : List ℤ) (preds : List ℕ) (alphabet : ℕ) (node : List ℕ) (logs : List Float)
     (h : Scorable ps tok first end prop cands preds alphabet node logs) (firsts offs : List ℕ) (w : Windows node alphabet preds firsts offs) where

@@ -3,7 +3,7 @@ use mathlib.Core.Path.{_≡_, refl, sym, ap, _∙_, subst}
 use mathlib.Core.Bool.{Bool, true, false, not, _&&_, _||_}
 use mathlib.Core.List.{List, [], _∷_, _++_, append-nil}
 use mathlib.Core.Option.{Option, none, some}
-use Prim.Native.Nat.{ℕ, _+_, _*_, _^_, _≤_}
+use Prim.Native.Nat.{ℕ, _+_, _≤_}
 use native.Mathlib.Nat.{zero-add, add-zero}
 use native.Mathlib.Omega.{arith}
 use borrow.Author.Tests.{eqb-true, eqb-false}
@@ -13,53 +13,44 @@ use lib.IntN.{ℤ}
 use lib.Dec.{T, eqb}
 use lib.Ieee.{Float, binary32, binary64, add, fits, isNan}
 use lib.Ieee.Fits.{and-i, fits-widens, add-fits}
-use Rattle.ieee.specs.Within.{Within, within-not-nan}
 use Rattle.model.specs.Single.{singles}
 use Rattle.model.specs.Rows.{Row, within}
-use Rattle.model.specs.Mode.{spanMode, fresh, rebased}
-use Rattle.model.specs.Cost.{histogramCost, costOf, bestPredictor}
+use Rattle.model.specs.Mode.{spanMode, fresh}
+use Rattle.model.specs.Cost.{histogramCost, costOf}
 use Rattle.model.specs.Evaluate.{infoOf, offered}
 use Rattle.model.specs.Profile.{single, jobOf}
 use Rattle.model.specs.Tree.{Node, split, leaf, Info}
 use Rattle.model.specs.Job as model
 use Rattle.model.specs.Grow.{Entry, State, leafOver}
 use Rattle.model.specs.Deepen.{seedSplit, emptyLeaf, seedLeaf, withSeedNode}
-use Rattle.model.proofs.Fresh.{length-fresh}
+use Rattle.model.proofs.Fresh.{fresh-none, length-fresh}
 use Rattle.model.proofs.Invariant.{none-is-no-some}
-use Rattle.model.proofs.Bounded.{LogsWithin, cost-within}
+use Rattle.model.proofs.Tests.{neither}
 use Rattle.checks.specs.Given.{settingsOf}
 use Rattle.checks.specs.declared.Settings.{Settings}
 use Rattle.layout.specs.declared.Leaf.{Leaf}
 use Rattle.layout.specs.Values.{infoIs, offerIs}
 use Rattle.layout.specs.Layout.{kindAt}
 use Rattle.layout.specs.Tree.{NodeLists, HasRoom, put, leafWith}
-use Rattle.layout.specs.Waiting.{QueueLists, Queued, QueueRoom, SameQueue, queueOf, waits, waitingFrom}
+use Rattle.layout.specs.Waiting.{QueueLists, Queued, QueueRoom, queueOf, waits, waitingFrom}
 use Rattle.layout.proofs.Held.{same-cells, put-same, put-more}
-use Rattle.layout.proofs.Queue.{waiting-append, few-waits}
+use Rattle.layout.proofs.Queue.{same-itself, waiting-append, few-waits}
 use Rattle.lent.specs.Lists.{spanAt}
 use Rattle.rows.specs.Cells.{span}
 use Rattle.rows.specs.Flat.{Flat, heldIn, rowCount, Spanned}
 use Rattle.rows.proofs.Cells.{span-length}
 use Rattle.rows.proofs.Shapes.{size-same}
 use Rattle.tree.specs.Trees.{nodeAt}
+use Rattle.grow.proofs.Numbers.{evaluated-number}
 use Rattle.seed.specs.declared.Sum.{Sum}
 use Rattle.leaf.specs.Fitting.{usesOf, Fitting}
 use Rattle.leaf.specs.Made.{settledAt, MadeLeaf}
-use Rattle.grow.specs.Grows.{Number}
 use Rattle.seed.specs.Sown.{Sown, infoAt, keptNode, LeafPlanted, NextIs, NodePlanted}
 use Rattle.leaf.proofs.Making.{uses-still, made-fitting}
 
 -- ---- the cost of a leaf is a number, and the same in double precision
-module _ {s : Settings} {logs : List Float} {counts : List ℕ} {x : Flat} (f : Fitting s logs counts x) (l : LogsWithin (rowCount x) logs) (mode : ℤ)
-    (rows : List Row) (few : length rows ≤ rowCount x) where
-  cost-bound : Within (257 * 2 ^ 22) (infoOf (settingsOf s) logs mode rows .cost)
-  unfolding infoOf
-  cost-bound = cost-within (settingsOf s) logs rows (bestPredictor (settingsOf s) logs rows) (f .settings .alphabet .1) (omega (arith, f .few))
-      (λ c p q. l c p (omega arith))
-
-  pub cost-number : Number (infoOf (settingsOf s) logs mode rows .cost)
-  cost-number = within-not-nan (infoOf (settingsOf s) logs mode rows .cost) (257 * 2 ^ 22) cost-bound
-
+module _ {s : Settings} {logs : List Float} {counts : List ℕ} {x : Flat} (f : Fitting s logs counts x) (mode : ℤ) (rows : List Row)
+    (few : length rows ≤ rowCount x) where
   cost-fits : T (fits binary32 (infoOf (settingsOf s) logs mode rows .cost))
   unfolding infoOf costOf histogramCost
   cost-fits = add-fits binary32 _ _
@@ -67,20 +58,20 @@ module _ {s : Settings} {logs : List Float} {counts : List ℕ} {x : Flat} (f : 
   pub cost-widens : T (fits binary64 (infoOf (settingsOf s) logs mode rows .cost) && not (isNan (infoOf (settingsOf s) logs mode rows .cost)))
   cost-widens =
       let c : Float = infoOf (settingsOf s) logs mode rows .cost in
-      and-i (fits binary64 c) (not (isNan c)) (fits-widens c cost-fits) cost-number
+      and-i (fits binary64 c) (not (isNan c)) (fits-widens c cost-fits) (evaluated-number f mode rows few)
 
 -- ---- a leaf that was made
 module _ {scored : Bool} {s : Settings} {logs : List Float} {depth : ℕ} {x y : Flat} {first end : ℕ} {r : Leaf}
     (m : MadeLeaf scored s logs depth (span first end) x y r) where
   -- its cost
-  pub made-widens : {counts : List ℕ} → Fitting s logs counts x → LogsWithin (rowCount x) logs → Spanned (span first end) x
+  pub made-widens : {counts : List ℕ} → Fitting s logs counts x → Spanned (span first end) x
       → T (fits binary64 (r .info .cost) && not (isNan (r .info .cost)))
-  made-widens f l sp =
+  made-widens f sp =
       let mine : List Row = within (span first end) (heldIn x) in
       let long : length (fresh (usesOf s x) mine) ≤ rowCount x =
       omega (arith, length-fresh (usesOf s x) mine, span-length (x .props) (x .toks) (x .res) first end (sp .inside), sp .inside) in
       subst (λ (i : Info singles). T (fits binary64 (i .cost) && not (isNan (i .cost)))) (sym (m .leaf .info))
-      (cost-widens f l (spanMode (usesOf s x) mine) (fresh (usesOf s x) mine) long)
+      (cost-widens f (spanMode (usesOf s x) mine) (fresh (usesOf s x) mine) long)
 
   -- it offers a split only if it was scored
   pub offer-room : {k : ℕ} {q : QueueLists} → (scored ≡ true → QueueRoom k q) → (o : model.Offer singles) → offerIs (r .offer) ≡ some o → QueueRoom k q
@@ -111,11 +102,6 @@ queue-more tree e =
 queue-still : (tree : List (Entry singles)) (e : Entry singles) → e .offer ≡ none → queueOf (tree ++ (e ∷ [])) ≡ queueOf tree
 queue-still tree e o = queue-more tree e ∙ rw o (append-nil (queueOf tree))
 
-fresh-none : (uses : Bool) → fresh uses [] ≡ []
-unfolding fresh rebased
-fresh-none true = refl
-fresh-none false = refl
-
 no-row : {A : Type 0} (l : List A) → length l ≡ 0 → l ≡ []
 no-row [] e = refl
 no-row (x ∷ l) e = absurd (omega arith)
@@ -123,10 +109,6 @@ no-row (x ∷ l) e = absurd (omega arith)
 either : (a b : Bool) → (a || b) ≡ true → (a ≡ false → b ≡ true)
 either true b e f = absurd (let z : _≡_ {A = ℕ} 0 1 = cc in omega arith)
 either false b e f = e
-
-pub neither : (a b : Bool) → (a || b) ≡ false → (a ≡ false) × (b ≡ false)
-neither true b e = absurd (let z : _≡_ {A = ℕ} 0 1 = cc in omega arith)
-neither false b e = (refl, e)
 
 -- ---- a split, or a leaf without rows
 module _ {s : Settings} {logs : List Float} {counts : List ℕ} {x : Flat} {n n' : NodeLists} {q : QueueLists} {sum : Sum} {scored uses : Bool}
@@ -160,14 +142,11 @@ module _ {s : Settings} {logs : List Float} {counts : List ℕ} {x : Flat} {n n'
         summed = sown .summed;
       }
 
-pub queue-same : (q : QueueLists) → SameQueue q q
-queue-same q = record { words = refl; values = refl; gains = refl }
-
 pub kept-planted : {s : Settings} {logs : List Float} {counts : List ℕ} {x : Flat} {n n' : NodeLists} {q : QueueLists} {sum : Sum} (i depth : ℕ) {scored : Bool}
     → (eqb (kindAt (n .words) i) 1 || eqb (spanAt (n .spans) i .first) (spanAt (n .spans) i .end)) ≡ true
     → n' ≡ put i (keptNode (nodeAt (n .words) (n .values) i) (infoAt n i)) n → NodePlanted s logs counts counts x x n n' q q sum sum i depth scored
 kept-planted {s} {logs} {counts} {x} {n} {n'} {q} {sum} i depth {scored} test is =
-    record { size = size-same x; queue = queue-same q; zeros = refl; risen = omega arith; sown = gains }
+    record { size = size-same x; queue = same-itself q; zeros = refl; risen = omega arith; sown = gains }
   where
     gains : (uses : Bool) (lent : NodeLists) (st : State singles) (mine left : List Row) → Sown s logs counts x n q sum scored uses lent st (mine ++ left)
         → NextIs n i lent st mine
@@ -252,7 +231,7 @@ module _ {s : Settings} {logs : List Float} {counts counts' : List ℕ} {x y : F
   pub leaf-planted : (eqb (kindAt (n .words) i) 1 || eqb first end) ≡ false → first ≡ spanAt (n .spans) i .first → end ≡ spanAt (n .spans) i .end
       → NodePlanted s logs counts counts' x y n n' q q' sum sum' i depth scored
   leaf-planted test f e =
-      let t = neither (eqb (kindAt (n .words) i) 1) (eqb first end) test in
+      let t = neither (eqb (kindAt (n .words) i) 1) (eqb first end) .0 test in
       record {
         size = p .made .changed .size;
         queue = p .queue;

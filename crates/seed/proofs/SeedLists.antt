@@ -4,7 +4,7 @@ use mathlib.Core.Bool.{Bool, true, false, cond, _||_}
 use mathlib.Core.List.{List, map, map-map}
 use mathlib.Core.Option.{none, some}
 use Prim.Native.Nat.{ℕ, zero, suc, _+_, _*_, _≤_, _<_}
-use native.Mathlib.Nat.{zero-add, add-zero}
+use native.Mathlib.Nat.{add-zero}
 use native.Mathlib.Omega.{arith}
 use lib.ListN.{length, getD, length-map, List·getD-map}
 use lib.IntN.{ℤ, pos}
@@ -21,9 +21,10 @@ use Rattle.layout.specs.Layout.{kindAt, propAt, gtAt, leAt, predAt, valAt, stor
 use Rattle.layout.specs.Tree.{NodeLists, HasRoom, holding, laid, entryWords, entryValues, entryCosts, entrySpans}
 use Rattle.layout.proofs.Held.{words-length, values-length, costs-length, spans-length}
 use Rattle.model.specs.Grow.{Entry}
+use Rattle.model.proofs.Places.{length-each, each-at}
 use Rattle.lent.specs.Lists.{nodesLent, storedNodes, spanAt}
 use Rattle.tree.specs.Trees.{nodeAt, SoundTree}
-use Rattle.tree.proofs.Lists.{length-each, each-at, take-each}
+use Rattle.tree.proofs.Lists.{take-each}
 use Rattle.tree.proofs.Entries.{tree-each}
 use Rattle.seed.specs.Ordered.{seedIn, nodesIn}
 use Rattle.seed.specs.Sown.{infoAt}
@@ -46,7 +47,7 @@ module _ (count : ℕ) (n : NodeLists) (room : HasRoom count n) where
   seed-length = rw seed-each (length-each recordAt 0 count)
 
   pub record-in : (i : ℕ) (d : Record singles) → i < count → getD (seedIn count n) i d ≡ recordAt i
-  record-in i d h = rw seed-each (each-at recordAt 0 count i d h ∙ ap recordAt (zero-add i))
+  record-in i d h = rw seed-each (each-at recordAt count i d h)
 
   pub nodes-in : nodesOf (seedIn count n) ≡ nodesIn count (n .words) (n .values)
   nodes-in = rw seed-each (map-map (λ (r : Record singles). r .node) recordAt (range 0 count))

@@ -120,10 +120,6 @@ module _ (j : Job singles) (seed : List (Record singles)) (rows : List Row) wher
     abbrev ks : List ℕ
     ks = leafNumbers nodes rows
 
-    length-numbers : length ks ≡ length rows
-    unfolding leafNumbers
-    length-numbers = length-map rows (λ (r : Row). leafReached nodes (r .props))
-
     -- as many rows reach a leaf as have its number
     pub mine-length : (i : ℕ) → length (rowsAt (nodesOf seed) i rows) ≡ timesOf (leafNumbers (nodesOf seed) rows) i
     unfolding rowsAt timesOf leafNumbers

@@ -1,6 +1,6 @@
 -- A planted seed is what growth starts from. Assumes nothing.
 use mathlib.Core.Path.{_≡_, refl, sym, ap, _∙_, subst}
-use mathlib.Core.Bool.{Bool, true, false, cond, _&&_, true≢false}
+use mathlib.Core.Bool.{Bool, true, false, cond}
 use mathlib.Core.List.{List, [], _∷_, _++_, append-nil}
 use mathlib.Core.Option.{Option, none, some}
 use Prim.Native.Nat.{ℕ, zero, suc, _+_, _-_, _*_, _/_, _%_, _≤_, _<_, max}
@@ -34,6 +34,7 @@ use Rattle.model.proofs.Sound as sounds
 use Rattle.model.proofs.Tally.{tree-count}
 use Rattle.checks.specs.Given.{settingsOf}
 use Rattle.checks.specs.declared.Settings.{Settings}
+use Rattle.layout.proofs.Queue.{same-itself}
 use Rattle.layout.specs.Tree.{NodeLists, nodeLists, HasRoom, holding, laid, entrySpans}
 use Rattle.layout.specs.Waiting.{QueueLists, Queued, queueOf}
 use Rattle.layout.proofs.Held.{room-fewer, spans-length}
@@ -41,10 +42,13 @@ use Rattle.lent.specs.Lists.{storedNodes}
 use Rattle.order.specs.Order.{rowsWith, orderedBy, firstOf}
 use Rattle.order.specs.Leaves.{leafNumbers}
 use Rattle.order.proofs.OrderLaws.{length-ordered}
-use Rattle.rows.specs.Cells.{span, noRow}
+use Rattle.model.specs.Promise.{noRow}
+use Rattle.model.proofs.Tests.{and-true}
+use Rattle.rows.specs.Cells.{span}
 use Rattle.rows.specs.Flat.{Flat, heldIn, rowCount, SameSize}
 use Rattle.rows.proofs.Cells.{length-held, tok-held}
 use Rattle.rows.proofs.Shapes.{size-then, count-still}
+use Rattle.grow.proofs.Numbers.{evaluated-number}
 use Rattle.seed.specs.declared.Sum.{Sum}
 use Rattle.seed.specs.declared.Planted.{Planted}
 use Rattle.leaf.specs.Fitting.{usesOf, Fitting}
@@ -53,7 +57,6 @@ use Rattle.seed.specs.Ordered.{seedIn, numbersIn, Orderable, OrderedBy}
 use Rattle.seed.specs.Sown.{seededTo, Plants, Plantable, PlantedTo}
 use Rattle.seed.specs.Seeded.{splitsOf, Seedable, Seeded}
 use Rattle.leaf.proofs.Making.{uses-still, fitting-still}
-use Rattle.seed.proofs.Planting.{cost-number, queue-same}
 use Rattle.seed.proofs.SeedLists.{seed-length, nodes-length, nodes-in, sound-tree, seed-few}
 use Rattle.seed.proofs.Walking.{room-queue}
 use Rattle.seed.proofs.Seeding.{leaves-few, seeded-all, seeded-length}
@@ -117,14 +120,6 @@ cond-some {A} false o v e = absurd (tell e)
     tell : none ≡ some v → ⊥
     tell q = let z : _≡_ {A = ℕ} 0 1 = cc in omega arith
 
-left-true : (a b : Bool) → (a && b) ≡ true → a ≡ true
-left-true true b e = refl
-left-true false b e = e
-
-right-true : (a b : Bool) → (a && b) ≡ true → b ≡ true
-right-true true b e = e
-right-true false b e = absurd (true≢false (sym e))
-
 module _ (t : settings.Settings singles) (logs : List Float) (uses : Bool) where
   abbrev j : Job singles
   j = jobOf single t logs uses
@@ -133,7 +128,7 @@ module _ (t : settings.Settings singles) (logs : List Float) (uses : Bool) where
   unfolding leafOver offered isScored
   shallow-leaf rows mode sp depth o e =
       let scored = cond-some _ _ o e in
-      ltb-true depth maxDepth (left-true (ltb depth maxDepth) _ (right-true (leb (t .smallest) (length rows)) _ scored))
+      ltb-true depth maxDepth (and-true (ltb depth maxDepth) _ (and-true (leb (t .smallest) (length rows)) _ scored .1) .0)
 
   shallow-node : (m : Node) (info : Info singles) (depth : ℕ) (mine : List Row) (st : State singles) → Each Shallow (st .tree)
       → Each Shallow (withSeedNode j m info depth mine st .tree)
@@ -253,7 +248,7 @@ module _ {s : Settings} {logs : List Float} {counts : List ℕ} {x : Flat} {n : 
       queue-room = λ t.
           let less = ltb-true ((count + 1) / 2) limit t in
           let all : leafCount (nodesOf (seedIn count n1)) ≡ leafCount nodes = ap (λ (l : List (Record singles)). leafCount (nodesOf l)) seed-same in
-          room-queue (omega (arith, leaves-are)) (queue-same q) (c .queue-room);
+          room-queue (omega (arith, leaves-are)) (same-itself q) (c .queue-room);
     }
 
     pub plantable : Plantable s logs counts1 y n1 q count scored
@@ -340,7 +335,7 @@ module _ {s : Settings} {logs : List Float} {counts : List ℕ} {x : Flat} {n : 
         healthy = seed-healthy (single-lawful .bounds) (jobIn s logs x) seed (heldIn x) (c .lawful) (c .sound);
         sized = subst (λ (k : ℕ). Sized Number k st) (sym (count-still size))
             (seed-sized Number (rowCount x) (jobIn s logs x) number-nought
-            (λ mode rows h. cost-number (c .fitting) (c .logs-small) mode rows h) number-endless seed (heldIn x)
+            (λ mode rows h. evaluated-number (c .fitting) mode rows h) number-endless seed (heldIn x)
             (omega (arith, length-held (x .props) (x .toks) (x .res))));
         shallow = λ k h. seed-shallow (settingsOf s) logs (usesOf s x) seed (heldIn x) k;
       }

@@ -23,6 +23,7 @@ use Rattle.model.specs.Deepen.{depthsOf, rowsAt, withSeedNode}
 use Rattle.model.proofs.Bounded.{LogsWithin}
 use Rattle.checks.specs.Given.{settingsOf}
 use Rattle.checks.specs.declared.Settings.{Settings}
+use Rattle.layout.proofs.Queue.{same-itself, same-queue}
 use Rattle.layout.specs.Layout.{kindAt, propAt, gtAt, leAt, valAt, nodesHeld}
 use Rattle.layout.specs.Tree.{NodeLists, HasRoom, holding}
 use Rattle.layout.specs.Waiting.{QueueLists, QueueRoom, SameQueue, waitingFrom}
@@ -42,9 +43,8 @@ use Rattle.seed.specs.declared.Sum.{Sum}
 use Rattle.leaf.specs.Fitting.{usesOf}
 use Rattle.seed.specs.Ordered.{seedIn, DepthsFit}
 use Rattle.seed.specs.Sown.{seededTo, Sown, infoAt, NodeFits, NextIs, NodePlanted, Plants, PlantedTo}
-use Rattle.seed.proofs.Planting.{queue-same}
 use Rattle.seed.proofs.SeedLists.{seed-length, nodes-in, nodes-length, record-in, node-in, sound-tree, seed-few}
-use Rattle.seed.proofs.SeedLists.{kind-still, node-still, info-still, span-still}
+use Rattle.seed.proofs.SeedLists.{node-still, info-still, span-still}
 use Rattle.seed.proofs.Seeding.{leaves-more, leaves-few, seeded-none, seeded-more, seeded-length, split-empty, mine-length, seeded-rows, rows-left}
 
 -- a node's kind says whether it is a leaf
@@ -62,9 +62,6 @@ room-queue h same room = record {
   values = rw (same .values) (le-trans h (room .values));
   gains = rw (same .gains) (le-trans h (room .gains));
 }
-
-queue-then : {q p r : QueueLists} → SameQueue q p → SameQueue p r → SameQueue q r
-queue-then a b = record { words = b .words ∙ a .words; values = b .values ∙ a .values; gains = b .gains ∙ a .gains }
 
 module _ {s : Settings} {logs : List Float} {counts : List ℕ} {x : Flat} {n : NodeLists} {q : QueueLists} {count : ℕ} {scored : Bool} {given : List Row}
     (p : Plants s logs counts x n q count scored given) where
@@ -108,7 +105,7 @@ module _ {s : Settings} {logs : List Float} {counts : List ℕ} {x : Flat} {n : 
   unfolding waitingFrom
   planted-none sum none-waits nothing = record {
     size = size-same x;
-    queue = queue-same q;
+    queue = same-itself q;
     zeros = refl;
     few = omega (arith, none-waits);
     sown = subst (λ (st : State singles). Sown s logs counts x n q sum scored (usesOf s x) n st (drop (firstOf ks 0) (heldIn x)))
@@ -138,9 +135,6 @@ module _ {s : Settings} {logs : List Float} {counts : List ℕ} {x : Flat} {n : 
 
     span-is : spanAt (n' .spans) i ≡ span (firstOf ks i) (firstOf ks (suc i))
     span-is = ap (λ (m : NodeLists). spanAt (m .spans) i) lists ∙ span-still (to i .tree) n i here ∙ p .spans i inside
-
-    kind-is : kindAt (n' .words) i ≡ kindAt (n .words) i
-    kind-is = ap (λ (m : NodeLists). kindAt (m .words) i) lists ∙ kind-still (to i .tree) n i here
 
     node-is : nodeAt (n' .words) (n' .values) i ≡ getD nodes i leaf
     node-is = ap (λ (m : NodeLists). nodeAt (m .words) (m .values) i) lists ∙ node-still (to i .tree) n i here ∙ sym (node-in count n (p .room) i inside)
@@ -211,7 +205,7 @@ module _ {s : Settings} {logs : List Float} {counts : List ℕ} {x : Flat} {n : 
       next : PlantedTo s logs counts counts'' x z n n'' q q'' sum' count (suc i) scored given
       next = record {
         size = size-then (done .size) (planted .size);
-        queue = queue-then (done .queue) (planted .queue);
+        queue = same-queue (done .queue) (planted .queue);
         zeros = planted .zeros ∙ done .zeros;
         few = omega (arith, planted .risen, done .few, one-more);
         sown = gained;

@@ -1,3 +1,2 @@
--- `Held`: reading a list of parts laid end to end. `Settling`: the steps on the flat lists are those on the rows.
-mod Held
+-- `Settling`: the steps on the flat lists are those on the rows.
 pub mod Settling

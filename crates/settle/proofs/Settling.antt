@@ -1,7 +1,6 @@
 -- The mode steps on the leaves' spans in the flat lists are those on the rows. Assumes nothing.
 use mathlib.Core.Path.{_≡_, refl, sym, ap, _∙_, subst}
 use Prim.Native.Nat.{ℕ, zero, suc, _+_, _*_, _≤_, _<_}
-use native.Mathlib.Nat.{add-zero}
 use native.Mathlib.Numerals.{add-one}
 use native.Mathlib.Omega.{arith}
 use mathlib.Core.Bool.{Bool, true, false, cond, true≢false}
@@ -17,12 +16,12 @@ use Rattle.model.specs.Tree.{Node, split, leaf, isLeaf}
 use Rattle.model.specs.Grow.{Entry, noEntry}
 use Rattle.model.specs.Settle.{settled}
 use Rattle.layout.specs.Layout.{kindAt}
-use Rattle.layout.specs.Tree.{NodeLists, holding, entryWords, entrySpans, nodeWords}
+use Rattle.layout.specs.Tree.{NodeLists, nodeWords}
+use Rattle.layout.proofs.Held.{holding-lengths, held-kind, held-first, held-end}
 use Rattle.mode.specs.Lent.{Inside, Clear, Rebasable}
 use Rattle.mode.proofs.Stepped.{step-rows}
 use Rattle.rows.specs.Flat.{Flat, flat, rowCount, Changed}
 use Rattle.settle.specs.Leaves.{firstAt, endAt, leafTokens, settledTokens, Settleable, HoldsLeaves}
-use Rattle.settle.proofs.Held.{held-length, held-read}
 
 -- one entry's turn
 abbrev turn : Bool → Entry singles → List Row → List Row
@@ -47,13 +46,6 @@ pub settled-more : (words spans : List ℕ) (uses : Bool) (res : List ℤ) (n : 
 unfolding settledTokens
 settled-more words spans uses res n tok = rw (add-one n)
 
-words-wide : (e : Entry singles) → length (entryWords e) ≡ 5
-words-wide e = go (e .node)
-  where
-    go : (m : Node) → length (nodeWords m (e .info .pred)) ≡ 5
-    go (split p v g l) = refl
-    go leaf = refl
-
 module _ {words spans : List ℕ} {count : ℕ} {uses : Bool} {x : Flat} {tree : List (Entry singles)} {lent : NodeLists}
     (h : HoldsLeaves words spans count uses x tree lent) where
   abbrev entry : ℕ → Entry singles
@@ -61,19 +53,13 @@ module _ {words spans : List ℕ} {count : ℕ} {uses : Bool} {x : Flat} {tree :
 
   -- ---- what the lists show
   kind : (i : ℕ) → i < count → (m : Node) → entry i .node ≡ m → kindAt words i ≡ getD (nodeWords m (entry i .info .pred)) 0 0
-  unfolding holding
-  kind i a m z = rw add-zero at (held-read entryWords 5 words-wide tree (lent .words) words (h .words-are) (h .room .words) i 0 0 (omega (arith, h .many))
-      (omega arith))
-      ∙ ap (λ (n : Node). getD (nodeWords n (entry i .info .pred)) 0 0) z
+  kind i a m z = ap (λ (l : List ℕ). kindAt l i) (h .words-are) ∙ held-kind tree lent i (omega (arith, h .many)) ∙ ap (λ (n : Node). getD (nodeWords n (entry i .info .pred)) 0 0) z
 
   first-is : (i : ℕ) → i < count → firstAt spans i ≡ entry i .span .first
-  unfolding holding
-  first-is i a = rw add-zero at (held-read entrySpans 2 (λ e. refl) tree (lent .spans) spans (h .spans-are) (h .room .spans) i 0 0 (omega (arith, h .many))
-      (omega arith))
+  first-is i a = ap (λ (l : List ℕ). firstAt l i) (h .spans-are) ∙ held-first tree lent i (omega (arith, h .many))
 
   end-is : (i : ℕ) → i < count → endAt spans i ≡ entry i .span .end
-  unfolding holding
-  end-is i a = held-read entrySpans 2 (λ e. refl) tree (lent .spans) spans (h .spans-are) (h .room .spans) i 1 0 (omega (arith, h .many)) (omega arith)
+  end-is i a = ap (λ (l : List ℕ). endAt l i) (h .spans-are) ∙ held-end tree lent i (omega (arith, h .many))
 
   leaf-inside : (i : ℕ) → i < count → entry i .node ≡ leaf → (firstAt spans i ≤ endAt spans i) × (endAt spans i ≤ rowCount x)
   leaf-inside i a z = let p = h .inside i (omega (arith, h .many)) (rw z tt) in rw (first-is i a, end-is i a) (p .0, p .1)
@@ -86,10 +72,9 @@ module _ {words spans : List ℕ} {count : ℕ} {uses : Bool} {x : Flat} {tree :
 
   -- what `settle_leaves` asks for
   pub settleable : (counts : List ℕ) → (uses ≡ true → Clear counts) → Settleable words spans count uses (x .toks) (x .res) counts
-  unfolding holding
   settleable counts clear = record {
-    words-there = omega (arith, h .many, h .room .words, held-length entryWords 5 words-wide tree (lent .words) words (h .words-are) (h .room .words));
-    spans-there = omega (arith, h .many, h .room .spans, held-length entrySpans 2 (λ e. refl) tree (lent .spans) spans (h .spans-are) (h .room .spans));
+    words-there = omega (arith, h .many, h .room .words, ap length (h .words-are), holding-lengths tree lent (h .room) .words);
+    spans-there = omega (arith, h .many, h .room .spans, ap length (h .spans-are), holding-lengths tree lent (h .room) .spans);
     rows = λ u i a k. go u i a k (entry i .node) refl;
   }
     where

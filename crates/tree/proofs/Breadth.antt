@@ -19,7 +19,7 @@ use Rattle.model.proofs.Family.{ChildOf, Child, child-forward}
 use Rattle.model.proofs.Preorder.{NoRepeat, place-at}
 use Rattle.model.proofs.Sound.{Rooted}
 use Rattle.model.proofs.Tally.{short}
-use Rattle.tree.proofs.Lists.{length-each, each-at}
+use Rattle.model.proofs.Places.{length-each, each-at}
 
 -- ---- m numbers below n that are all different: there are at most n
 no-repeat : (l : List ℕ) → ((a b : ℕ) → a < b → b < length l → getD l a 0 ≡ getD l b 0 → ⊥) → NoRepeat l
@@ -36,7 +36,7 @@ pigeons f m n apart below = rw (length-each f 0 m) at (short n l (no-repeat l di
     l = map f (range 0 m)
 
     at : (a : ℕ) → a < m → getD l a 0 ≡ f a
-    at a h = each-at f 0 m a 0 h ∙ ap f (omega arith)
+    at a h = each-at f m a 0 h
 
     different : (a b : ℕ) → a < b → b < length l → getD l a 0 ≡ getD l b 0 → ⊥
     different a b h k e = let i : b < m = rw (length-each f 0 m) at k in apart a b h i (sym (at a (omega arith)) ∙ e ∙ at b i)

@@ -15,9 +15,9 @@ use borrow.Author.Tests.{eqb-true, eq-eqb, ne-eqb}
 use Rattle.model.specs.Lists.{range, countIf}
 use Rattle.model.specs.Tree.{hasChild}
 use Rattle.model.proofs.Counting.{count-append, count-at-most}
+use Rattle.model.proofs.Places.{length-each, each-more}
 use Rattle.layout.specs.Layout.{kindAt, gtAt, leAt}
 use Rattle.tree.specs.Trees.{nodeAt, CountsParents, AtMost}
-use Rattle.tree.proofs.Lists.{length-each, each-more}
 
 -- ---- one cell
 pub raised : (l : List ℕ) (c k : ℕ) → c < length l → getD (set l c (getD l c 0 + 1)) k 0 ≡ cond (eqb c k) 1 0 + getD l k 0
@@ -60,5 +60,5 @@ module _ (words : List ℕ) (count : ℕ) where
       → ((values : List ℤ) (k : ℕ) → k < count → getD new k 0 ≡ cond (hasChild k (nodeAt words values n)) 1 0 + getD old k 0)
       → CountsParents words count (n + 1) new
   counts-more n old new is more values k h =
-      let all = ap (countIf (hasChild k)) (each-more (nodeAt words values) 0 n) ∙ count-append (hasChild k) (map (nodeAt words values) (range 0 n)) (nodeAt words values (0 + n) ∷ []) in
-      rw add-one (omega (arith, more values k h, is values k h, rw (zero-add n) at all))
+      let all = ap (countIf (hasChild k)) (each-more (nodeAt words values) n) ∙ count-append (hasChild k) (map (nodeAt words values) (range 0 n)) (nodeAt words values n ∷ []) in
+      rw add-one (omega (arith, more values k h, is values k h, all))

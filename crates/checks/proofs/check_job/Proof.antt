@@ -14,7 +14,8 @@ use Rattle.model.specs.Profile.{single}
 use Rattle.model.specs.Lent.{Lent, rowCount}
 use Rattle.model.specs.Refuse.{Refusal, refuseIf, refuseAt, isOutside, hasNoPredictor, isUneven, badRowFrom, isShortAlphabet, isBadLogs, isShortOfRoom, refusedBefore}
 use Rattle.checks.specs.Given.{settingsOf, Holds, Lends, lentOf, lends, foundOf, checkOf}
-use Rattle.checks.proofs.Ranges.{in-range, whole-rows}
+use Rattle.model.proofs.Accepted.{in-range}
+use Rattle.checks.proofs.Ranges.{whole-rows}
 use Rattle.checks.proofs.Answers.{tested, row-found, nothing-found}
 use Rattle.checks.proofs.check_job.Statement.{statement}
 use Rattle.checks.proofs.check_job.Tie as tie

@@ -10,10 +10,11 @@ use Rattle.model.specs.Lent.{rowCount}
 use Rattle.model.specs.Refuse.{isShortOfSeedRoom, refusedBefore}
 use Rattle.checks.specs.Given.{settingsOf, checkOf}
 use Rattle.checks.proofs.Passed.{deepen-passed, deepen-refused}
-use Rattle.lent.specs.Lists.{Lists, lists, lentIn}
-use Rattle.learn.specs.Answer.{outcomeOf}
+use Rattle.lent.specs.Lists.{Lists, lists, lentIn, deepenLists}
+use Rattle.lent.proofs.Read.{deepen-read}
+use Rattle.lent.proofs.Answered.{refused-lists, both}
 use Rattle.learn.proofs.Answering.{lends-rooms}
-use Rattle.deepen.proofs.Answering.{both, refused-lists}
+use Rattle.deepen.specs.Deepens.{deepenedIn}
 use Rattle.deepen.proofs.deepen_ma_tree.Statement.{statement}
 use Rattle.deepen.proofs.deepen_ma_tree.Tie as tie
 
@@ -82,13 +83,15 @@ same-length-9 : tie.Need-same-length-9
 same-length-9 c = search needs
 
 returns : tie.Need-returns
+unfolding deepenLists
 returns c =
     let checked = c .before .before .before in
     let told = c .before .number .given in
     let given = start checked .args in
-    both (given .s) (given .logs .now) (given .count) (x checked) _ (x checked)
-    (refused-lists (given .s) (given .logs .now) (given .count) (x checked) (told .0 .0) (told .0 .1 .0)
+    both
+    (refused-lists (x checked) (deepenedIn (given .s) (given .logs .now) (given .count) (x checked .rows) (x checked .nodes)) (told .0 .0) (told .0 .1 .0)
     (deepen-refused (given .s) (given .logs .now) (lentIn (x checked)) (given .count) (told .0 .0) (told .0 .1 .0) (sym (answer checked) ∙ told .1)))
+    (deepen-read (settingsOf (given .s)) (given .logs .now) (x checked) (given .count))
 
 same-length-10 : tie.Need-same-length-10
 same-length-10 c = search needs
@@ -128,9 +131,7 @@ returns-2 c =
     let checked = c .before .before .before .before .before .before .before .before .before .before .before .before .before .before .before .before .before .before .before .before .before .before .before .before .before .before .before .before .before .before .before .before .before in
     let made = c .before .before .before .before .before .before .before .before .before .before .before .before .before .before .before .before .before .before .deepen-sound in
     let given = start checked .args in
-    let y = lists (flat (made .last .0) (made .last .1 .0) (made .last .1 .1 .0)) (nodeLists (made .last .1 .1 .1 .0) (made .last .1 .1 .1 .1 .0) (made .last .1 .1 .1 .1 .1 .0) (made .last .1 .1 .1 .1 .1 .1 .0))
-    (queueLists (made .last .1 .1 .1 .1 .1 .1 .1 .0) (made .last .1 .1 .1 .1 .1 .1 .1 .1 .0) (made .last .1 .1 .1 .1 .1 .1 .1 .1 .1 .0)) (made .last .1 .1 .1 .1 .1 .1 .1 .1 .1 .1 .0) in
-    both (given .s) (given .logs .now) (given .count) (x checked) (outcomeOf (made .result)) y (made .ensures)
+    both (made .ensures) (deepen-read (settingsOf (given .s)) (given .logs .now) (x checked) (given .count))
 
 pub deepen-ma-tree-spec : {M : Type 1} → statement M
 deepen-ma-tree-spec =

@@ -10,11 +10,11 @@ use Rattle.layout.specs.Tree.{nodeLists, HasRoom}
 use Rattle.layout.specs.Waiting.{queueLists}
 use Rattle.rows.specs.Flat.{flat}
 use Rattle.tree.specs.Answers.{faultNamed}
-use Rattle.lent.specs.Lists.{Lists, lists}
-use Rattle.learn.specs.Answer.{outcomeOf}
+use Rattle.lent.specs.Lists.{Lists, lists, deepenLists}
+use Rattle.lent.proofs.Answered.{refused-lists, accepted-lists}
 use Rattle.seed.specs.Ordered.{seedIn}
+use Rattle.deepen.specs.Deepens.{deepenedIn}
 use Rattle.deepen.proofs.Seeding.{nodes-there, seed-same}
-use Rattle.deepen.proofs.Answering.{refused-lists, accepted-lists}
 use Rattle.deepen.proofs.deepen_sound.Statement.{statement}
 use Rattle.deepen.proofs.deepen_sound.Tie as tie
 
@@ -61,11 +61,12 @@ same-length : tie.Need-same-length
 same-length c = search needs
 
 returns : tie.Need-returns
+unfolding deepenLists
 returns c =
     let tested = c .before .before .before in
     let told = c .before .place .given in
     let given = start tested .args in
-    refused-lists (given .s) (given .logs .now) (given .count) (x tested) 8 (told .0 .0)
+    refused-lists (x tested) (deepenedIn (given .s) (given .logs .now) (given .count) (x tested .rows) (x tested .nodes)) 8 (told .0 .0)
     (start tested .pre .left ∙ ap (λ (o : Option ℕ). refuseAt o 8 none) (found tested ∙ ap faultNamed (told .1)))
 
 same-length-2 : tie.Need-same-length-2
@@ -102,14 +103,13 @@ same-length-12 : tie.Need-same-length-12
 same-length-12 c = search needs
 
 returns-2 : tie.Need-returns-2
+unfolding deepenLists
 returns-2 c =
     let tested = c .before .before .before .before .before .before .before .before .before .before .before .before .before .before .before .before .before .before .before .before .before .before .before .before .before .before .before .before .before .before .before .before in
     let told = c .before .before .before .before .before .before .before .before .before .before .before .before .before .before .before .before .before .before .before .before .before .before .before .before .before .before .before .before .before .before .enum-told .given in
     let made = c .before .before .before .before .before .before .before .before .before .before .before .before .before .before .before .before .before .before .deepen-rows in
     let given = start tested .args in
-    let y = lists (flat (made .last .0) (made .last .1 .0) (made .last .1 .1 .0)) (nodeLists (made .last .1 .1 .1 .0) (made .last .1 .1 .1 .1 .0) (made .last .1 .1 .1 .1 .1 .0) (made .last .1 .1 .1 .1 .1 .1 .0))
-    (queueLists (made .last .1 .1 .1 .1 .1 .1 .1 .0) (made .last .1 .1 .1 .1 .1 .1 .1 .1 .0) (made .last .1 .1 .1 .1 .1 .1 .1 .1 .1 .0)) (made .last .1 .1 .1 .1 .1 .1 .1 .1 .1 .1 .0) in
-    accepted-lists (given .s) (given .logs .now) (given .count) (x tested) (outcomeOf (made .result)) y
+    accepted-lists (x tested) (deepenedIn (given .s) (given .logs .now) (given .count) (x tested .rows) (x tested .nodes))
     (start tested .pre .left ∙ ap (λ (o : Option ℕ). refuseAt o 8 none) (found tested ∙ ap faultNamed (told .1))) (made .ensures .0) (made .ensures .1)
 
 pub deepen-sound-spec : {M : Type 1} → statement M

@@ -14,7 +14,7 @@ use Rattle.settle.proofs.Settling.{settleable}
 use Rattle.settle.specs.Leaves.{HoldsLeaves}
 use Rattle.leaf.specs.Fitting.{usesOf}
 use Rattle.finish.specs.Finished.{cutTree, Cut}
-use Rattle.leaf.proofs.Making.{some-residuals}
+use Rattle.checks.proofs.Ranges.{given}
 use Rattle.finish.proofs.Finishing.{grew-holds, grew-prunable, clear-counts, cut-leaves, few-kept, behind, finished-lists}
 use Rattle.finish.proofs.finish_tree.Statement.{statement}
 use Rattle.finish.proofs.finish_tree.Tie as tie
@@ -31,7 +31,7 @@ module _ (c : tie.After-prune-if) where
   m = nodeLists (c .prune-if .last .0) (c .prune-if .last .1 .0) (c .prune-if .last .1 .1 .0) (c .prune-if .last .1 .1 .1 .0)
 
   flag : ((start .args .s .«modal_offsets») && ltb 0 (length (start .args .res .now))) ≡ usesOf (start .args .s) (flat (start .pre .props) (start .args .tok .now) (start .args .res .now))
-  flag = ap (λ (b : Bool). (start .args .s .«modal_offsets») && b) (some-residuals (start .args .res .now))
+  flag = ap (λ (b : Bool). (start .args .s .«modal_offsets») && b) (sym (given (start .args .res .now)))
 
   left : Cut (start .args .s .«prune_leaf_bits») (start .pre .state .tree) (start .args .grown .bits) (start .pre .lent) m (c .prune-if .result)
   left = c .prune-if .ensures (start .pre .state .tree) (start .pre .lent) (grew-holds (start .pre .grew))

@@ -1,5 +1,5 @@
 -- `leaf::make_leaf` meets its contract: the mode step, and then the evaluation of the rows that it leaves. Assumes nothing.
-use mathlib.Core.Path.{_≡_, ap, _∙_}
+use mathlib.Core.Path.{_≡_, sym, ap, _∙_}
 use mathlib.Core.Bool.{Bool, _&&_}
 use borrow.Author.Needs.{needs}
 use mir.Syntax.{w32}
@@ -12,15 +12,16 @@ use Rattle.rows.specs.Flat.{Flat, flat, heldIn, rowCount}
 use Rattle.model.specs.Mode.{spanMode}
 use Rattle.model.specs.Rows.{within}
 use Rattle.mode.specs.Column.{stepMode}
+use Rattle.checks.proofs.Ranges.{given}
 use Rattle.leaf.specs.Fitting.{usesOf}
-use Rattle.leaf.proofs.Making.{some-residuals, steppable, mode-stepped, Stepped, after-step, evaluable, made}
+use Rattle.leaf.proofs.Making.{steppable, mode-stepped, Stepped, after-step, evaluable, made}
 use Rattle.leaf.proofs.make_leaf.Statement.{statement}
 use Rattle.leaf.proofs.make_leaf.Tie as tie
 
 mode-step-requires : tie.Need-mode-step-requires
 mode-step-requires c κs =
     let start = c .before .before .before .before .before .before in
-    rw (some-residuals (start .args .res .now)) (steppable (start .pre .fitting) (start .pre .spanned))
+    rw (← given (start .args .res .now)) (steppable (start .pre .fitting) (start .pre .spanned))
 
 -- the lists after the mode step
 module _ (c : tie.After-mode-step) where
@@ -31,7 +32,7 @@ module _ (c : tie.After-mode-step) where
   x = flat (start .args .props .now) (start .args .tok .now) (start .args .res .now)
 
   flag : ((start .args .s .«modal_offsets») && ltb 0 (length (start .args .res .now))) ≡ usesOf (start .args .s) x
-  flag = ap (λ (b : Bool). (start .args .s .«modal_offsets») && b) (some-residuals (start .args .res .now))
+  flag = ap (λ (b : Bool). (start .args .s .«modal_offsets») && b) (sym (given (start .args .res .now)))
 
   stepped : Stepped (start .args .s) (start .args .logs .now) (c .mode-step .last .1 .1 .1 .1 .1 .0) (span (start .args .first) (start .args .end)) x
       (flat (start .args .props .now) (c .mode-step .last .1 .0) (start .args .res .now))

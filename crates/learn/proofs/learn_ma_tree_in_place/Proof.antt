@@ -9,9 +9,11 @@ use Rattle.model.specs.Lent.{rowCount}
 use Rattle.model.specs.Refuse.{learnRefusal}
 use Rattle.checks.specs.Given.{settingsOf, checkOf}
 use Rattle.checks.proofs.Passed.{learn-passed, learn-refused}
-use Rattle.lent.specs.Lists.{Lists, lists, lentIn}
-use Rattle.learn.specs.Answer.{outcomeOf}
-use Rattle.learn.proofs.Answering.{lends-rooms, both, refused-lists, accepted-lists}
+use Rattle.lent.specs.Lists.{Lists, lists, lentIn, learnLists}
+use Rattle.lent.proofs.Read.{learn-read}
+use Rattle.lent.proofs.Answered.{refused-lists, accepted-lists, both}
+use Rattle.learn.specs.Learns.{resultIn}
+use Rattle.learn.proofs.Answering.{lends-rooms}
 use Rattle.learn.proofs.learn_ma_tree_in_place.Statement.{statement}
 use Rattle.learn.proofs.learn_ma_tree_in_place.Tie as tie
 
@@ -78,12 +80,13 @@ same-length-9 : tie.Need-same-length-9
 same-length-9 c = search needs
 
 returns : tie.Need-returns
+unfolding learnLists
 returns c =
     let checked = c .before .before .before in
     let told = c .before .number .given in
     let given = start checked .args in
-    both (given .s) (given .logs .now) (x checked) _ (x checked)
-    (refused-lists (given .s) (given .logs .now) (x checked) (told .0 .0) (told .0 .1 .0) (learn-refused (given .s) (given .logs .now) (lentIn (x checked)) (told .0 .0) (told .0 .1 .0) (sym (answer checked) ∙ told .1)))
+    both (refused-lists (x checked) (resultIn (given .s) (given .logs .now) (x checked .rows)) (told .0 .0) (told .0 .1 .0) (learn-refused (given .s) (given .logs .now) (lentIn (x checked)) (told .0 .0) (told .0 .1 .0) (sym (answer checked) ∙ told .1)))
+    (learn-read (settingsOf (given .s)) (given .logs .now) (x checked))
 
 same-length-10 : tie.Need-same-length-10
 same-length-10 c = search needs
@@ -119,16 +122,15 @@ same-length-20 : tie.Need-same-length-20
 same-length-20 c = search needs
 
 returns-2 : tie.Need-returns-2
+unfolding learnLists
 returns-2 c =
     let checked = c .before .before .before .before .before .before .before .before .before .before .before .before .before .before .before .before .before .before .before .before .before .before .before .before .before .before .before .before .before .before .before .before .before in
     let passed = c .before .before .before .before .before .before .before .before .before .before .before .before .before .before .before .before .before .before .before .before .before .before .before .before .before .before .before .before .before .before .before .rows .given in
     let made = c .before .before .before .before .before .before .before .before .before .before .before .before .before .before .before .before .before .before .learn-rows in
     let given = start checked .args in
-    let y = lists (flat (made .last .0) (made .last .1 .0) (made .last .1 .1 .0)) (nodeLists (made .last .1 .1 .1 .0) (made .last .1 .1 .1 .1 .0) (made .last .1 .1 .1 .1 .1 .0) (made .last .1 .1 .1 .1 .1 .1 .0))
-    (queueLists (made .last .1 .1 .1 .1 .1 .1 .1 .0) (made .last .1 .1 .1 .1 .1 .1 .1 .1 .0) (made .last .1 .1 .1 .1 .1 .1 .1 .1 .1 .0)) (made .last .1 .1 .1 .1 .1 .1 .1 .1 .1 .1 .0) in
-    both (given .s) (given .logs .now) (x checked) (outcomeOf (made .result)) y
-    (accepted-lists (given .s) (given .logs .now) (x checked) (outcomeOf (made .result)) y
-    (learn-passed (given .s) (given .logs .now) (lentIn (x checked)) (passed .0 .0) (sym (answer checked) ∙ passed .1) .0) (made .ensures .0) (made .ensures .1))
+    both
+    (accepted-lists (x checked) (resultIn (given .s) (given .logs .now) (x checked .rows)) (learn-passed (given .s) (given .logs .now) (lentIn (x checked)) (passed .0 .0) (sym (answer checked) ∙ passed .1) .0) (made .ensures .0) (made .ensures .1))
+    (learn-read (settingsOf (given .s)) (given .logs .now) (x checked))
 
 pub learn-ma-tree-in-place-spec : {M : Type 1} → statement M
 learn-ma-tree-in-place-spec =

@@ -1,6 +1,6 @@
 -- Jobs of the stream and how the model answers them. Numbers stand as in the job stream: 32-bit words, floats as their bit patterns. Assumes nothing.
-use Prim.Native.Nat.{ℕ, zero, suc, _+_, _-_, _%_, _^_}
-use mathlib.Core.Bool.{Bool, cond}
+use Prim.Native.Nat.{ℕ, _+_, _-_, _%_, _^_}
+use mathlib.Core.Bool.{cond}
 use mathlib.Core.List.{List, [], _∷_, _++_, map}
 use mathlib.Core.Option.{none}
 use lib.ListN.{length, replicate}
@@ -22,7 +22,6 @@ use Rattle.model.specs.Learn.{resultOf}
 use Rattle.model.specs.Single.{singles}
 use Rattle.model.specs.Profile.{single}
 use Rattle.model.specs.Lent.{Stored, recordIn, stored, Waiting, Lent}
-use Rattle.model.specs.Refuse.{Refusal}
 use Rattle.model.specs.Operations.{Outcome, refused, accepted, After, Tree, Found, ContextLists, learn, deepen, lookup, leafContexts, sample}
 
 -- a 32-bit word as a signed number, and a list of them

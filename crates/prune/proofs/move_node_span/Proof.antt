@@ -2,7 +2,7 @@
 use Prim.Native.Nat.{_*_}
 use native.Mathlib.Omega.{arith}
 use lib.ListN.{length-set}
-use Rattle.prune.proofs.Moving.{two-stores}
+use Rattle.layout.proofs.Cells.{stores-two}
 use borrow.Author.Needs.{needs}
 use Rattle.prune.proofs.move_node_span.Statement.{statement}
 use Rattle.prune.proofs.move_node_span.Tie as tie
@@ -47,7 +47,7 @@ same-length : tie.Need-same-length
 same-length c = search needs
 
 returns : tie.Need-returns
-returns c = two-stores (c .before .before .args .moved .now) (c .before .before .args .q * 2) _ _ (c .before .before .pre .1)
+returns c = stores-two (c .before .before .args .moved .now) (c .before .before .args .q * 2) _ _ (c .before .before .pre .1)
 
 pub move-node-span-spec : {M : Type 1} → statement M
 move-node-span-spec =

@@ -5,7 +5,7 @@ use lib.ListN.{getD, length-set}
 use lib.IntN.{pos}
 use mir.Syntax.{w32}
 use mir.ValLaws.{toZ-ofZ}
-use Rattle.prune.proofs.Moving.{two-stores}
+use Rattle.layout.proofs.Cells.{stores-two}
 use borrow.Author.Needs.{needs}
 use Rattle.prune.proofs.move_node_values.Statement.{statement}
 use Rattle.prune.proofs.move_node_values.Tie as tie
@@ -53,7 +53,7 @@ returns c = let args = c .before .before .args in
       c .before .threshold-of .ensures,
       toZ-ofZ w32 (getD (args .values .now) (args .i * 2 + 1) (pos 0)) (record { sfits = c .moved .given }),
     )
-    (two-stores (args .moved .now) (args .q * 2) _ _ (c .before .before .pre .1))
+    (stores-two (args .moved .now) (args .q * 2) _ _ (c .before .before .pre .1))
 
 pub move-node-values-spec : {M : Type 1} → statement M
 move-node-values-spec =

@@ -2,7 +2,7 @@
 use Prim.Native.Nat.{_*_}
 use native.Mathlib.Omega.{arith}
 use lib.ListN.{length-set}
-use Rattle.prune.proofs.Moving.{five-stores}
+use Rattle.layout.proofs.Cells.{stores-five}
 use borrow.Author.Needs.{needs}
 use Rattle.prune.proofs.put_words.Statement.{statement}
 use Rattle.prune.proofs.put_words.Tie as tie
@@ -56,7 +56,7 @@ same-length : tie.Need-same-length
 same-length c = search needs
 
 returns : tie.Need-returns
-returns c = five-stores (c .args .moved .now) (c .args .q * 5) _ _ _ _ _ (c .pre)
+returns c = stores-five (c .args .moved .now) (c .args .q * 5) _ _ _ _ _ (c .pre)
 
 pub put-words-spec : {M : Type 1} → statement M
 put-words-spec =

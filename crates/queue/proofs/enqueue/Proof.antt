@@ -12,7 +12,8 @@ use Rattle.model.specs.Job as model
 use Rattle.model.specs.Lent.{Waiting}
 use Rattle.layout.specs.Values.{offerIs}
 use Rattle.layout.specs.Waiting.{QueueLists, queueLists, QueueRoom}
-use Rattle.queue.proofs.Queues.{added, same-added, same-itself}
+use Rattle.layout.proofs.Queue.{same-itself}
+use Rattle.queue.proofs.Queues.{added, same-added}
 use borrow.Author.Needs.{needs}
 use Rattle.queue.proofs.enqueue.Statement.{statement}
 use Rattle.queue.proofs.enqueue.Tie as tie

@@ -29,7 +29,7 @@ enqueue-requires c κs =
 float-to-float-bits : tie.Need-float-to-float-bits
 float-to-float-bits c =
     let made = making (putting (c .before .before .before .before .before .before)) in
-    made-widens (made .make-leaf .ensures .0) (entry made .pre .fitting) (entry made .pre .logs-small) (entry made .pre .spanned)
+    made-widens (made .make-leaf .ensures .0) (entry made .pre .fitting) (entry made .pre .spanned)
 
 same-length : tie.Need-same-length
 same-length c = search needs

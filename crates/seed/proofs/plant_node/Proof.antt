@@ -4,10 +4,11 @@ use Prim.Native.Nat.{_+_, _*_}
 use lib.Dec.{eqb}
 use lib.ListN.{getD}
 use Rattle.layout.specs.Layout.{kindAt}
-use Rattle.seed.proofs.Planting.{neither, kept-planted, leaf-planted}
+use Rattle.seed.proofs.Planting.{kept-planted, leaf-planted}
 use borrow.Author.Needs.{needs}
 use Rattle.seed.proofs.plant_node.Statement.{statement}
 use Rattle.seed.proofs.plant_node.Tie as tie
+use Rattle.model.proofs.Tests.{neither}
 
 -- ---- from either branch back to the entry, and from its call to the branch
 abbrev empty : tie.Then1 → tie.Start
@@ -87,7 +88,7 @@ plant-leaf-requires c κs =
     let i = start .args .i in
     let first = getD (start .args .spans .now) (i * 2) 0 in
     let end = getD (start .args .spans .now) (i * 2 + 1) 0 in
-    let tests = neither (eqb (kindAt words i) 1) (eqb first end) (other .if1 .left) in
+    let tests = neither (eqb (kindAt words i) 1) (eqb first end) .0 (other .if1 .left) in
     record {
       fitting = start .pre .fitting;
       logs-small = start .pre .logs-small;

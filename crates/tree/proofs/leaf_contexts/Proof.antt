@@ -9,7 +9,7 @@ use borrow.Author.Tests.{ltb-false}
 use Rattle.layout.specs.Layout.{nodesHeld}
 use Rattle.tree.specs.Trees.{SoundTree}
 use Rattle.tree.specs.Answers.{faultNamed}
-use Rattle.tree.proofs.Lists.{neither}
+use Rattle.model.proofs.Tests.{neither}
 use Rattle.tree.proofs.Refusals.{beyond, faulty, cramped, counted}
 use Rattle.tree.proofs.leaf_contexts.Statement.{statement}
 use Rattle.tree.proofs.leaf_contexts.Tie as tie
@@ -28,7 +28,7 @@ sound c = record {
 -- there is room
 room : (c : tie.Else2) → let start = c .before .before .before .before .before .before .before .before .before .args in
     (start .count ≤ length (start .contexts .now)) × (start .count ≤ length (start .queue .now))
-room c = let p = neither _ _ (c .if2 .left) in (ltb-false _ _ (p .0), ltb-false _ _ (p .1))
+room c = let p = neither _ _ .0 (c .if2 .left) in (ltb-false _ _ (p .0), ltb-false _ _ (p .1))
 
 nodes-held-requires : tie.Need-nodes-held-requires
 nodes-held-requires c κs = search needs

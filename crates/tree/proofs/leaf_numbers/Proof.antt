@@ -11,8 +11,9 @@ use Rattle.model.specs.Lists.{range}
 use Rattle.model.specs.Settings.{propsPerRow}
 use Rattle.model.specs.Tree.{nodesOf, leafReached}
 use Rattle.model.specs.Lent.{treeIn}
+use Rattle.model.proofs.Places.{each-written}
 use Rattle.layout.specs.Layout.{storedIn}
-use Rattle.tree.proofs.Lists.{each-written, each-done}
+use Rattle.tree.proofs.Lists.{each-done}
 use Rattle.tree.proofs.Routes.{rowLeaf, rows-each}
 use Rattle.tree.proofs.leaf_numbers.Statement.{statement}
 use Rattle.tree.proofs.leaf_numbers.Tie as tie

@@ -1,6 +1,7 @@
 -- `listing::signed::from_pattern` meets its contract. Assumes nothing.
 use borrow.Author.Needs.{needs}
-use Rattle.listing.proofs.Words.{low-pattern, high-difference, high-cast, high-pattern}
+use Rattle.entropy.proofs.Words.{high-difference, high-cast}
+use Rattle.listing.proofs.Words.{low-pattern, high-pattern}
 use Rattle.listing.proofs.signed.from_pattern.Statement.{statement}
 use Rattle.listing.proofs.signed.from_pattern.Tie as tie
 

@@ -1,5 +1,5 @@
 -- `replay::bytes::double` is safe: the pattern is no NaN's. Assumes nothing.
-use mathlib.Core.Path.{_≡_, sym, _∙_, subst}
+use mathlib.Core.Path.{sym, _∙_, subst}
 use mathlib.Core.Bool.{Bool, not}
 use lib.Dec.{T}
 use Prim.Native.Nat.{ℕ, _%_, _≤_}

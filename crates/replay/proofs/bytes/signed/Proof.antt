@@ -1,6 +1,6 @@
 -- `replay::bytes::signed` is safe: a pattern from 2^31 on, less 2^32, fits. Assumes nothing.
 use borrow.Author.Needs.{needs}
-use Rattle.replay.proofs.Words.{high-difference, high-cast}
+use Rattle.entropy.proofs.Words.{high-difference, high-cast}
 use Rattle.replay.proofs.bytes.signed.Statement.{statement}
 use Rattle.replay.proofs.bytes.signed.Tie as tie
 

@@ -4,8 +4,9 @@ use Prim.Native.Nat.{_≤_, _+_, _-_}
 use native.Mathlib.Omega.{arith}
 use Rattle.model.specs.Cost.{extraFrom}
 use Rattle.cost.proofs.Sums.{single-exact}
+use Rattle.cost.proofs.Sums.{extra-le-rows}
 use Rattle.score.specs.Sides.{rest}
-use Rattle.score.proofs.Sweeps.{extraFrom-le, few-left, extra-sides, costs-join}
+use Rattle.score.proofs.Sweeps.{few-left, extra-sides, costs-join}
 use borrow.Author.Needs.{needs}
 use Rattle.score.proofs.sides.window_costs.Statement.{statement}
 use Rattle.score.proofs.sides.window_costs.Tie as tie
@@ -22,7 +23,7 @@ bits c =
     let h = s .pre .0 in
     let le = c .window-extra .ensures in
     let sides = extra-sides (s .args .first) (s .args .node .now) (s .args .left .now) (h .long) (h .under) in
-    let few = extraFrom-le (s .args .first) (s .args .node .now) (omega (arith, s .pre .1 .0, h .long)) in
+    let few = extra-le-rows (s .args .first) (s .args .node .now) (omega (arith, s .pre .1 .0, h .long)) in
     record { le = le; both = omega (arith, s .pre .1 .1); small = omega (arith, s .pre .1 .1, h .small) }
 
 window-entropies-requires : tie.Need-window-entropies-requires
