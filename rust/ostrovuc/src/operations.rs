@@ -110,6 +110,7 @@ fn learned(tree: c::LearnedTree) -> Result<Learned, Refusal> {
 }
 
 /// The leaf that a row of 24 properties reaches in the tree of the first `count` nodes. Refusals 9 and 8.
+#[inline]
 pub fn lookup(nodes: &[MaNode], count: u32, props: &[i32]) -> Result<Leaf, Refusal> {
     // SAFETY: the pointers and the lengths are slices'.
     let found = unsafe {
@@ -160,16 +161,19 @@ pub fn evenly_sampled_indices(rows: usize, target: usize, out: &mut [u32]) -> Re
 }
 
 /// Packs a signed number: 0, -1, 1, -2 become 0, 1, 2, 3.
+#[inline]
 pub fn pack_signed(value: i32) -> u32 {
     c::ostrovuc_pack_signed(value)
 }
 
 /// The token of a value and its extra bits.
+#[inline]
 pub fn uint_encode(value: u32) -> Encoding {
     c::ostrovuc_uint_encode(value)
 }
 
 /// The value of a token and its extra bits. Refusal 10.
+#[inline]
 pub fn token_value(token: u32, extra: u32) -> Result<u32, Refusal> {
     let read = c::ostrovuc_token_value(token, extra);
     Refusal::unless_accepted(read.number, 0, read.value)
