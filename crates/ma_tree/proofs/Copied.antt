@@ -1,5 +1,5 @@
 -- Records copied to number lists that are long enough: the lists hold the records, and stay as long. Assumes nothing.
-use mathlib.Core.Path.{_≡_, _∙_}
+use mathlib.Core.Path.{_∙_}
 use Prim.Native.Nat.{ℕ, _≤_, _<_, _^_}
 use native.Mathlib.Nat.{min-le-right, lt-of-le-of-lt}
 use native.Mathlib.Omega.{arith}

@@ -1,4 +1,4 @@
--- The calls of `to_copy`, which says how many records are copied, and of `from_records`, which copies them to three local arrays (`Zeros.antt`). Assumes nothing.
+-- The calls of `to_copy`, which says how many records are copied, and of `from_records`, which copies them to three local arrays (`Zeros.antt`). Assumes `Given`.
 use mathlib.Core.Path.{_≡_, refl, _∙_, ap}
 use Prim.Native.Nat.{ℕ, _<_, _^_}
 use mathlib.Core.List.{List, [], _∷_}

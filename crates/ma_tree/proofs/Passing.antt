@@ -1,6 +1,5 @@
--- The call of `work` of which `ostrovuc_learn` and `ostrovuc_deepen` consist: the node list and the eight lists are passed on for good, so that afterwards only what `work` says of them is
--- had.
--- Assumes nothing.
+-- The call of `work` of which `ostrovuc_learn` and `ostrovuc_deepen` consist: the node list and the eight lists are passed on for good, so that afterwards only what `work` says of them
+-- is had. Assumes `Given`.
 use mathlib.Core.Path.{refl}
 use mathlib.Core.Bool.{Bool}
 use Prim.Native.Nat.{ℕ, _<_, _^_}

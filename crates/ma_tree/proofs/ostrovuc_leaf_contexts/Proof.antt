@@ -1,6 +1,5 @@
--- `ostrovuc_leaf_contexts` meets its contract: a walk of its MIR, by hand. Three local arrays are number lists (`Zeros.antt`), to which the records are copied (`Copying.antt`). Two of them
--- are
--- lent to `contexts_on`, to which the caller's lists are passed on for good. From the functions that it calls it takes only that they meet their contracts.
+-- `ostrovuc_leaf_contexts` meets its contract: a walk of its MIR, by hand. Three local arrays are number lists (`Zeros.antt`), to which the records are copied (`Copying.antt`). Two of
+-- them are lent to `contexts_on`, to which the caller's lists are passed on for good. From the functions that it calls it takes only that they meet their contracts.
 -- Assumes nothing.
 use mathlib.Core.Path.{_≡_, refl}
 use Prim.Native.Nat.{ℕ, _<_, _^_}
@@ -24,7 +23,7 @@ use contract.Running.{givenOf, tables, tablesOf}
 use types.Kit.{Given, Item, ‵, raw, _⊛_, some as each-of, later, ⋆, put, atRet, runs, Sq, _$_, _∵_, !, qed, by, move, drop, use1, use2, use3, split, join, pick, fsplit, fjoin, suffices}
 use types.Kit.{frame, await, done}
 use types.Part.{rep}
-use types.Run.{look, init, stop, from, lit, float-lit, of-opd, and-then, no-more, land, returns, params1, pass1, pass0}
+use types.Run.{look, init, stop, from, lit, float-lit, of-opd, no-more, land, returns, params1, pass1, pass0}
 use types.Tokens.{lft-new, lft-end}
 use sound.WpLaws.{fmOf}
 use denote.RattleType.{RattleType, Denots, flat, owns}
@@ -47,7 +46,7 @@ use Rattle.model.specs.Operations.{leafContexts}
 use Rattle.records.specs.declared.MaNode.{MaNode}
 use Rattle.records.specs.Records.{storedOf}
 use Rattle.records.proofs.Facts.{says-two}
-use Rattle.records.proofs.Locals.{Blocks, env, States, cells, enters, leaves, local-at, to-local, count-of}
+use Rattle.records.proofs.Locals.{Blocks, env, States, cells, enters, leaves, to-local, count-of}
 use Rattle.records.proofs.MaNode as N
 use Rattle.records.proofs.Rows.{Each, Lists, Spots, Names, Rooms, SameLengths, Mutss, refs, valued, same, rows, Shrss, shared, spelt, lent-shared, lend-shared, back-shared}
 use Rattle.records.proofs.from_records.Symbol as from-records-def
@@ -59,7 +58,7 @@ use Rattle.ma_tree.specs.Numbers.{copied, Numbered}
 use Rattle.ma_tree.proofs.Copied.{copied-fits, copied-long, has-places, numbered}
 use Rattle.ma_tree.proofs.Copying.{ToCopy, of-room, counts, counted, FromRecords, to-take, holding, holding-lens, copies-in, comes-out}
 use Rattle.ma_tree.proofs.Said.{all-said, SaidPost, SaidWalks, said-ends, said-meets, unasked}
-use Rattle.ma_tree.proofs.Slices.{again, of-array, take, give, slices, again-all, spots, names, nows, spells, tells, roomy}
+use Rattle.ma_tree.proofs.Slices.{pass-slice, also, again, of-array, take, give, slices, again-all, spots, names, nows, spells, tells, roomy}
 use Rattle.ma_tree.proofs.Zeros.{As, zeros, zeros-long, zeros-room, words-count, values-count, costs-count, places, words-typed, values-typed, costs-typed, arrays-rows, vacant}
 use Rattle.ma_tree.proofs.Zeros.{rows-rooms}
 use Rattle.ma_tree.proofs.answers.Count as C
@@ -201,8 +200,7 @@ module _ {M : Type 1} (𝓤 : URA M) (H : Heap 𝓤) (A : Atoms 𝓤) (W : Given
         move ! (2 ∷ 6 ∷ []) $ join ! $ move ! (0 ∷ 1 ∷ 5 ∷ []) $ use3 W (raw (ContextsOn 𝓤 H A mem run .pre (to at′ μ ζs))) (asked at′ μ ζs) $
         -- [what is asked; the lender's parts; the costs; the records' token; _24; …; _0; …]
         calls-at ! (fmOf 𝓤 H (W .laws) 𝓣) (ContextsOn 𝓤 H A mem run) known (to at′ μ ζs)
-        (and-then ! (local-at ! 36 refl) (and-then ! (local-at ! 48 refl) (and-then ! (local-at ! 16 refl) (and-then ! (local-at ! 12 refl) (and-then ! (local-at ! 8 refl)
-        (and-then ! (local-at ! 4 refl) (no-more !))))))) (λ w.
+        (also ! 36 refl (also ! 48 refl (also ! 16 refl (also ! 12 refl (also ! 8 refl (also ! 4 refl (no-more !))))))) (λ w.
         use1 W (later (each-of (λ (r : Count). ((‵ (flft (μ ∷ []) fullShare) ⊛ (‵ (flft κ′ q′) ⊛ ‵ ftrue)) ⊛ ‵ (C.the-row .own r (w ∷ [])))
         ⊛ raw (ensured 𝓤 H A contexts-on.ended (contexts-on.clauses 𝓤 H A mem run) (μ ∷ [], (κ′, tt)) (handed at′ μ ζs) tt r)))) (id⊢ 𝓤 _) $ await ! tt $ pick ! (λ r. split ! $
         move ! (1 ∷ []) $
@@ -226,8 +224,8 @@ module _ {M : Type 1} (𝓤 : URA M) (H : Heap 𝓤) (A : Atoms 𝓤) (W : Given
   walk 𝓣 counted-known copied-known known =
       qed W ((‵ (flft κ q) ⊛ (‵ (flft κ′ q′) ⊛ ‵ ftrue)) ∷ ‵ (owns Ps a vals) ∷ []) ∵ enters ! (𝓣 .C) (𝓣 .Λ) code.function (flat Ps vals) _ (λ bs.
       let place : Spots As = places piece.locals bs 5 in
-      params1 ! $ pass1 ! (init ! 46 refl (tt, (tt, (record { fits = room .0 }, tt)))) $ pass1 ! (init ! 44 refl (tt, record { fits = count-fits })) $
-      pass1 ! (init ! 42 refl (tt, (tt, (record { fits = rooms .0 .0 }, tt)))) $ pass1 ! (init ! 40 refl (tt, (tt, (record { fits = rooms .1 .0 .0 }, tt)))) $ pass0 ! $
+      params1 ! $ pass-slice ! 46 (room .0) refl $ pass1 ! (init ! 44 refl (tt, record { fits = count-fits })) $
+      pass-slice ! 42 (rooms .0 .0) refl $ pass-slice ! 40 (rooms .1 .0 .0) refl $ pass0 ! $
       to-local ! 38 (rep ! 40955 (lit ! tt)) refl (words-typed 𝓤 H A W) $ to-local ! 36 (rep ! 16382 (lit ! tt)) refl (values-typed 𝓤 H A W) $
       to-local ! 34 (rep ! 8191 (float-lit ! tt)) refl (costs-typed 𝓤 H A W) $
       -- [_24; …; _0; …; the tokens; what the parameters own]
@@ -235,14 +233,13 @@ module _ {M : Type 1} (𝓤 : URA M) (H : Heap 𝓤) (A : Atoms 𝓤) (W : Given
       -- [what the caller's lists own; what the records own; the lists' token; the records' token; _24; …; _0; …]: the arrays are rows
       take ! 42 $ take ! 41 $ take ! 40 $ use3 W (‵ (rows As place zeros)) (arrays-rows 𝓤 H A W piece.locals bs 5) $
       to-local ! 35 (of-opd ! (count-of ! 51 refl refl)) refl (tt, record { fits = room .0 }) $ counts ! mem run (length (x .now)) (room .0) $
-      calls-at ! (fmOf 𝓤 H (W .laws) 𝓣) (ToCopy 𝓤 H A mem run) counted-known (of-room 𝓤 H A mem run (length (x .now))) (and-then ! (local-at ! 36 refl) (no-more !)) (λ v.
+      calls-at ! (fmOf 𝓤 H (W .laws) 𝓣) (ToCopy 𝓤 H A mem run) counted-known (of-room 𝓤 H A mem run (length (x .now))) (also ! 36 refl (no-more !)) (λ v.
       counted ! mem run (length (x .now)) v $ land ! (from ! (stop !)) (init ! 37 refl (tt, record { fits = copied-fits (length (x .now)) })) $
       of-array ! 31 29 words-count refl $ of-array ! 27 25 values-count refl $ of-array ! 23 21 costs-count refl $ move ! (0 ∷ 4 ∷ 2 ∷ []) $
       copies-in ! tt mem run κ q x place (λ ν εs.
       -- [what is asked; the lender's parts; what the caller's lists own; their token; _24; …; _0; …]
       calls-at ! (fmOf 𝓤 H (W .laws) 𝓣) (FromRecords 𝓤 H A mem run) copied-known (to-take κ q x place ν εs 𝓤 H A mem run)
-      (and-then ! (local-at ! 50 refl) (and-then ! (local-at ! 36 refl) (and-then ! (local-at ! 28 refl) (and-then ! (local-at ! 24 refl) (and-then ! (local-at ! 20 refl)
-      (no-more !)))))) (λ u.
+      (also ! 50 refl (also ! 36 refl (also ! 28 refl (also ! 24 refl (also ! 20 refl (no-more !)))))) (λ u.
       comes-out ! tt mem run κ q x place ν εs u (λ typed. land ! (from ! (stop !)) (init ! 32 refl (typed .0)) $ ends 𝓣 counted-known copied-known known bs u)))))
 
 module _ {M : Type 1} (𝓤 : URA M) (H : Heap 𝓤) (A : Atoms 𝓤) (W : Given 𝓤 H A) (mem : Memory → SProp 𝓤) (run : Routine → Fun 𝓤) (𝓣 : Tables 𝓤 H) where

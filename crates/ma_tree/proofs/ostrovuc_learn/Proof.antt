@@ -39,12 +39,12 @@ use Rattle.checks.proofs.Settings as S
 use Rattle.checks.proofs.Settings.Laws as S′
 use Rattle.records.specs.declared.MaNode.{MaNode}
 use Rattle.records.proofs.MaNode as N
-use Rattle.records.proofs.Locals.{States, enters, leaves, local-at}
+use Rattle.records.proofs.Locals.{States, enters, leaves}
 use Rattle.records.proofs.Rows.{Each, Lists, Spots, Names, Rooms, Mutss, refs, valued, same}
 use Rattle.ma_tree.specs.declared.answers.LearnedTree.{LearnedTree}
 use Rattle.ma_tree.proofs.Passing.{Es, Work, Last, last, Done, to-work, asks-work, comes-work}
 use Rattle.ma_tree.proofs.Said.{all-said, SaidPost, SaidWalks, said-ends, said-meets, unasked, says-four}
-use Rattle.ma_tree.proofs.Slices.{again, slices, again-all, spots, names, nows, spells, tells, roomy}
+use Rattle.ma_tree.proofs.Slices.{pass-slice, also, again, slices, again-all, spots, names, nows, spells, tells, roomy}
 use Rattle.ma_tree.proofs.answers.LearnedTree as L
 use Rattle.ma_tree.proofs.work.Symbol as work-def
 use Rattle.ma_tree.proofs.work.Symbol.{name as #work}
@@ -100,22 +100,18 @@ module _ {M : Type 1} (𝓤 : URA M) (H : Heap 𝓤) (A : Atoms 𝓤) (W : Given
     walk : ent 𝓤 (onEntry 𝓤 H A f.signature (κ, (κ′, tt)) (q, (q′, tt)) a vals) (WpFn 𝓤 H (𝓣 .C) (𝓣 .Λ) code.function (flat Ps vals) Post)
     walk =
         qed W (Alive ∷ ‵ (owns Ps a vals) ∷ []) ∵ enters ! (𝓣 .C) (𝓣 .Λ) code.function (flat Ps vals) _ (λ bs. params1 ! $
-        pass1 ! (init ! 56 refl (tt, (tt, (record { fits = room .0 }, tt)))) $ pass1 ! (init ! 54 refl (LL.lawful S.the-type S′.the-laws 𝓤 H A W .typed s _ is .0)) $
-        pass1 ! (init ! 52 refl (tt, (tt, (record { fits = logs-room .0 }, tt)))) $ pass1 ! (init ! 50 refl (tt, (tt, (record { fits = rooms .0 .0 }, tt)))) $
-        pass1 ! (init ! 48 refl (tt, (tt, (record { fits = rooms .1 .0 .0 }, tt)))) $ pass1 ! (init ! 46 refl (tt, (tt, (record { fits = rooms .1 .1 .0 .0 }, tt)))) $
-        pass1 ! (init ! 44 refl (tt, (tt, (record { fits = rooms .1 .1 .1 .0 .0 }, tt)))) $ pass1 ! (init ! 42 refl (tt, (tt, (record { fits = rooms .1 .1 .1 .1 .0 .0 }, tt)))) $
-        pass1 ! (init ! 40 refl (tt, (tt, (record { fits = rooms .1 .1 .1 .1 .1 .0 .0 }, tt)))) $
-        pass1 ! (init ! 38 refl (tt, (tt, (record { fits = rooms .1 .1 .1 .1 .1 .1 .0 .0 }, tt)))) $
-        pass1 ! (init ! 36 refl (tt, (tt, (record { fits = rooms .1 .1 .1 .1 .1 .1 .1 .0 .0 }, tt)))) $ pass0 ! $
+        pass-slice ! 56 (room .0) refl $ pass1 ! (init ! 54 refl (LL.lawful S.the-type S′.the-laws 𝓤 H A W .typed s _ is .0)) $ pass-slice ! 52 (logs-room .0) refl $
+        pass-slice ! 50 (rooms .0 .0) refl $ pass-slice ! 48 (rooms .1 .0 .0) refl $ pass-slice ! 46 (rooms .1 .1 .0 .0) refl $ pass-slice ! 44 (rooms .1 .1 .1 .0 .0) refl $
+        pass-slice ! 42 (rooms .1 .1 .1 .1 .0 .0) refl $ pass-slice ! 40 (rooms .1 .1 .1 .1 .1 .0 .0) refl $ pass-slice ! 38 (rooms .1 .1 .1 .1 .1 .1 .0 .0) refl $
+        pass-slice ! 36 (rooms .1 .1 .1 .1 .1 .1 .1 .0 .0) refl $ pass0 ! $
         -- [_29; …; _0; …; the tokens; what the parameters own]
         again ! 56 34 32 (room .0) refl $ again ! 50 30 28 (rooms .0 .0) refl $ again ! 48 26 24 (rooms .1 .0 .0) refl $ again ! 46 22 20 (rooms .1 .1 .0 .0) refl $
         again ! 44 18 16 (rooms .1 .1 .1 .0 .0) refl $ again ! 42 14 12 (rooms .1 .1 .1 .1 .0 .0) refl $ again ! 40 10 8 (rooms .1 .1 .1 .1 .1 .0 .0) refl $
         again ! 38 6 4 (rooms .1 .1 .1 .1 .1 .1 .0 .0) refl $ again ! 36 2 0 (rooms .1 .1 .1 .1 .1 .1 .1 .0 .0) refl $
         move ! (60 ∷ 61 ∷ []) $ use2 W (raw (Work 𝓤 H A mem run .pre (to-work κ κ′ x s false 0 logs ps δs ys 𝓤 H A mem run q q′))) asks $
         calls-at ! (fmOf 𝓤 H (W .laws) 𝓣) (Work 𝓤 H A mem run) known (to-work κ κ′ x s false 0 logs ps δs ys 𝓤 H A mem run q q′)
-        (and-then ! (local-at ! 33 refl) (and-then ! (local-at ! 55 refl) (and-then ! (false-lit !) (and-then ! (lit ! tt) (and-then ! (local-at ! 53 refl)
-        (and-then ! (local-at ! 29 refl) (and-then ! (local-at ! 25 refl) (and-then ! (local-at ! 21 refl) (and-then ! (local-at ! 17 refl) (and-then ! (local-at ! 13 refl)
-        (and-then ! (local-at ! 9 refl) (and-then ! (local-at ! 5 refl) (and-then ! (local-at ! 1 refl) (no-more !)))))))))))))) (λ w.
+        (also ! 33 refl (also ! 55 refl (and-then ! (false-lit !) (and-then ! (lit ! tt) (also ! 53 refl (also ! 29 refl (also ! 25 refl (also ! 21 refl (also ! 17 refl (also ! 13 refl
+        (also ! 9 refl (also ! 5 refl (also ! 1 refl (no-more !)))))))))))))) (λ w.
         comes-work κ κ′ x s false 0 logs ps δs ys 𝓤 H A mem run q q′ ! tt w (λ r ws e typed.
         -- [the result; the tokens; the last lists; _29; …; _0; …]
         land ! (from ! (stop !)) (init ! 61 refl typed) $ returns ! (look ! 61 refl) $ leaves ! (Left w r ws) piece.locals bs (held w) $ by ! (exits w r ws e))))

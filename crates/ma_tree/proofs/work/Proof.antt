@@ -1,7 +1,6 @@
--- `work` meets its contract: a walk of its MIR, by hand. Three local arrays are number lists (`Zeros.antt`), to which the records are copied (`Copying.antt`). They are lent to `work_on`,
--- to which the
--- caller's eight lists are passed on for good, and then to `to_records`, to which the records are passed on for good. From the functions that it calls it takes only that they meet their
--- contracts.
+-- `work` meets its contract: a walk of its MIR, by hand. Three local arrays are number lists (`Zeros.antt`), to which the records are copied (`Copying.antt`). They are lent to
+-- `work_on`, to which the caller's eight lists are passed on for good, and then to `to_records`, to which the records are passed on for good. From the functions that it calls it takes
+-- only that they meet their contracts.
 -- Assumes nothing.
 use mathlib.Core.Path.{_≡_, refl, sym, _∙_, subst}
 use Prim.Native.Nat.{ℕ, _<_, _^_}
@@ -27,7 +26,7 @@ use contract.Running.{givenOf, tables, tablesOf}
 use types.Kit.{Given, Item, ‵, raw, _⊛_, some as each-of, later, given, ⋆, put, atRet, runs, Sq, _$_, _∵_, !, qed, by, move, drop, use1, use2, use3, split, join, pick, learn, fsplit, fjoin}
 use types.Kit.{suffices, frame, await, done}
 use types.Part.{rep}
-use types.Run.{look, init, store, stop, from, lit, float-lit, of-opd, and-then, no-more, land, returns, params1, pass1, pass0}
+use types.Run.{look, init, store, stop, from, lit, float-lit, of-opd, no-more, land, returns, params1, pass1, pass0}
 use types.Tokens.{lft-new, lft-end}
 use sound.WpLaws.{fmOf}
 use denote.RattleType.{RattleType, Denots, flat, owns}
@@ -71,7 +70,7 @@ use Rattle.ma_tree.proofs.Copied.{copied-fits, copied-long, has-places,
 use Rattle.ma_tree.proofs.Copying.{ToCopy, of-room, counts, counted, FromRecords, to-take, Seen, holding, holding-lens, copies-in, comes-out}
 use Rattle.ma_tree.proofs.Passing.{Es, listed}
 use Rattle.ma_tree.proofs.Said.{all-said, SaidPost, SaidWalks, said-ends, said-meets, unasked}
-use Rattle.ma_tree.proofs.Slices.{again, of-array, take, give, slices, again-all, spots, names, nows, spells, tells, roomy}
+use Rattle.ma_tree.proofs.Slices.{pass-slice, also, again, of-array, take, give, slices, again-all, spots, names, nows, spells, tells, roomy}
 use Rattle.ma_tree.proofs.Zeros.{As, zeros, zeros-long, zeros-room, words-count, values-count, costs-count, same-long, places, words-typed, values-typed, costs-typed, arrays-rows}
 use Rattle.ma_tree.proofs.Zeros.{vacant, rows-rooms}
 use Rattle.ma_tree.proofs.answers.LearnedTree as L
@@ -254,8 +253,7 @@ module _ {M : Type 1} (𝓤 : URA M) (H : Heap 𝓤) (A : Atoms 𝓤) (W : Given
         move ! (7 ∷ 2 ∷ []) $ join ! $ move ! (0 ∷ 6 ∷ 1 ∷ []) $ use3 W (raw (ToRecords 𝓤 H A mem run .pre (back zs at ξ ζs))) (asked-back zs at ξ ζs long) $
         -- [what is asked; the lender's parts; the result; the lists' token; their last lists; _58; …; _0; …]
         calls-at ! (fmOf 𝓤 H (W .laws) 𝓣) (ToRecords 𝓤 H A mem run) back-known (back zs at ξ ζs)
-        (and-then ! (local-at ! 17 refl) (and-then ! (local-at ! 85 refl) (and-then ! (local-at ! 13 refl) (and-then ! (local-at ! 9 refl) (and-then ! (local-at ! 5 refl)
-        (no-more !)))))) (λ v.
+        (also ! 17 refl (also ! 85 refl (also ! 13 refl (also ! 9 refl (also ! 5 refl (no-more !)))))) (λ v.
         use1 W (later (each-of (λ (r′ : Unit {0}). ((‵ (flft κ q) ⊛ (‵ (flft (ξ ∷ []) fullShare) ⊛ ‵ ftrue)) ⊛ ‵ (Nothing .own r′ (v ∷ [])))
         ⊛ raw (ensured 𝓤 H A to-records.ended (to-records.clauses 𝓤 H A mem run) (κ, (ξ ∷ [], tt)) (x, (n, shown zs at ξ ζs)) tt r′)))) (id⊢ 𝓤 _) $ await ! tt $ pick ! (λ r′. split ! $
         move ! (1 ∷ []) $
@@ -289,10 +287,8 @@ module _ {M : Type 1} (𝓤 : URA M) (H : Heap 𝓤) (A : Atoms 𝓤) (W : Given
         move ! (7 ∷ 2 ∷ []) $ join ! $ move ! (1 ∷ 6 ∷ []) $ join ! $ move ! (1 ∷ 5 ∷ 0 ∷ []) $ use3 W (raw (WorkOn 𝓤 H A mem run .pre (to at ν εs))) (asked at ν εs) $
         -- [what is asked; the lender's parts; the records; their token; _58; …; _0; …]
         calls-at ! (fmOf 𝓤 H (W .laws) 𝓣) (WorkOn 𝓤 H A mem run) known (to at ν εs)
-        (and-then ! (local-at ! 86 refl) (and-then ! (local-at ! 84 refl) (and-then ! (local-at ! 116 refl) (and-then ! (local-at ! 114 refl) (and-then ! (local-at ! 112 refl)
-        (and-then ! (local-at ! 110 refl) (and-then ! (local-at ! 60 refl) (and-then ! (local-at ! 56 refl) (and-then ! (local-at ! 52 refl) (and-then ! (local-at ! 48 refl)
-        (and-then ! (local-at ! 44 refl) (and-then ! (local-at ! 40 refl) (and-then ! (local-at ! 36 refl) (and-then ! (local-at ! 32 refl) (and-then ! (local-at ! 28 refl)
-        (and-then ! (local-at ! 24 refl) (and-then ! (local-at ! 20 refl) (no-more !)))))))))))))))))) (λ w.
+        (also ! 86 refl (also ! 84 refl (also ! 116 refl (also ! 114 refl (also ! 112 refl (also ! 110 refl (also ! 60 refl (also ! 56 refl (also ! 52 refl (also ! 48 refl
+        (also ! 44 refl (also ! 40 refl (also ! 36 refl (also ! 32 refl (also ! 28 refl (also ! 24 refl (also ! 20 refl (no-more !)))))))))))))))))) (λ w.
         use1 W (later (each-of (λ (r : LearnedTree). ((‵ (flft κ′ q′) ⊛ (‵ (flft (ν ∷ []) fullShare) ⊛ ‵ ftrue)) ⊛ ‵ (L.the-row .own r (w ∷ [])))
         ⊛ raw (ensured 𝓤 H A work-on.ended (work-on.clauses 𝓤 H A mem run) (κ′, (ν ∷ [], tt)) (handed at ν εs) tt r)))) (id⊢ 𝓤 _) $ await ! tt $ pick ! (λ r. split ! $ move ! (1 ∷ []) $
         use1 W (each-of (λ (ws : Last at ν εs). ‵ (lasts work-on.ended (κ′, (ν ∷ [], tt)) (handed at ν εs) ws) ⊛ raw (fact 𝓤 (Done at ν εs r ws)))) (id⊢ 𝓤 _) $ pick ! (λ ws.
@@ -314,13 +310,11 @@ module _ {M : Type 1} (𝓤 : URA M) (H : Heap 𝓤) (A : Atoms 𝓤) (W : Given
       qed W ((‵ (flft κ q) ⊛ (‵ (flft κ′ q′) ⊛ ‵ ftrue)) ∷ ‵ (owns Ps a vals) ∷ []) ∵ enters ! (𝓣 .C) (𝓣 .Λ) code.function (flat Ps vals) _ (λ bs.
       let place : Spots As = places piece.locals bs 14 in
       params1 ! $
-      pass1 ! (init ! 114 refl (tt, (tt, (record { fits = room .0 }, tt)))) $ pass1 ! (init ! 112 refl (LL.lawful S.the-type S′.the-laws 𝓤 H A W .typed s _ s-is .0)) $
-      pass1 ! (init ! 110 refl (tt, tt)) $ pass1 ! (init ! 108 refl (tt, record { fits = count-fits })) $ pass1 ! (init ! 106 refl (tt, (tt, (record { fits = logs-room .0 }, tt)))) $
-      pass1 ! (init ! 104 refl (tt, (tt, (record { fits = rooms .0 .0 }, tt)))) $ pass1 ! (init ! 102 refl (tt, (tt, (record { fits = rooms .1 .0 .0 }, tt)))) $
-      pass1 ! (init ! 100 refl (tt, (tt, (record { fits = rooms .1 .1 .0 .0 }, tt)))) $ pass1 ! (init ! 98 refl (tt, (tt, (record { fits = rooms .1 .1 .1 .0 .0 }, tt)))) $
-      pass1 ! (init ! 96 refl (tt, (tt, (record { fits = rooms .1 .1 .1 .1 .0 .0 }, tt)))) $ pass1 ! (init ! 94 refl (tt, (tt, (record { fits = rooms .1 .1 .1 .1 .1 .0 .0 }, tt)))) $
-      pass1 ! (init ! 92 refl (tt, (tt, (record { fits = rooms .1 .1 .1 .1 .1 .1 .0 .0 }, tt)))) $
-      pass1 ! (init ! 90 refl (tt, (tt, (record { fits = rooms .1 .1 .1 .1 .1 .1 .1 .0 .0 }, tt)))) $ pass0 ! $
+      pass-slice ! 114 (room .0) refl $ pass1 ! (init ! 112 refl (LL.lawful S.the-type S′.the-laws 𝓤 H A W .typed s _ s-is .0)) $ pass1 ! (init ! 110 refl (tt, tt)) $
+      pass1 ! (init ! 108 refl (tt, record { fits = count-fits })) $ pass-slice ! 106 (logs-room .0) refl $ pass-slice ! 104 (rooms .0 .0) refl $
+      pass-slice ! 102 (rooms .1 .0 .0) refl $ pass-slice ! 100 (rooms .1 .1 .0 .0) refl $ pass-slice ! 98 (rooms .1 .1 .1 .0 .0) refl $
+      pass-slice ! 96 (rooms .1 .1 .1 .1 .0 .0) refl $ pass-slice ! 94 (rooms .1 .1 .1 .1 .1 .0 .0) refl $ pass-slice ! 92 (rooms .1 .1 .1 .1 .1 .1 .0 .0) refl $
+      pass-slice ! 90 (rooms .1 .1 .1 .1 .1 .1 .1 .0 .0) refl $ pass0 ! $
       to-local ! 88 (rep ! 40955 (lit ! tt)) refl (words-typed 𝓤 H A W) $ to-local ! 86 (rep ! 16382 (lit ! tt)) refl (values-typed 𝓤 H A W) $
       to-local ! 84 (rep ! 8191 (float-lit ! tt)) refl (costs-typed 𝓤 H A W) $
       -- [_58; …; _0; …; the tokens; what the parameters own]
@@ -329,7 +323,7 @@ module _ {M : Type 1} (𝓤 : URA M) (H : Heap 𝓤) (A : Atoms 𝓤) (W : Given
       -- [logs; the lists; the records; the lists' token; the records' token; _58; …; _0; …]: the arrays are rows
       take ! 93 $ take ! 92 $ take ! 91 $ use3 W (‵ (rows As place zeros)) (arrays-rows 𝓤 H A W piece.locals bs 14) $
       to-local ! 88 (of-opd ! (count-of ! 120 refl refl)) refl (tt, record { fits = room .0 }) $ counts ! mem run (length (x .now)) (room .0) $
-      calls-at ! (fmOf 𝓤 H (W .laws) 𝓣) (ToCopy 𝓤 H A mem run) counted-known (of-room 𝓤 H A mem run (length (x .now))) (and-then ! (local-at ! 89 refl) (no-more !)) (λ v.
+      calls-at ! (fmOf 𝓤 H (W .laws) 𝓣) (ToCopy 𝓤 H A mem run) counted-known (of-room 𝓤 H A mem run (length (x .now))) (also ! 89 refl (no-more !)) (λ v.
       counted ! mem run (length (x .now)) v $ land ! (from ! (stop !)) (init ! 86 refl (tt, record { fits = copied-fits (length (x .now)) })) $
       -- the records are opened, and lent as `&` for a lifetime μ
       move ! (3 ∷ 5 ∷ []) $ nothing ! $ move ! (1 ∷ 0 ∷ []) $ fjoin ! $ use2 W (later (‵ (rows Ns (x .ptr, tt) (x .now, tt)) ⊛ ‵ (opened-one Ns κ q (x .ptr, tt) (x .name, tt) (x .now, tt))))
@@ -341,8 +335,7 @@ module _ {M : Type 1} (𝓤 : URA M) (H : Heap 𝓤) (A : Atoms 𝓤) (W : Given
       move ! (4 ∷ 2 ∷ 0 ∷ []) $ copies-in ! tt mem run (μ ∷ []) fullShare (seen (ζs .0)) place (λ ν εs.
       -- [what is asked; the arrays' lender's parts; the records' lender's part; what closes them; logs; the lists; the lists' token; _58; …; _0; …]
       calls-at ! (fmOf 𝓤 H (W .laws) 𝓣) (FromRecords 𝓤 H A mem run) copied-known (to-take (μ ∷ []) fullShare (seen (ζs .0)) place ν εs 𝓤 H A mem run)
-      (and-then ! (local-at ! 79 refl) (and-then ! (local-at ! 87 refl) (and-then ! (local-at ! 75 refl) (and-then ! (local-at ! 71 refl) (and-then ! (local-at ! 67 refl)
-      (no-more !)))))) (λ u.
+      (also ! 79 refl (also ! 87 refl (also ! 75 refl (also ! 71 refl (also ! 67 refl (no-more !)))))) (λ u.
       comes-out ! tt mem run (μ ∷ []) fullShare (seen (ζs .0)) place ν εs u (λ typed.
       -- [the rows; μ's token; the records' lender's part; what closes them; logs; the lists; the lists' token; _58; …; _0; …]
       move ! (1 ∷ []) $ lft-end ! tt $ move ! (0 ∷ 2 ∷ []) $ use2 W (later (‵ (rows Ns (x .ptr, tt) (x .now, tt)))) (back-shared 𝓤 H A W Ns (μ ∷ []) (x .ptr, tt) (x .now, tt)) $ await ! tt $
