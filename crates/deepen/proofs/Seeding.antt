@@ -28,10 +28,10 @@ use Rattle.leaf.proofs.Making.{uses-still}
 use Rattle.finish.specs.Finished.{FinishedTo}
 use Rattle.finish.specs.declared.Finished.{Finished}
 use Rattle.rows.proofs.Cells.{length-held}
-use Rattle.grow.specs.Grows.{jobIn, Grows, Growable}
+use Rattle.state.specs.Grows.{jobIn, Grows, Growable}
 use Rattle.lent.specs.Lists.{Lists, lentIn}
 use Rattle.lent.proofs.Read.{room-read}
-use Rattle.learn.proofs.Accepting.{accepted-fitting, accepted-plantable}
+use Rattle.start.proofs.Accepting.{accepted-fitting, accepted-plantable}
 use Rattle.seed.specs.Ordered.{seedIn}
 use Rattle.seed.specs.Seeded.{Seedable, Seeded, splitsOf}
 use Rattle.seed.specs.declared.Planted.{Planted}

@@ -16,7 +16,7 @@ use Rattle.checks.specs.declared.Settings.{Settings}
 use Rattle.checks.proofs.Passed.{Accepted}
 use Rattle.layout.specs.Tree.{NodeLists}
 use Rattle.rows.specs.Flat.{Flat, heldIn}
-use Rattle.grow.specs.Grows.{jobIn}
+use Rattle.state.specs.Grows.{jobIn}
 use Rattle.lent.specs.Lists.{Lists, lentIn}
 use Rattle.seed.specs.Ordered.{seedIn}
 

@@ -10,14 +10,14 @@ ghost use Rattle.layout.specs.Waiting.{queueLists};
 ghost use Rattle.lent.specs.Lists.{lists, lentIn, listsAfter, deepenLists, clearQueue};
 ghost use Rattle.rows.specs.Flat.{flat};
 ghost use Rattle.finish.specs.Finished.{FinishedTo};
-ghost use Rattle.learn.specs.Answer.{outcomeOf, after};
+ghost use Rattle.lent.specs.Answer.{outcomeOf, after};
 ghost use Rattle.seed.specs.Seeded.{Seedable};
 ghost use Rattle.deepen.specs.Deepens.{deepenedIn, Passing, Deepenable};
 use checks::Check;
 use checks::Rooms;
 use checks::Settings;
 use finish::Finished;
-use learn::Learned;
+use lent::Learned;
 use tree::answers::Fault;
 
 // How many leaves the limit leaves room for: none where the seed has as many already.
@@ -129,7 +129,7 @@ fn deepen_rows(
         (queueLists (now («queue_words» .entry)) (now («queue_values» .entry)) (now («queue_gains» .entry))) (now (counts .entry))) ⌝ }
 {
     cost::clear(counts);
-    let flat = learn::flat_bits(props, tok, counts, logs, s, rows);
+    let flat = start::flat_bits(props, tok, counts, logs, s, rows);
     let made = grow_from_seed(
         props,
         tok,

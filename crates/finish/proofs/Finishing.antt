@@ -42,12 +42,13 @@ use Rattle.rows.proofs.Cells.{length-held}
 use Rattle.rows.proofs.Shapes.{size-same, size-then, count-still}
 use Rattle.layout.specs.Waiting.{QueueLists, SameQueue}
 use Rattle.layout.proofs.Held.{room-fewer}
-use Rattle.leaf.specs.Fitting.{usesOf, Fitting}
-use Rattle.grow.specs.Grows.{jobIn, Number, Grows, GrownTo}
+use Rattle.state.specs.Fitting.{usesOf, Fitting}
+use Rattle.state.specs.Grows.{jobIn, Number, Grows}
+use Rattle.grow.specs.Grown.{GrownTo}
 use Rattle.finish.specs.Finished.{cutTree, cutBits, withVacated, Cut, Grew, FinishedTo}
 use Rattle.grow.specs.declared.Grown.{Grown}
 use Rattle.finish.specs.declared.Finished.{Finished}
-use Rattle.grow.proofs.Numbers.{nought-number, evaluated-number, job-fits}
+use Rattle.state.proofs.Numbers.{nought-number, evaluated-number, job-fits}
 use Rattle.leaf.proofs.Making.{residuals-given, uses-still}
 
 -- ---- pruning, or not

@@ -20,8 +20,9 @@ use Rattle.checks.specs.declared.Settings.{Settings}
 use Rattle.layout.specs.Tree.{NodeLists, holding, HasRoom}
 use Rattle.lent.specs.Lists.{nodesAfter}
 use Rattle.rows.specs.Flat.{Flat, flat, heldIn, rowCount, SameSize}
-use Rattle.leaf.specs.Fitting.{usesOf}
-use Rattle.grow.specs.Grows.{Number, GrownTo}
+use Rattle.state.specs.Fitting.{usesOf}
+use Rattle.state.specs.Grows.{Number}
+use Rattle.grow.specs.Grown.{GrownTo}
 use Rattle.grow.specs.declared.Grown.{Grown}
 use Rattle.finish.specs.declared.Finished.{Finished}
 

@@ -26,7 +26,7 @@ use Rattle.rows.specs.Cells.{span}
 use Rattle.rows.specs.Flat.{Flat, rowCount}
 use Rattle.rows.proofs.Cells.{length-held}
 use Rattle.grow.specs.Parts.{PendingAt, RowsFit}
-use Rattle.grow.specs.Grows.{jobIn, Number, Grows}
+use Rattle.state.specs.Grows.{jobIn, Number, Grows}
 use Rattle.grow.specs.declared.Pending.{Pending}
 
 -- the rows of the state are those that the lists hold

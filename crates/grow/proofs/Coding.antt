@@ -20,7 +20,7 @@ use Rattle.layout.specs.Waiting.{QueueLists, Queued, SameQueue, queueOf, withou
 use Rattle.rows.specs.Cells.{span}
 use Rattle.rows.specs.Flat.{Flat}
 use Rattle.grow.specs.Parts.{PendingAt, RowsSplit, splitNodes}
-use Rattle.grow.specs.Grows.{jobIn, Number, Grows}
+use Rattle.state.specs.Grows.{jobIn, Number, Grows}
 use Rattle.grow.specs.declared.Pending.{Pending}
 use Rattle.grow.specs.declared.Sides.{Sides}
 use Rattle.grow.proofs.Choosing as choosing

@@ -23,9 +23,10 @@ use Rattle.layout.proofs.Held.{SameLengths}
 use Rattle.layout.proofs.Queue.{choice-is, choice-none, same-queue}
 use Rattle.rows.specs.Flat.{Flat, SameSize}
 use Rattle.rows.proofs.Shapes.{size-same, size-then}
-use Rattle.leaf.specs.Fitting.{Fitting}
+use Rattle.state.specs.Fitting.{Fitting}
 use Rattle.leaf.proofs.Making.{uses-still}
-use Rattle.grow.specs.Grows.{jobIn, Grows, Growable, Splits, GrownTo}
+use Rattle.state.specs.Grows.{jobIn, Grows, Growable}
+use Rattle.grow.specs.Grown.{Splits, GrownTo}
 
 -- ---- the loop's test
 pub both-true : (m n : ℕ) → (ltb 0 m && ltb 0 n) ≡ true → (0 < m) × (0 < n)

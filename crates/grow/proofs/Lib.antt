@@ -1,8 +1,6 @@
--- For callers: `Numbers` has what the model's laws on steps ask of a job.
--- For the functions here: `Parting` and `Dividing`: the rows of a split. `Choosing`: the leaf that is split. `Stepping`: one split of the code is one step of
+-- `Parting` and `Dividing`: the rows of a split. `Choosing`: the leaf that is split. `Stepping`: one split of the code is one step of
 -- the model; `Coding`: the same in the code's words. `Growth`: the loop.
 pub mod Parting
-pub mod Numbers
 pub mod Dividing
 pub mod Choosing
 pub mod Stepping

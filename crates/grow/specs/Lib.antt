@@ -1,3 +1,3 @@
--- `Grows`: what growth asks for and leaves. `Parts`: what the parts of one split leave.
+-- `Grown`: one split to make, and what growth leaves. `Parts`: what the parts of one split leave.
 pub mod Parts
-pub mod Grows
+pub mod Grown

@@ -17,7 +17,8 @@ ghost use Rattle.layout.specs.Waiting.{queueLists, Queued, QueueRoom, SameQueue
 ghost use Rattle.rows.specs.Cells.{span};
 ghost use Rattle.rows.specs.Flat.{flat};
 ghost use Rattle.grow.specs.Parts.{PendingAt, RowsFit, RowsSplit, splitNodes};
-ghost use Rattle.grow.specs.Grows.{jobIn, Number, Grows, Growable, Splits, GrownTo};
+ghost use Rattle.state.specs.Grows.{jobIn, Number, Grows, Growable};
+ghost use Rattle.grow.specs.Grown.{Splits, GrownTo};
 use checks::Settings;
 use layout::Leaf;
 use layout::NodeInfo;

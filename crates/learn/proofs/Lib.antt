@@ -1,5 +1,2 @@
--- `Accepting`: what the checks ensure. `Flatly`: flat bits. `Planting`: the root. `Answering`: rooms.
+-- `Planting`: the root.
 pub mod Planting
-pub mod Flatly
-pub mod Accepting
-pub mod Answering

@@ -39,11 +39,11 @@ use Rattle.rows.proofs.Shapes.{count-still, size-then}
 use Rattle.model.specs.Learn.{Result}
 use Rattle.finish.specs.Finished.{FinishedTo}
 use Rattle.finish.specs.declared.Finished.{Finished}
-use Rattle.leaf.specs.Fitting.{usesOf, Fitting, LeafFits}
+use Rattle.state.specs.Fitting.{usesOf, Fitting, LeafFits}
 use Rattle.leaf.specs.Made.{MadeLeaf}
-use Rattle.grow.proofs.Numbers.{evaluated-number}
-use Rattle.grow.specs.Grows.{jobIn, Number, Grows}
-use Rattle.learn.specs.Learns.{Plantable}
+use Rattle.state.proofs.Numbers.{evaluated-number}
+use Rattle.state.specs.Grows.{jobIn, Number, Grows}
+use Rattle.start.specs.Starts.{Plantable}
 use Rattle.model.proofs.Invariant.{Invariant}
 use Rattle.leaf.proofs.Making.{uses-still, made-fitting}
 

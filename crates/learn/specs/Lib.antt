@@ -1,3 +1,2 @@
--- `Answer`: the answer in the numbers and values of document 01. `Learns`: what the parts ask for.
-pub mod Answer
+-- `Learns`: what learning asks for and makes.
 pub mod Learns

@@ -1,10 +1,6 @@
 // Learning a tree from rows in lent lists (document 01; the Rust's `learn_ma_tree_in_place`): the checks, flat bits, the root, growth, pruning and settling.
 ghost use mathlib.Core.Path.{_≡_};
-ghost use mathlib.Core.List.{List};
 ghost use Prim.Native.Nat.{_-_};
-ghost use lib.IntN.{ℤ};
-ghost use Rattle.model.specs.Flat.{flatBits};
-ghost use Rattle.model.specs.Rows.{rowsHeld};
 ghost use Rattle.model.specs.Profile.{single};
 ghost use Rattle.model.specs.Learn.{rootState};
 ghost use Rattle.model.specs.Operations.{learn, treeOf, accepted};
@@ -14,28 +10,16 @@ ghost use Rattle.layout.specs.Tree.{nodeLists};
 ghost use Rattle.layout.specs.Waiting.{queueLists};
 ghost use Rattle.lent.specs.Lists.{lists, lentIn, listsAfter, learnLists, clearQueue};
 ghost use Rattle.rows.specs.Flat.{flat, heldIn};
-ghost use Rattle.learn.specs.Answer.{outcomeOf, after};
-ghost use Rattle.grow.specs.Grows.{jobIn, Number, Grows};
+ghost use Rattle.lent.specs.Answer.{outcomeOf, after};
+ghost use Rattle.state.specs.Grows.{jobIn, Number, Grows};
 ghost use Rattle.finish.specs.Finished.{FinishedTo};
-ghost use Rattle.learn.specs.Learns.{Plantable, Flattened, resultIn, Learnable};
+ghost use Rattle.start.specs.Starts.{Plantable, Flattened};
+ghost use Rattle.learn.specs.Learns.{resultIn, Learnable};
 use checks::Check;
 use checks::Rooms;
 use checks::Settings;
 use finish::Finished;
-
-// The answer: how many nodes and leaves the tree has, its estimated bits and the flat bits; or a refusal, with the place that it names.
-pub enum Learned {
-    Grown {
-        nodes: u32,
-        leaves: u32,
-        bits: f64,
-        flat: f64,
-    },
-    Refused {
-        number: u32,
-        place: u32,
-    },
-}
+use lent::Learned;
 
 // The root's place in the queue, if it waits, and its cost.
 struct Planted {
@@ -167,33 +151,6 @@ fn grow_from_root(
     )
 }
 
-// Flat bits of the rows as first given. The counts are zero, before and after.
-pub fn flat_bits(
-    props: &[i32],
-    tok: &[u8],
-    counts: &mut [u32],
-    logs: &[f32],
-    s: Settings,
-    rows: usize,
-) -> f64
-    requires { ⌜ Flattened s (now logs) (now counts) (now props) (now tok) rows ⌝ }
-    ensures { λ r. ⌜ ((rs : List ℤ) → r ≡ flatBits (settingsOf s) (now (logs .entry)) (rowsHeld (now (props .entry)) (now (tok .entry)) rs)) ⌝ }
-    ensures { λ _. ⌜ now (counts .exit) ≡ now (counts .entry) ⌝ }
-{
-    let alphabet = s.alphabet as usize;
-    let wide = 56 * alphabet;
-    cost::flat_cost(
-        props,
-        tok,
-        rows,
-        alphabet,
-        s.allow_wp,
-        s.allowed_preds as u32,
-        logs,
-        &mut counts[..wide],
-    )
-}
-
 // What follows once the checks have passed.
 fn learn_rows(
     props: &mut [i32],
@@ -223,7 +180,7 @@ fn learn_rows(
         (queueLists (now («queue_words» .entry)) (now («queue_values» .entry)) (now («queue_gains» .entry))) (now (counts .entry))) ⌝ }
 {
     cost::clear(counts);
-    let flat = flat_bits(props, tok, counts, logs, s, rows);
+    let flat = start::flat_bits(props, tok, counts, logs, s, rows);
     let made = grow_from_root(
         props,
         tok,

@@ -5,7 +5,7 @@ ghost use Prim.Native.Nat.{_≤_};
 mod rooms;
 
 use checks::Settings;
-use learn::Learned;
+use lent::Learned;
 use tally::Tally;
 use tally::report;
 

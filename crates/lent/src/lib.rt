@@ -1,7 +1,21 @@
-// The lent lists of learning and deepening as one value (specs/), and how many entries of nodes, spans and queue they make.
+// The lent lists of learning and deepening as one value (specs/), how many entries of nodes and queue they make, and what both answer.
 ghost use mathlib.Core.Path.{_≡_};
 ghost use Prim.Native.Nat.{_/_, min};
 ghost use Rattle.lent.specs.Lists.{nodesLent, leavesLent};
+
+// The answer: how many nodes and leaves the tree has, its estimated bits and the flat bits; or a refusal, with the place that it names.
+pub enum Learned {
+    Grown {
+        nodes: u32,
+        leaves: u32,
+        bits: f64,
+        flat: f64,
+    },
+    Refused {
+        number: u32,
+        place: u32,
+    },
+}
 
 const NODE_WORDS: usize = 5;
 

@@ -24,8 +24,8 @@ use Rattle.model.proofs.SingleLawful.{single-lawful}
 use Rattle.model.proofs.Places.{length-each}
 use Rattle.lent.specs.Lists.{spansLent, spanAt, storedSpans}
 use Rattle.lent.proofs.Read.{spans-read, queue-read}
-use Rattle.learn.specs.Answer.{outcomeOf, after}
-use Rattle.learn.specs.declared.Learned.{Learned}
+use Rattle.lent.specs.Answer.{outcomeOf, after}
+use Rattle.lent.specs.declared.Learned.{Learned}
 use Rattle.records.specs.Records.{storedOf}
 use Rattle.ma_tree.specs.declared.answers.LearnedTree.{LearnedTree}
 use Rattle.ma_tree.specs.Answers.{treeIn as treeAnswer}

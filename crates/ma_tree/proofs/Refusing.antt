@@ -13,8 +13,8 @@ use Rattle.checks.specs.declared.Check.the-variants.{Pass, Refused}
 use Rattle.checks.proofs.Passed.{deepening, deepen-passed, deepen-refused}
 use Rattle.model.proofs.Places.{length-each}
 use Rattle.lent.specs.Lists.{spansLent, leavesLent, spanAt, waitingAt, storedSpans, storedQueue}
-use Rattle.learn.specs.Answer.{after}
-use Rattle.learn.specs.declared.Learned.the-variants.{Refused as Denied}
+use Rattle.lent.specs.Answer.{after}
+use Rattle.lent.specs.declared.Learned.the-variants.{Refused as Denied}
 use Rattle.records.specs.Records.{storedOf}
 use Rattle.ma_tree.specs.Lists.{Lists, lentIn, deepenRecords}
 use Rattle.ma_tree.proofs.Rooms.{too-many}

@@ -23,8 +23,8 @@ use Rattle.layout.specs.Tree.{nodeLists}
 use Rattle.layout.specs.Waiting.{QueueLists}
 use Rattle.rows.specs.Flat.{Flat}
 use Rattle.model.proofs.Places.{length-each, each-written}
-use Rattle.learn.specs.Answer.{after}
-use Rattle.learn.specs.declared.Learned.{Learned}
+use Rattle.lent.specs.Answer.{after}
+use Rattle.lent.specs.declared.Learned.{Learned}
 use Rattle.lent.specs.Lists as core
 use Rattle.lent.proofs.Read.{learn-read, deepen-read}
 use Rattle.records.specs.Records.{storedOf, recordOf, noRecord, nodeOf, filled}

@@ -10,7 +10,7 @@ ghost use Rattle.checks.specs.Given.{settingsOf};
 ghost use Rattle.layout.specs.Waiting.{queueLists};
 ghost use Rattle.records.specs.Records.{storedOf, nodeOf, filled};
 ghost use Rattle.records.specs.declared.MaNode.{MaNode};
-ghost use Rattle.learn.specs.Answer.{after};
+ghost use Rattle.lent.specs.Answer.{after};
 ghost use Rattle.layout.specs.Layout.{wordsPerNode, valuesPerNode};
 ghost use Rattle.model.specs.Settings.{maxNodes};
 ghost use Rattle.ma_tree.specs.Answers.{countIn};
@@ -22,7 +22,7 @@ use crate::answers::LearnedTree;
 use checks::Check;
 use checks::Rooms;
 use checks::Settings;
-use learn::Learned;
+use lent::Learned;
 
 // Most nodes of a tree.
 const MAX_NODES: usize = 8191;

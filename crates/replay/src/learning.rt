@@ -17,7 +17,7 @@ use crate::parts;
 use crate::rooms;
 use crate::trees;
 use checks::Settings;
-use learn::Learned;
+use lent::Learned;
 
 // Where the lists of a job start, and what stands behind them.
 struct Places {

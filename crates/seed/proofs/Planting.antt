@@ -41,9 +41,9 @@ use Rattle.rows.specs.Flat.{Flat, heldIn, rowCount, Spanned}
 use Rattle.rows.proofs.Cells.{span-length}
 use Rattle.rows.proofs.Shapes.{size-same}
 use Rattle.tree.specs.Trees.{nodeAt}
-use Rattle.grow.proofs.Numbers.{evaluated-number}
+use Rattle.state.proofs.Numbers.{evaluated-number}
 use Rattle.seed.specs.declared.Sum.{Sum}
-use Rattle.leaf.specs.Fitting.{usesOf, Fitting}
+use Rattle.state.specs.Fitting.{usesOf, Fitting}
 use Rattle.leaf.specs.Made.{settledAt, MadeLeaf}
 use Rattle.seed.specs.Sown.{Sown, infoAt, keptNode, LeafPlanted, NextIs, NodePlanted}
 use Rattle.leaf.proofs.Making.{uses-still, made-fitting}

@@ -48,11 +48,11 @@ use Rattle.rows.specs.Cells.{span}
 use Rattle.rows.specs.Flat.{Flat, heldIn, rowCount, SameSize}
 use Rattle.rows.proofs.Cells.{length-held, tok-held}
 use Rattle.rows.proofs.Shapes.{size-then, count-still}
-use Rattle.grow.proofs.Numbers.{evaluated-number}
+use Rattle.state.proofs.Numbers.{evaluated-number}
 use Rattle.seed.specs.declared.Sum.{Sum}
 use Rattle.seed.specs.declared.Planted.{Planted}
-use Rattle.leaf.specs.Fitting.{usesOf, Fitting}
-use Rattle.grow.specs.Grows.{jobIn, Number, Grows}
+use Rattle.state.specs.Fitting.{usesOf, Fitting}
+use Rattle.state.specs.Grows.{jobIn, Number, Grows}
 use Rattle.seed.specs.Ordered.{seedIn, numbersIn, Orderable, OrderedBy}
 use Rattle.seed.specs.Sown.{seededTo, Plants, Plantable, PlantedTo}
 use Rattle.seed.specs.Seeded.{splitsOf, Seedable, Seeded}

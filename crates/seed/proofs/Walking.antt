@@ -40,7 +40,7 @@ use Rattle.tree.specs.Trees.{nodeAt, OfTree, SoundTree}
 use Rattle.tree.proofs.Soundness.{few}
 use Rattle.tree.proofs.Entries.{nodes-each}
 use Rattle.seed.specs.declared.Sum.{Sum}
-use Rattle.leaf.specs.Fitting.{usesOf}
+use Rattle.state.specs.Fitting.{usesOf}
 use Rattle.seed.specs.Ordered.{seedIn, DepthsFit}
 use Rattle.seed.specs.Sown.{seededTo, Sown, infoAt, NodeFits, NextIs, NodePlanted, Plants, PlantedTo}
 use Rattle.seed.proofs.SeedLists.{seed-length, nodes-in, nodes-length, record-in, node-in, sound-tree, seed-few}

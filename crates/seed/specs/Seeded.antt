@@ -17,8 +17,8 @@ use Rattle.checks.specs.declared.Settings.{Settings}
 use Rattle.layout.specs.Tree.{NodeLists, HasRoom}
 use Rattle.layout.specs.Waiting.{QueueLists, QueueRoom, SameQueue}
 use Rattle.rows.specs.Flat.{Flat, heldIn, rowCount, SameSize}
-use Rattle.leaf.specs.Fitting.{Fitting}
-use Rattle.grow.specs.Grows.{jobIn, Grows}
+use Rattle.state.specs.Fitting.{Fitting}
+use Rattle.state.specs.Grows.{jobIn, Grows}
 use Rattle.seed.specs.Ordered.{seedIn}
 use Rattle.seed.specs.declared.Planted.{Planted}
 

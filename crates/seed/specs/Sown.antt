@@ -31,7 +31,7 @@ use Rattle.order.specs.Leaves.{leafNumbers}
 use Rattle.rows.specs.Cells.{span}
 use Rattle.rows.specs.Flat.{Flat, heldIn, rowCount, Spanned, SameSize}
 use Rattle.tree.specs.Trees.{nodeAt}
-use Rattle.leaf.specs.Fitting.{usesOf, Fitting}
+use Rattle.state.specs.Fitting.{usesOf, Fitting}
 use Rattle.leaf.specs.Made.{MadeLeaf}
 use Rattle.seed.specs.Ordered.{seedIn}
 use Rattle.seed.specs.declared.Sum.{Sum}

@@ -13,7 +13,7 @@ use Rattle.checks.proofs.Passed.{deepen-passed, deepen-refused}
 use Rattle.lent.specs.Lists.{Lists, lists, lentIn, deepenLists}
 use Rattle.lent.proofs.Read.{deepen-read}
 use Rattle.lent.proofs.Answered.{refused-lists, both}
-use Rattle.learn.proofs.Answering.{lends-rooms}
+use Rattle.lent.proofs.Rooms.{lends-rooms}
 use Rattle.deepen.specs.Deepens.{deepenedIn}
 use Rattle.deepen.proofs.deepen_ma_tree.Statement.{statement}
 use Rattle.deepen.proofs.deepen_ma_tree.Tie as tie

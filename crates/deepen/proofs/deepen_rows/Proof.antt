@@ -7,7 +7,8 @@ use Rattle.layout.specs.Tree.{nodeLists}
 use Rattle.layout.specs.Waiting.{queueLists}
 use Rattle.rows.specs.Flat.{flat}
 use Rattle.lent.specs.Lists.{Lists, lists}
-use Rattle.learn.proofs.Accepting.{accepted-fitting, accepted-flattened, made-lists, made-answer}
+use Rattle.start.proofs.Accepting.{accepted-fitting, accepted-flattened}
+use Rattle.finish.proofs.Made.{made-lists, made-answer}
 use Rattle.deepen.specs.Deepens.{deepenedIn}
 use Rattle.deepen.proofs.Seeding.{accepted-seedable}
 use Rattle.deepen.proofs.deepen_rows.Statement.{statement}

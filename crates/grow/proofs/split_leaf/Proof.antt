@@ -12,7 +12,7 @@ use Rattle.layout.specs.Waiting.{QueueLists, queueLists}
 use Rattle.rows.specs.Cells.{span}
 use Rattle.rows.specs.Flat.{Flat, flat}
 use Rattle.grow.specs.Parts.{RowsSplit, splitNodes}
-use Rattle.grow.specs.Grows.{Grows, Growable}
+use Rattle.state.specs.Grows.{Grows, Growable}
 use Rattle.grow.specs.declared.Pending.{Pending}
 use Rattle.grow.specs.declared.Bounds.{Bounds}
 use Rattle.grow.proofs.Choosing as choosing

@@ -6,7 +6,7 @@ use Rattle.model.specs.Learn.{rootState, learned}
 use Rattle.model.proofs.Root.{noSeeds}
 use Rattle.layout.specs.Tree.{nodeLists}
 use Rattle.rows.specs.Flat.{flat, heldIn}
-use Rattle.grow.specs.Grows.{jobIn}
+use Rattle.state.specs.Grows.{jobIn}
 use Rattle.finish.proofs.Finishing.{clear-same}
 use Rattle.learn.proofs.Planting.{finished-from}
 use Rattle.learn.proofs.grow_from_root.Statement.{statement}

@@ -10,7 +10,7 @@ use Rattle.layout.specs.Waiting.{QueueLists, queueLists}
 use Rattle.layout.proofs.Held.{room-fewer}
 use Rattle.layout.proofs.Queue.{fewer-room}
 use Rattle.rows.specs.Flat.{Flat, flat, heldIn}
-use Rattle.grow.specs.Grows.{jobIn, Grows}
+use Rattle.state.specs.Grows.{jobIn, Grows}
 use Rattle.learn.proofs.Planting.{none-queued, root-fits, root-number, planted}
 use Rattle.learn.proofs.plant_root.Statement.{statement}
 use Rattle.learn.proofs.plant_root.Tie as tie

@@ -1,7 +1,7 @@
 -- The struct holds what the enum says. Assumes nothing.
 use mathlib.Core.Path.{sym, ap}
 use lib.Ieee.{ofBits}
-use Rattle.learn.specs.Answer.{outcomeOf}
+use Rattle.lent.specs.Answer.{outcomeOf}
 use Rattle.ma_tree.specs.Answers.{treeIn}
 use borrow.Author.Needs.{needs}
 use Rattle.ma_tree.proofs.answers.learned_answer.Statement.{statement}

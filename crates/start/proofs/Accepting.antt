@@ -18,19 +18,12 @@ use Rattle.model.proofs.Tests.{true-T}
 use Rattle.checks.specs.Given.{settingsOf}
 use Rattle.checks.specs.declared.Settings.{Settings}
 use Rattle.checks.proofs.Passed.{Accepted}
-use Rattle.layout.specs.Tree.{NodeLists}
-use Rattle.layout.specs.Waiting.{QueueLists, QueueRoom}
-use Rattle.rows.specs.Flat.{Flat, rowCount, Shaped, flatOf, hasResiduals}
-use Rattle.rows.proofs.Whole.{flat-changed}
-use Rattle.model.specs.Rows.{Row}
-use Rattle.model.specs.Learn.{Result}
-use Rattle.model.specs.Operations.{Outcome, accepted, Tree, treeOf}
-use Rattle.lent.specs.Lists.{Lists, lists, lentIn, storedQueue, waitingAt, leavesLent, clearQueue, listsAfter}
+use Rattle.layout.specs.Waiting.{QueueRoom}
+use Rattle.rows.specs.Flat.{rowCount}
+use Rattle.lent.specs.Lists.{Lists, lentIn, storedQueue, waitingAt, leavesLent}
 use Rattle.lent.proofs.Read.{room-read}
-use Rattle.leaf.specs.Fitting.{usesOf, Fitting}
-use Rattle.finish.specs.Finished.{FinishedTo}
-use Rattle.finish.specs.declared.Finished.{Finished}
-use Rattle.learn.specs.Learns.{Plantable, Flattened}
+use Rattle.state.specs.Fitting.{usesOf, Fitting}
+use Rattle.start.specs.Starts.{Plantable, Flattened}
 
 module _ {s : Settings} {logs : List Float} (x : Lists) {rows : ℕ} (a : Accepted s logs (lentIn x) rows) (counts : List ℕ) (cleared : counts ≡ replicate (length (x .counts)) 0) where
   long : length counts ≡ length (x .counts)
@@ -82,16 +75,3 @@ module _ {s : Settings} {logs : List Float} (x : Lists) {rows : ℕ} (a : Accept
 
   pub accepted-flattened : Flattened s logs counts (x .rows .props) (x .rows .toks) rows
   accepted-flattened = record { res = x .rows .res; fitting = accepted-fitting; counted = a .row-count }
-
--- what was finished, list by list
-pub made-lists : (x : Lists) (made : Result singles) (y : Flat) (n : NodeLists) (q : QueueLists) (counts : List ℕ) (r : Finished) → Shaped (x .rows) → FinishedTo (x .rows) y n r (x .nodes) made
-    → q ≡ clearQueue (x .queue) → counts ≡ replicate (length (x .counts)) 0 → lists y n q counts ≡ listsAfter made x
-unfolding listsAfter
-made-lists x made y n q counts r shaped f queue zeros =
-    let rows : y ≡ flatOf (hasResiduals (x .rows)) (made .rows) = flat-changed {f = λ (l : List Row). made .rows} shaped (record { rows = f .rows; size = f .size }) in
-    λ i. record { rows = rows i; nodes = f .nodes i; queue = queue i; counts = zeros i }
-
--- and its answer
-pub made-answer : (nodes leaves : ℕ) (bits flatly : Float) (made : Result singles) → nodes ≡ made .count → leaves ≡ made .leaves → bits ≡ made .bits → flatly ≡ made .flat
-    → _≡_ {A = Outcome (Tree singles)} (accepted (record { nodes = nodes; leaves = leaves; bits = bits; flat = flatly })) (accepted (treeOf made))
-made-answer nodes leaves bits flatly made a b c d = λ i. accepted (record { nodes = a i; leaves = b i; bits = c i; flat = d i })

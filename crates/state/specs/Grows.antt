@@ -1,4 +1,4 @@
--- What growth asks for and leaves (document 01, "Growth"): lists that hold a state of the model, before and after so many steps. Assumes nothing.
+-- What growth asks for and keeps (document 01, "Growth"): lists that hold a state of the model, with room for so many more splits. Assumes nothing.
 use Prim.Native.Nat.{ℕ, _+_, _*_, _≤_, _<_}
 use mathlib.Core.Path.{_≡_}
 use mathlib.Core.Bool.{Bool, not}
@@ -20,10 +20,9 @@ use Rattle.model.proofs.SingleLawful.{single-lawful}
 use Rattle.checks.specs.Given.{settingsOf}
 use Rattle.checks.specs.declared.Settings.{Settings}
 use Rattle.layout.specs.Tree.{NodeLists, holding, HasRoom}
-use Rattle.layout.specs.Waiting.{QueueLists, Queued, QueueRoom, queueOf, firstBest}
-use Rattle.rows.specs.Flat.{Flat, heldIn, rowCount, SameSize}
-use Rattle.leaf.specs.Fitting.{usesOf, Fitting}
-use Rattle.grow.specs.declared.Grown.{Grown}
+use Rattle.layout.specs.Waiting.{QueueLists, Queued, QueueRoom, queueOf}
+use Rattle.rows.specs.Flat.{Flat, heldIn, rowCount}
+use Rattle.state.specs.Fitting.{usesOf, Fitting}
 
 -- the job of these settings, logarithms and rows
 abbrev pub jobIn : Settings → List Float → Flat → Job singles
@@ -60,21 +59,3 @@ pub record Growable (s : Settings) (logs : List Float) (counts : List ℕ) (x : 
   pub seeds : ℕ → Bool
   pub given : List Row
   pub grows : Grows s logs counts x lists q waiting count bits more lent state seeds given
-
--- place k of the queue has the greatest gain, and there is one more split to make
-pub record Splits (s : Settings) (logs : List Float) (counts : List ℕ) (x : Flat) (lists : NodeLists) (q : QueueLists)
-    (waiting count : ℕ) (bits : Float) (left k : ℕ) : Type 0 where
-  pub growable : Growable s logs counts x lists q waiting count bits left
-  pub one-more : 0 < left
-  pub some-wait : 0 < waiting
-  pub best : k ≡ firstBest (q .gains) waiting
-
--- what the lists hold at exit
-pub record GrownTo (s : Settings) (logs : List Float) (counts : List ℕ) (x y : Flat) (lists : NodeLists) (r : Grown)
-    (lent : NodeLists) (st : State singles) : Type 0 where
-  pub rows : heldIn y ≡ st .rows
-  pub size : SameSize x y
-  pub nodes : lists ≡ holding (st .tree) lent
-  pub counted : r .nodes ≡ length (st .tree)
-  pub summed : r .bits ≡ st .bits
-  pub fitting : Fitting s logs counts y

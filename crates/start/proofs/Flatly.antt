@@ -12,7 +12,7 @@ use Rattle.checks.specs.declared.Settings.{Settings}
 use Rattle.cost.specs.Flat.{FlatFits}
 use Rattle.cost.specs.Predictors.{Uses}
 use Rattle.cost.proofs.Bridge.{usable-is}
-use Rattle.learn.specs.Learns.{Flattened}
+use Rattle.start.specs.Starts.{Flattened}
 
 take-zeros : (n m : ℕ) → n ≤ m → take {A = ℕ} n (replicate m 0) ≡ replicate n 0
 take-zeros zero m h = refl

@@ -1,8 +1,8 @@
--- The answer of learning in document 01's numbers and values. Assumes nothing.
+-- The answer of learning and of deepening in document 01's numbers and values. Assumes nothing.
 use Rattle.model.specs.Single.{singles}
 use Rattle.model.specs.Operations.{Outcome, refused, accepted, After, Tree}
-use Rattle.learn.specs.declared.Learned.{Learned}
-use Rattle.learn.specs.declared.Learned.the-variants.{Grown, Refused}
+use Rattle.lent.specs.declared.Learned.{Learned}
+use Rattle.lent.specs.declared.Learned.the-variants.{Grown, Refused}
 
 -- node count, leaf count, estimated bits and flat bits, or the number of the refusal and its place
 abbrev pub outcomeOf : Learned → Outcome (Tree singles)

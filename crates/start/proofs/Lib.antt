@@ -1,0 +1,3 @@
+-- `Accepting`: what the checks ensure. `Flatly`: flat bits.
+pub mod Accepting
+pub mod Flatly

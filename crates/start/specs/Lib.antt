@@ -1,0 +1,2 @@
+-- `Starts`: what the parts ask for.
+pub mod Starts

@@ -1,0 +1,2 @@
+-- `Numbers`: what the model's laws on steps ask of a job.
+pub mod Numbers
