@@ -12,7 +12,7 @@ use Rattle.model.specs.Settings.{maxNodes}
 use Rattle.records.specs.Records.{wordsFrom, valuesFrom, costsFrom, HasPlaces}
 use Rattle.records.specs.declared.MaNode.{MaNode}
 use Rattle.records.proofs.Copies.{length-words, length-values, length-costs, read-back}
-use Rattle.ma_tree.specs.Numbers.{copied, Arrays, Numbered}
+use Rattle.numbers.specs.Numbers.{copied, Arrays, Numbered}
 
 -- as few fit every count
 pub copied-fits : (room : ℕ) → copied room < 2 ^ 64

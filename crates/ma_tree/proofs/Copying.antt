@@ -37,10 +37,10 @@ use Rattle.records.proofs.Facts.{says-two}
 use Rattle.records.proofs.MaNode as N
 use Rattle.records.proofs.Rows.{Lists, Spots, Names, SameLengths, Mutss, refs, valued, same, rows, lents, lend-all, back-all}
 use Rattle.records.proofs.from_records as from-records
-use Rattle.ma_tree.specs.Numbers.{copied}
+use Rattle.numbers.specs.Numbers.{copied}
 use Rattle.ma_tree.proofs.Copied.{copied-fits, has-places}
 use Rattle.ma_tree.proofs.Zeros.{As, zeros, zeros-long, zeros-room}
-use Rattle.ma_tree.proofs.numbers.to_copy as to-copy
+use Rattle.numbers.proofs.to_copy as to-copy
 
 -- ---- the call of `to_copy`
 abbrev pub ToCopy : {M : Type 1} (𝓤 : URA M) (H : Heap 𝓤) (A : Atoms 𝓤) (mem : Memory → SProp 𝓤) (run : Routine → Fun 𝓤) → Contract 𝓤

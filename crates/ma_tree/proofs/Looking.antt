@@ -23,7 +23,7 @@ use Rattle.model.proofs.Paths.{towards-in}
 use Rattle.records.specs.Records.{storedOf, noRecord}
 use Rattle.records.specs.declared.MaNode.{MaNode}
 use Rattle.tree.proofs.Lists.{in-range}
-use Rattle.ma_tree.specs.Answers.{foundIn}
+use Rattle.answers.specs.Answers.{foundIn}
 use Rattle.ma_tree.specs.declared.ways.Way.{Way}
 use Rattle.ma_tree.specs.Ways.{goesOn, found, refusedAt, begun, stepped, wayOf}
 

@@ -38,11 +38,11 @@ use Rattle.checks.proofs.Settings.Laws as S′
 use Rattle.records.specs.declared.MaNode.{MaNode}
 use Rattle.records.proofs.MaNode as N
 use Rattle.records.proofs.Rows.{Lists, Spots, Names, Mutss, refs, valued, same}
-use Rattle.ma_tree.specs.declared.answers.LearnedTree.{LearnedTree}
-use Rattle.ma_tree.specs.Lists as R
-use Rattle.ma_tree.specs.Lists.{lists, Worked}
-use Rattle.ma_tree.proofs.answers.LearnedTree as L
-use Rattle.ma_tree.proofs.answers.LearnedTree.Laws as L′
+use Rattle.answers.specs.declared.LearnedTree.{LearnedTree}
+use Rattle.numbers.specs.Lists as R
+use Rattle.numbers.specs.Lists.{lists, Worked}
+use Rattle.answers.proofs.LearnedTree as L
+use Rattle.answers.proofs.LearnedTree.Laws as L′
 use Rattle.ma_tree.proofs.work as work
 
 -- the eight lists' element types

@@ -28,7 +28,7 @@ use denote.Steps.{nothing}
 use Rattle.records.proofs.LocalArrays.{repeat-typed, array-row, row-room}
 use Rattle.records.proofs.Locals.{Blocks, block}
 use Rattle.records.proofs.Rows.{Lists, Spots, Rooms, SameLengths, rows}
-use Rattle.ma_tree.specs.Numbers.{Arrays}
+use Rattle.numbers.specs.Numbers.{Arrays}
 
 abbrev pub As : List RattleType
 As = u32 ∷ i32 ∷ f32 ∷ []

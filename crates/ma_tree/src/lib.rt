@@ -1,8 +1,8 @@
 // The public interface, for C, Rust and Rattle: each operation of document 01, with its node list as one lent slice of records. Whatever is handed in, the answer is
 // document 01's, and a refusal changes no list. A slice crosses over to C as two arguments, pointer and length.
 //
-// A function that sees the slice of records is walked by hand, so it does little: it copies records to the core's number lists and back, or reads one record
-// after another. What thinks is in the functions between.
+// A function that sees the slice of records is walked by hand, so it does little: it copies records to the core's number lists (crate `numbers`)
+// and back, or reads one record after another (`ways`).
 ghost use mathlib.Core.Path.{_≡_};
 ghost use mathlib.Core.List.{map};
 ghost use Rattle.model.specs.Pack.{packed};
@@ -13,11 +13,9 @@ ghost use Rattle.rows.specs.Flat.{flat};
 ghost use Rattle.checks.specs.Given.{settingsOf};
 ghost use Rattle.layout.specs.Waiting.{queueLists};
 ghost use Rattle.records.specs.Records.{storedOf};
-ghost use Rattle.ma_tree.specs.Answers.{valueIn, foundIn, countIn, treeIn};
-ghost use Rattle.ma_tree.specs.Lists.{lists, lentIn, learnRecords, deepenRecords, Worked};
+ghost use Rattle.answers.specs.Answers.{valueIn, foundIn, countIn, treeIn};
+ghost use Rattle.numbers.specs.Lists.{lists, lentIn, learnRecords, deepenRecords, Worked};
 
-pub mod answers;
-pub mod numbers;
 pub mod ways;
 
 use answers::Count;

@@ -5,7 +5,7 @@ ghost use mathlib.Core.Bool.{true, false};
 ghost use mathlib.Core.List.{List};
 ghost use lib.IntN.{ℤ};
 ghost use Rattle.ma_tree.specs.Ways.{goesOn, refusedAt, begun, stepped, OneRow};
-use crate::answers::Leaf;
+use answers::Leaf;
 use records::MaNode;
 
 // Properties of a row, and predictors.

@@ -20,10 +20,10 @@ use Rattle.model.specs.Operations.{accepted, After, unless, outcomeOf, Tree, Fo
 use Rattle.model.proofs.Promises.{demand3}
 use Rattle.checks.specs.Given.{settingsOf}
 use Rattle.checks.specs.declared.Settings.{Settings}
-use Rattle.ma_tree.specs.Answers.{treeIn, foundIn}
-use Rattle.ma_tree.specs.Lists.{Lists, lentIn}
-use Rattle.ma_tree.specs.declared.answers.LearnedTree.{LearnedTree}
-use Rattle.ma_tree.specs.declared.answers.Leaf.{Leaf}
+use Rattle.answers.specs.Answers.{treeIn, foundIn}
+use Rattle.numbers.specs.Lists.{Lists, lentIn}
+use Rattle.answers.specs.declared.LearnedTree.{LearnedTree}
+use Rattle.answers.specs.declared.Leaf.{Leaf}
 use Rattle.promises.specs.Runs.{Learning, Deepening, LookingUp}
 use Rattle.promises.specs.Promised.{answered, Promised}
 

@@ -12,9 +12,9 @@ use Rattle.model.specs.Operations.{Tree, Found, accepted, lookup}
 use Rattle.model.specs.Promise.{Unpruned, Kept, OneMoreOrAlike}
 use Rattle.checks.specs.Given.{settingsOf}
 use Rattle.checks.specs.declared.Settings.{Settings}
-use Rattle.ma_tree.specs.Answers.{treeIn, foundIn}
-use Rattle.ma_tree.specs.Lists.{Lists, lentIn}
-use Rattle.ma_tree.specs.declared.answers.LearnedTree.{LearnedTree}
+use Rattle.answers.specs.Answers.{treeIn, foundIn}
+use Rattle.numbers.specs.Lists.{Lists, lentIn}
+use Rattle.answers.specs.declared.LearnedTree.{LearnedTree}
 use Rattle.promises.specs.Runs.{Learning, Deepening, LookingUp}
 
 -- an accepted answer: number 0, then node count, leaf count, estimated bits, flat bits

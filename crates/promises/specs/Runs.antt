@@ -11,10 +11,10 @@ use Rattle.checks.specs.Given.{settingsOf}
 use Rattle.checks.specs.declared.Settings.{Settings}
 use Rattle.records.specs.Records.{storedOf}
 use Rattle.records.specs.declared.MaNode.{MaNode}
-use Rattle.ma_tree.specs.Answers.{treeIn, foundIn}
-use Rattle.ma_tree.specs.Lists.{Lists, lentIn}
-use Rattle.ma_tree.specs.declared.answers.LearnedTree.{LearnedTree}
-use Rattle.ma_tree.specs.declared.answers.Leaf.{Leaf}
+use Rattle.answers.specs.Answers.{treeIn, foundIn}
+use Rattle.numbers.specs.Lists.{Lists, lentIn}
+use Rattle.answers.specs.declared.LearnedTree.{LearnedTree}
+use Rattle.answers.specs.declared.Leaf.{Leaf}
 
 pub record Learning (s : Settings) (logs : List Float) (x : Lists) (r : LearnedTree) (y : Lists) : Type 0 where
   pub answers : r ≡ treeIn (learn single (settingsOf s) logs (lentIn x) .outcome)

@@ -1,6 +1,6 @@
 -- What the two calls say. Assumes nothing.
 use mathlib.Core.Path.{ap, _∙_}
-use Rattle.ma_tree.specs.Answers.{countIn}
+use Rattle.answers.specs.Answers.{countIn}
 use borrow.Author.Needs.{needs}
 use Rattle.ma_tree.proofs.ostrovuc_evenly_sampled_indices.Statement.{statement}
 use Rattle.ma_tree.proofs.ostrovuc_evenly_sampled_indices.Tie as tie

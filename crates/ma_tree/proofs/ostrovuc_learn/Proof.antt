@@ -41,11 +41,11 @@ use Rattle.records.specs.declared.MaNode.{MaNode}
 use Rattle.records.proofs.MaNode as N
 use Rattle.records.proofs.Locals.{States, enters, leaves}
 use Rattle.records.proofs.Rows.{Each, Lists, Spots, Names, Rooms, Mutss, refs, valued, same}
-use Rattle.ma_tree.specs.declared.answers.LearnedTree.{LearnedTree}
+use Rattle.answers.specs.declared.LearnedTree.{LearnedTree}
 use Rattle.ma_tree.proofs.Passing.{Es, Work, Last, last, Done, to-work, asks-work, comes-work}
 use Rattle.ma_tree.proofs.Said.{all-said, SaidPost, SaidWalks, said-ends, said-meets, unasked, says-four}
 use Rattle.ma_tree.proofs.Slices.{pass-slice, also, again, slices, again-all, spots, names, nows, spells, tells, roomy}
-use Rattle.ma_tree.proofs.answers.LearnedTree as L
+use Rattle.answers.proofs.LearnedTree as L
 use Rattle.ma_tree.proofs.work.Symbol as work-def
 use Rattle.ma_tree.proofs.work.Symbol.{name as #work}
 use Rattle.ma_tree.proofs.work.Met as work-thm

@@ -58,14 +58,14 @@ use Rattle.records.specs.Records.{storedOf, noRecord}
 use Rattle.records.specs.declared.MaNode.{MaNode}
 use Rattle.records.proofs.MaNode as N
 use Rattle.records.proofs.MaNode.Laws as N′
-use Rattle.ma_tree.specs.Answers.{foundIn}
+use Rattle.answers.specs.Answers.{foundIn}
 use Rattle.ma_tree.specs.Ways.{begun, stepped}
-use Rattle.ma_tree.specs.declared.answers.Leaf.{Leaf}
+use Rattle.answers.specs.declared.Leaf.{Leaf}
 use Rattle.ma_tree.specs.declared.ways.Way.{Way}
 use Rattle.records.proofs.Locals.{Blocks, block, env, States, cells, enters, leaves, local-at, to-local, gives, start-of, count-of}
 use Rattle.ma_tree.proofs.Looking.{Going, going-first, going-on, going-none, going-end}
-use Rattle.ma_tree.proofs.answers.Leaf as L
-use Rattle.ma_tree.proofs.answers.Leaf.Laws as L′
+use Rattle.answers.proofs.Leaf as L
+use Rattle.answers.proofs.Leaf.Laws as L′
 use Rattle.ma_tree.proofs.ways.Way as Y
 use Rattle.ma_tree.proofs.ways.Way.Laws as Y′
 use Rattle.ma_tree.proofs.ways.begin as begin

@@ -1,6 +1,6 @@
 -- What the two calls say. Assumes nothing.
 use mathlib.Core.Path.{ap, _∙_}
-use Rattle.ma_tree.specs.Answers.{valueIn}
+use Rattle.answers.specs.Answers.{valueIn}
 use borrow.Author.Needs.{needs}
 use Rattle.ma_tree.proofs.ostrovuc_token_value.Statement.{statement}
 use Rattle.ma_tree.proofs.ostrovuc_token_value.Tie as tie

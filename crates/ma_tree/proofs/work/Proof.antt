@@ -63,9 +63,9 @@ use Rattle.records.proofs.to_records as to-records
 use Rattle.records.proofs.to_records.Symbol as to-records-def
 use Rattle.records.proofs.to_records.Symbol.{name as #to-records}
 use Rattle.records.proofs.to_records.Met as to-records-thm
-use Rattle.ma_tree.specs.declared.answers.LearnedTree.{LearnedTree}
-use Rattle.ma_tree.specs.Lists.{Worked}
-use Rattle.ma_tree.specs.Numbers.{copied, Arrays, Numbered}
+use Rattle.answers.specs.declared.LearnedTree.{LearnedTree}
+use Rattle.numbers.specs.Lists.{Worked}
+use Rattle.numbers.specs.Numbers.{copied, Arrays, Numbered}
 use Rattle.ma_tree.proofs.Copied.{copied-fits, copied-long, has-places, numbered}
 use Rattle.ma_tree.proofs.Copying.{ToCopy, of-room, counts, counted, FromRecords, to-take, Seen, holding, holding-lens, copies-in, comes-out}
 use Rattle.ma_tree.proofs.Passing.{Es, listed}
@@ -73,15 +73,15 @@ use Rattle.ma_tree.proofs.Said.{all-said, SaidPost, SaidWalks, said-end
 use Rattle.ma_tree.proofs.Slices.{pass-slice, also, again, of-array, take, give, slices, again-all, spots, names, nows, spells, tells, roomy}
 use Rattle.ma_tree.proofs.Zeros.{As, zeros, zeros-long, zeros-room, words-count, values-count, costs-count, same-long, places, words-typed, values-typed, costs-typed, arrays-rows}
 use Rattle.ma_tree.proofs.Zeros.{vacant, rows-rooms}
-use Rattle.ma_tree.proofs.answers.LearnedTree as L
-use Rattle.ma_tree.proofs.answers.LearnedTree.Laws as L′
-use Rattle.ma_tree.proofs.numbers.to_copy.Symbol as to-copy-def
-use Rattle.ma_tree.proofs.numbers.to_copy.Symbol.{name as #to-copy}
-use Rattle.ma_tree.proofs.numbers.to_copy.Met as to-copy-thm
-use Rattle.ma_tree.proofs.numbers.work_on as work-on
-use Rattle.ma_tree.proofs.numbers.work_on.Symbol as work-on-def
-use Rattle.ma_tree.proofs.numbers.work_on.Symbol.{name as #work-on}
-use Rattle.ma_tree.proofs.numbers.work_on.Met as work-on-thm
+use Rattle.answers.proofs.LearnedTree as L
+use Rattle.answers.proofs.LearnedTree.Laws as L′
+use Rattle.numbers.proofs.to_copy.Symbol as to-copy-def
+use Rattle.numbers.proofs.to_copy.Symbol.{name as #to-copy}
+use Rattle.numbers.proofs.to_copy.Met as to-copy-thm
+use Rattle.numbers.proofs.work_on as work-on
+use Rattle.numbers.proofs.work_on.Symbol as work-on-def
+use Rattle.numbers.proofs.work_on.Symbol.{name as #work-on}
+use Rattle.numbers.proofs.work_on.Met as work-on-thm
 use Rattle.ma_tree.proofs.work.Key.{name as #work}
 use Rattle.ma_tree.proofs.work as f
 use Rattle.ma_tree.proofs.work.Statement as stated
@@ -366,7 +366,7 @@ work-spec 𝓤 H 𝓜 𝓖 𝓡 =
     (tables 𝓤 H 𝓜 𝓡 code.env .C) (tables 𝓤 H 𝓜 𝓡 code.env .Λ) #work code.function (code.unfolded 𝓤 H 𝓜 𝓡)
     (said-meets 𝓤 H (𝓖 .A) f.ended (f.clauses 𝓤 H (𝓖 .A) (𝓜 .mem) (𝓡 .run)) (givenOf 𝓤 H 𝓜 𝓖) (tablesOf 𝓤 H 𝓜 (tables 𝓤 H 𝓜 𝓡 code.env)) code.function
     (walks 𝓤 H (𝓖 .A) (givenOf 𝓤 H 𝓜 𝓖) (𝓜 .mem) (𝓡 .run) (tablesOf 𝓤 H 𝓜 (tables 𝓤 H 𝓜 𝓡 code.env))
-    (cited 𝓤 H (ToCopy 𝓤 H (𝓖 .A) (𝓜 .mem) (𝓡 .run)) 𝓜 𝓡 code.env #to-copy to-copy-def.routine code.calls-ma-tree·numbers·to-copy (to-copy-thm.met 𝓤 H 𝓜 𝓖 𝓡))
+    (cited 𝓤 H (ToCopy 𝓤 H (𝓖 .A) (𝓜 .mem) (𝓡 .run)) 𝓜 𝓡 code.env #to-copy to-copy-def.routine code.calls-numbers·to-copy (to-copy-thm.met 𝓤 H 𝓜 𝓖 𝓡))
     (cited 𝓤 H (FromRecords 𝓤 H (𝓖 .A) (𝓜 .mem) (𝓡 .run)) 𝓜 𝓡 code.env #from-records from-records-def.routine code.calls-records·from-records (from-records-thm.met 𝓤 H 𝓜 𝓖 𝓡))
-    (cited 𝓤 H (WorkOn 𝓤 H (𝓖 .A) (𝓜 .mem) (𝓡 .run)) 𝓜 𝓡 code.env #work-on work-on-def.routine code.calls-ma-tree·numbers·work-on (work-on-thm.met 𝓤 H 𝓜 𝓖 𝓡))
+    (cited 𝓤 H (WorkOn 𝓤 H (𝓖 .A) (𝓜 .mem) (𝓡 .run)) 𝓜 𝓡 code.env #work-on work-on-def.routine code.calls-numbers·work-on (work-on-thm.met 𝓤 H 𝓜 𝓖 𝓡))
     (cited 𝓤 H (ToRecords 𝓤 H (𝓖 .A) (𝓜 .mem) (𝓡 .run)) 𝓜 𝓡 code.env #to-records to-records-def.routine code.calls-records·to-records (to-records-thm.met 𝓤 H 𝓜 𝓖 𝓡))))

@@ -1,0 +1,29 @@
+-- Document 01's answers as the structs that cross over to C: a refusal's number and place, or number 0 and the answer ("Which number comes back").
+-- Assumes nothing.
+use Prim.Native.Nat.{ℕ}
+use Rattle.model.specs.Token.{TokenAnswer}
+use Rattle.model.specs.Single.{singles}
+use Rattle.model.specs.Operations.{Outcome, refused, accepted, Found, Tree}
+use Rattle.answers.specs.declared.Read.{Read}
+use Rattle.answers.specs.declared.Leaf.{Leaf}
+use Rattle.answers.specs.declared.Count.{Count}
+use Rattle.answers.specs.declared.LearnedTree.{LearnedTree}
+
+-- the value of a token, or number 10
+abbrev pub valueIn : TokenAnswer → Read
+valueIn a = record { number = a .number; value = a .value }
+
+-- the leaf and its predictor, or the refusal
+abbrev pub foundIn : Outcome Found → Leaf
+foundIn (accepted f) = record { number = 0; place = 0; leaf = f .leaf; pred = f .pred }
+foundIn (refused r) = record { number = r .number; place = r .place; leaf = 0; pred = 0 }
+
+-- how many were written, or the refusal
+abbrev pub countIn : Outcome ℕ → Count
+countIn (accepted n) = record { number = 0; place = 0; count = n }
+countIn (refused r) = record { number = r .number; place = r .place; count = 0 }
+
+-- the tree's counts and bits, or the refusal
+abbrev pub treeIn : Outcome (Tree singles) → LearnedTree
+treeIn (accepted t) = record { number = 0; place = 0; nodes = t .nodes; leaves = t .leaves; bits = t .bits; flat = t .flat }
+treeIn (refused r) = record { number = r .number; place = r .place; nodes = 0; leaves = 0; bits = singles .nought; flat = singles .nought }

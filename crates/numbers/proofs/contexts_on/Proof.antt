@@ -1,0 +1,75 @@
+-- `numbers::contexts_on` meets its contract: what the two calls say of the copied records. Assumes nothing.
+use Prim.Native.Nat.{_*_}
+use mathlib.Core.Path.{_≡_, sym, ap, _∙_}
+use mathlib.Core.List.{List, map}
+use lib.ListN.{length}
+use lib.Seq.{length-take-le}
+use lib.Ieee.{Float}
+use borrow.Author.Needs.{needs}
+use Rattle.model.specs.Operations.{ContextLists, leafContexts}
+use Rattle.tree.specs.Answers.{contextsAfter}
+use Rattle.records.specs.Records.{storedOf}
+use Rattle.records.specs.declared.MaNode.{MaNode}
+use Rattle.answers.specs.Answers.{countIn}
+use Rattle.numbers.specs.Numbers.{copied, Numbered}
+use Rattle.numbers.proofs.Reading.{contexts-alike}
+use Rattle.numbers.proofs.contexts_on.Statement.{statement}
+use Rattle.numbers.proofs.contexts_on.Tie as tie
+
+mul-leaf-contexts : tie.Need-mul-leaf-contexts
+mul-leaf-contexts c = search needs
+
+slice-aggregate-leaf-contexts : tie.Need-slice-aggregate-leaf-contexts
+slice-aggregate-leaf-contexts c = let start = c .before .before .before .before in sym (length-take-le (start .args .n * 5) (start .args .words .now) (start .pre .0))
+
+mul-leaf-contexts-2 : tie.Need-mul-leaf-contexts-2
+mul-leaf-contexts-2 c = search needs
+
+slice-aggregate-leaf-contexts-2 : tie.Need-slice-aggregate-leaf-contexts-2
+slice-aggregate-leaf-contexts-2 c = let start = c .before .before .before .before .before in sym (length-take-le (start .args .n * 2) (start .args .values .now) (start .pre .1))
+
+leaf-contexts-requires : tie.Need-leaf-contexts-requires
+leaf-contexts-requires c κs = search needs
+
+contexts-answer-requires : tie.Need-contexts-answer-requires
+contexts-answer-requires c κs = search needs
+
+same-length : tie.Need-same-length
+same-length c = search needs
+
+same-length-2 : tie.Need-same-length-2
+same-length-2 c = search needs
+
+-- what the core's call says of the records that were copied
+module _ (c : tie.After-leaf-contexts) (nodes : List MaNode) (costs : List Float) where
+  abbrev start : tie.Start
+  start = c .before .before .before .before .before .before .before .before
+
+  abbrev asked : ContextLists
+  asked = record { contexts = start .args .contexts .now; queue = start .args .queue .now }
+
+  counted : Numbered nodes (start .args .words .now) (start .args .values .now) costs → start .args .n ≡ copied (length nodes)
+      → contextsAfter (c .leaf-contexts .result) (c .leaf-contexts .last .1 .1 .1 .0) (c .leaf-contexts .last .1 .1 .1 .1 .0) ≡ leafContexts (map storedOf nodes) (start .args .count) asked
+  counted same is =
+      c .leaf-contexts .ensures costs
+      ∙ contexts-alike nodes (start .args .words .now) (start .args .values .now) costs (start .args .n) is same (start .pre .0) (start .pre .1) (start .args .count) asked
+
+returns : tie.Need-returns
+returns c = let called = c .before .before .before .before .before in (
+  λ nodes costs same is. c .contexts-answer .ensures ∙ ap (λ x. countIn (x .outcome)) (counted called nodes costs same is),
+  λ nodes costs same is. ap (λ x. x .lent) (counted called nodes costs same is),
+)
+
+pub contexts-on-spec : {M : Type 1} → statement M
+contexts-on-spec =
+    tie.close
+    (tie.spec
+    mul-leaf-contexts
+    slice-aggregate-leaf-contexts
+    mul-leaf-contexts-2
+    slice-aggregate-leaf-contexts-2
+    leaf-contexts-requires
+    contexts-answer-requires
+    same-length
+    same-length-2
+    returns)

@@ -1,0 +1,157 @@
+-- `numbers::deepen_numbers` meets its contract: a seed of too many nodes is refused and changes nothing; else it is what the core makes of the copied records. Assumes nothing.
+use Prim.Native.Nat.{_*_}
+use lib.Seq.{length-front}
+use borrow.Author.Needs.{needs}
+use Rattle.rows.specs.Flat.{flat}
+use Rattle.layout.specs.Waiting.{queueLists}
+use Rattle.checks.specs.Given.{settingsOf}
+use Rattle.numbers.proofs.Reading.{part-lengths}
+use Rattle.numbers.proofs.Written.{unchanged, deepen-back}
+use Rattle.numbers.proofs.deepen_numbers.Statement.{statement}
+use Rattle.numbers.proofs.deepen_numbers.Tie as tie
+
+refuse-large-seed-requires : tie.Need-refuse-large-seed-requires
+refuse-large-seed-requires c κs = search needs
+
+same-length : tie.Need-same-length
+same-length c = search needs
+
+same-length-2 : tie.Need-same-length-2
+same-length-2 c = search needs
+
+same-length-3 : tie.Need-same-length-3
+same-length-3 c = search needs
+
+same-length-4 : tie.Need-same-length-4
+same-length-4 c = search needs
+
+same-length-5 : tie.Need-same-length-5
+same-length-5 c = search needs
+
+same-length-6 : tie.Need-same-length-6
+same-length-6 c = search needs
+
+same-length-7 : tie.Need-same-length-7
+same-length-7 c = search needs
+
+same-length-8 : tie.Need-same-length-8
+same-length-8 c = search needs
+
+returns : tie.Need-returns
+returns c = λ nodes same is room-is.
+    let given = c .before .before .before .before .before .before .before .before .before .before .before .before .before .before .before .before .before .before .args in
+    let made = c .refuse-large-seed in
+    unchanged nodes (given .words .now) (given .values .now) (given .costs .now) same (flat (given .props .now) (given .tok .now) (given .res .now)) (given .spans .now)
+    (queueLists (given .queue-words .now) (given .queue-values .now) (given .queue-gains .now)) (given .counts .now) (settingsOf (given .s)) (given .logs .now) (given .count) (made .result)
+    (made .ensures nodes room-is)
+
+mul-deepen-ma-tree : tie.Need-mul-deepen-ma-tree
+mul-deepen-ma-tree c = search needs
+
+slice-relend-prefix-deepen-ma-tree : tie.Need-slice-relend-prefix-deepen-ma-tree
+slice-relend-prefix-deepen-ma-tree c = search needs
+
+slice-aggregate-deepen-ma-tree : tie.Need-slice-aggregate-deepen-ma-tree
+slice-aggregate-deepen-ma-tree c = let start = c .before .before .before .before .before .before .before .before .before .before .before .before .before in part-lengths (start .pre .0) (start .pre .1) .words-part
+
+mul-deepen-ma-tree-2 : tie.Need-mul-deepen-ma-tree-2
+mul-deepen-ma-tree-2 c = search needs
+
+slice-relend-prefix-deepen-ma-tree-2 : tie.Need-slice-relend-prefix-deepen-ma-tree-2
+slice-relend-prefix-deepen-ma-tree-2 c = search needs
+
+slice-aggregate-deepen-ma-tree-2 : tie.Need-slice-aggregate-deepen-ma-tree-2
+slice-aggregate-deepen-ma-tree-2 c = let start = c .before .before .before .before .before .before .before .before .before .before .before .before .before .before in part-lengths (start .pre .0) (start .pre .1) .values-part
+
+slice-relend-prefix-deepen-ma-tree-3 : tie.Need-slice-relend-prefix-deepen-ma-tree-3
+slice-relend-prefix-deepen-ma-tree-3 c = search needs
+
+slice-aggregate-deepen-ma-tree-3 : tie.Need-slice-aggregate-deepen-ma-tree-3
+slice-aggregate-deepen-ma-tree-3 c = let start = c .before .before .before .before .before .before .before .before .before .before .before .before .before .before .before in part-lengths (start .pre .0) (start .pre .1) .costs-part
+
+deepen-ma-tree-requires : tie.Need-deepen-ma-tree-requires
+deepen-ma-tree-requires c κs = search needs
+
+same-length-9 : tie.Need-same-length-9
+same-length-9 c = search needs
+
+same-length-10 : tie.Need-same-length-10
+same-length-10 c =
+    let given = c .before .before .before .before .before .before .before .before .before .before .before .before .before .before .before .before .before .before .before .before .before .before .before .before .before .before .before .before .before .before .before .before .before .before .before .before .before .before .before .args in
+    let made = c .before .before .before .before .before .before .before .before .before .before .before .before .before .before .before .before .before .before .deepen-ma-tree in
+    length-front (given .values .now) (made .last .1 .1 .1 .1 .0) (given .n * 2) (made .kept .1 .1 .1 .1 .0)
+
+same-length-11 : tie.Need-same-length-11
+same-length-11 c = search needs
+
+same-length-12 : tie.Need-same-length-12
+same-length-12 c = search needs
+
+same-length-13 : tie.Need-same-length-13
+same-length-13 c = search needs
+
+same-length-14 : tie.Need-same-length-14
+same-length-14 c = search needs
+
+same-length-15 : tie.Need-same-length-15
+same-length-15 c = search needs
+
+same-length-16 : tie.Need-same-length-16
+same-length-16 c = search needs
+
+same-length-17 : tie.Need-same-length-17
+same-length-17 c = search needs
+
+same-length-18 : tie.Need-same-length-18
+same-length-18 c = search needs
+
+same-length-19 : tie.Need-same-length-19
+same-length-19 c = search needs
+
+returns-2 : tie.Need-returns-2
+returns-2 c = λ nodes same is room-is.
+    let start = c .before .before .before .before .before .before .before .before .before .before .before .before .before .before .before .before .before .before .before .before .before .before .before .before .before .before .before .before .before .before .before .before .before .before .before .before .before .before .before in
+    let made = c .before .before .before .before .before .before .before .before .before .before .before .before .before .before .before .before .before .before .deepen-ma-tree in
+    let few = c .before .before .before .before .before .before .before .before .before .before .before .before .before .before .before .before .before .before .before .before .before .before .before .before .before .before .before .before .before .before .if1 .left in
+    let given = start .args in
+    deepen-back nodes (given .words .now) (given .values .now) (given .costs .now) (given .n) is (start .pre .0) same (flat (given .props .now) (given .tok .now) (given .res .now)) (given .spans .now)
+    (queueLists (given .queue-words .now) (given .queue-values .now) (given .queue-gains .now)) (given .counts .now) (settingsOf (given .s)) (given .logs .now) (made .result)
+    (flat (made .last .0) (made .last .1 .0) (made .last .1 .1 .0)) (made .last .1 .1 .1 .0) (made .last .1 .1 .1 .1 .0) (made .last .1 .1 .1 .1 .1 .0) (made .last .1 .1 .1 .1 .1 .1 .0)
+    (queueLists (made .last .1 .1 .1 .1 .1 .1 .1 .0) (made .last .1 .1 .1 .1 .1 .1 .1 .1 .0) (made .last .1 .1 .1 .1 .1 .1 .1 .1 .1 .0)) (made .last .1 .1 .1 .1 .1 .1 .1 .1 .1 .1 .0)
+    (made .kept .1 .1 .1 .0) (made .kept .1 .1 .1 .1 .0) (made .kept .1 .1 .1 .1 .1 .0) (given .count) few (made .ensures .0)
+
+pub deepen-numbers-spec : {M : Type 1} → statement M
+deepen-numbers-spec =
+    tie.close
+    (tie.spec
+    refuse-large-seed-requires
+    same-length
+    same-length-2
+    same-length-3
+    same-length-4
+    same-length-5
+    same-length-6
+    same-length-7
+    same-length-8
+    returns
+    mul-deepen-ma-tree
+    slice-relend-prefix-deepen-ma-tree
+    slice-aggregate-deepen-ma-tree
+    mul-deepen-ma-tree-2
+    slice-relend-prefix-deepen-ma-tree-2
+    slice-aggregate-deepen-ma-tree-2
+    slice-relend-prefix-deepen-ma-tree-3
+    slice-aggregate-deepen-ma-tree-3
+    deepen-ma-tree-requires
+    same-length-9
+    same-length-10
+    same-length-11
+    same-length-12
+    same-length-13
+    same-length-14
+    same-length-15
+    same-length-16
+    same-length-17
+    same-length-18
+    same-length-19
+    returns-2)

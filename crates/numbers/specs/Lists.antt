@@ -1,0 +1,99 @@
+-- The lent lists of learning and deepening with their node list of records: what the model's `Lent` reads in them, and what they hold afterwards, record by
+-- record and number by number (document 01, "Which number comes back"). Assumes nothing.
+use mathlib.Core.Path.{_≡_}
+use Prim.Native.Nat.{ℕ}
+use mathlib.Core.Bool.{Bool, cond}
+use mathlib.Core.List.{List, map}
+use lib.ListN.{length, replicate}
+use lib.Ieee.{Float}
+use Rattle.model.specs.Lists.{writtenOver}
+use Rattle.model.specs.Settings.{Settings}
+use Rattle.model.specs.Single.{singles}
+use Rattle.model.specs.Profile.{single, jobOf}
+use Rattle.model.specs.Learn.{Result, learned}
+use Rattle.model.specs.Deepen.{deepened}
+use Rattle.model.specs.Lent.{Lent, stored, rowsIn, usesModes, treeIn}
+use Rattle.model.specs.Refuse.{learnRefusal, deepenRefusal}
+use Rattle.model.specs.Operations.{After, Tree, treeOf, unless, learn, deepen}
+use Rattle.model.specs.Tree.{Record}
+use Rattle.layout.specs.Tree.{laid}
+use Rattle.layout.specs.Waiting.{QueueLists}
+use Rattle.rows.specs.Flat.{Flat, flatOf, hasResiduals}
+use Rattle.lent.specs.Lists.{spanRows, storedSpans, storedQueue, clearQueue}
+use Rattle.records.specs.Records.{storedOf, recordOf}
+use Rattle.records.specs.declared.MaNode.{MaNode}
+use Rattle.answers.specs.declared.LearnedTree.{LearnedTree}
+use Rattle.answers.specs.Answers.{treeIn as treeAnswer}
+
+-- rows; node records; spans; queue; count space
+pub record Lists : Type 0 where
+  pub rows : Flat
+  pub nodes : List MaNode
+  pub spans : List ℕ
+  pub queue : QueueLists
+  pub counts : List ℕ
+
+abbrev pub lists : Flat → List MaNode → List ℕ → QueueLists → List ℕ → Lists
+lists rows nodes spans queue counts = record { rows = rows; nodes = nodes; spans = spans; queue = queue; counts = counts }
+
+-- what the model reads in them
+abbrev pub lentIn : Lists → Lent singles
+lentIn x =
+    record {
+      props = x .rows .props;
+      toks = x .rows .toks;
+      res = x .rows .res;
+      nodes = map storedOf (x .nodes);
+      spans = storedSpans (x .spans);
+      queue = storedQueue (x .queue);
+      counts = x .counts;
+    }
+
+-- a node of the tree as a record
+abbrev pub nodeRecord : Record singles → MaNode
+nodeRecord r = recordOf (stored r)
+
+-- after acceptance: the rows in their new order, the nodes and spans written, and what lies past them unchanged; queue and count space hold zeros
+unfoldable pub listsAfter : Result singles → Lists → Lists
+listsAfter r x =
+    record {
+      rows = flatOf (hasResiduals (x .rows)) (r .rows);
+      nodes = writtenOver (map nodeRecord (r .records)) (x .nodes);
+      spans = writtenOver (laid spanRows (r .spans)) (x .spans);
+      queue = clearQueue (x .queue);
+      counts = replicate (length (x .counts)) 0;
+    }
+
+-- what the model reads in the lists at exit
+abbrev pub readAfter : {A : Type 0} → After A Lists → After A (Lent singles)
+readAfter a = record { outcome = a .outcome; lent = lentIn (a .lent) }
+
+-- ---- the operations, record by record: a refusal leaves every list as it was
+module _ (t : Settings singles) (logs : List Float) where
+  unfoldable pub learnRecords : Lists → After (Tree singles) Lists
+  learnRecords x =
+      let r = learned (jobOf single t logs (usesModes t (lentIn x))) (t .limit) (rowsIn (lentIn x)) in
+      let answer = treeOf r in
+      let exit = listsAfter r x in
+      unless (learnRefusal single t logs (lentIn x)) x answer exit
+
+  unfoldable pub deepenRecords : ℕ → Lists → After (Tree singles) Lists
+  deepenRecords count x =
+      let r = deepened (jobOf single t logs (usesModes t (lentIn x))) (t .limit) (treeIn count (lentIn x .nodes)) (rowsIn (lentIn x)) in
+      let answer = treeOf r in
+      let exit = listsAfter r x in
+      unless (deepenRefusal single t logs count (lentIn x)) x answer exit
+
+  -- deepening of the first `count` nodes if there is a seed, else learning; the model's operation, and the same record by record
+  abbrev pub workOf : Bool → ℕ → Lent singles → After (Tree singles) (Lent singles)
+  workOf seeded count x = cond seeded (deepen single t logs count x) (learn single t logs x)
+
+  abbrev pub workRecords : Bool → ℕ → Lists → After (Tree singles) Lists
+  workRecords seeded count x = cond seeded (deepenRecords count x) (learnRecords x)
+
+  -- the answer and the lists at exit are the operation's, record by record and in the model's words
+  pub record Worked (seeded : Bool) (count : ℕ) (entry exit : Lists) (r : LearnedTree) : Type 0 where
+    pub answer : r ≡ treeAnswer (workRecords seeded count entry .outcome)
+    pub lent : exit ≡ workRecords seeded count entry .lent
+    pub answer-read : r ≡ treeAnswer (workOf seeded count (lentIn entry) .outcome)
+    pub lent-read : lentIn exit ≡ workOf seeded count (lentIn entry) .lent
