@@ -20,7 +20,7 @@ use Rattle.checks.specs.Given.{settingsOf}
 use Rattle.layout.specs.Layout.{storedIn}
 use Rattle.layout.specs.Tree.{NodeLists, HasRoom}
 use Rattle.tree.proofs.Entries.{tree-each}
-use Rattle.seed.proofs.SeedLists.{seed-each}
+use Rattle.plant.proofs.SeedLists.{seed-each}
 use Rattle.model.specs.Lent.{treeIn}
 use Rattle.model.proofs.Accepted.{SeedRooms}
 use Rattle.layout.specs.Waiting.{QueueLists}
@@ -33,8 +33,8 @@ use Rattle.lent.specs.Lists.{Lists, lentIn}
 use Rattle.lent.proofs.Read.{room-read}
 use Rattle.start.proofs.Accepting.{accepted-fitting, accepted-plantable}
 use Rattle.seed.specs.Ordered.{seedIn}
-use Rattle.seed.specs.Seeded.{Seedable, Seeded, splitsOf}
-use Rattle.seed.specs.declared.Planted.{Planted}
+use Rattle.plant.specs.Seeded.{Seedable, Seeded, splitsOf}
+use Rattle.plant.specs.declared.Planted.{Planted}
 use Rattle.deepen.specs.Deepens.{deepenedIn, Deepenable}
 
 pub accepted-seedable : {s : Settings} {logs : List Float} (x : Lists) {rows count : ℕ} (d : Deepenable s logs x rows count) (counts : List ℕ) → counts ≡ replicate (length (x .counts)) 0

@@ -11,7 +11,7 @@ ghost use Rattle.lent.specs.Lists.{lists, lentIn, listsAfter, deepenLists, clea
 ghost use Rattle.rows.specs.Flat.{flat};
 ghost use Rattle.finish.specs.Finished.{FinishedTo};
 ghost use Rattle.lent.specs.Answer.{outcomeOf, after};
-ghost use Rattle.seed.specs.Seeded.{Seedable};
+ghost use Rattle.plant.specs.Seeded.{Seedable};
 ghost use Rattle.deepen.specs.Deepens.{deepenedIn, Passing, Deepenable};
 use checks::Check;
 use checks::Rooms;
@@ -56,7 +56,7 @@ fn grow_from_seed(
     ensures { λ _. ⌜ queueLists (now («queue_words» .exit)) (now («queue_values» .exit)) (now («queue_gains» .exit))
         ≡ clearQueue (queueLists (now («queue_words» .entry)) (now («queue_values» .entry)) (now («queue_gains» .entry))) ⌝ }
 {
-    let planted = seed::plant_seed(
+    let planted = plant::plant_seed(
         props,
         tok,
         res,

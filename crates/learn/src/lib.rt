@@ -13,7 +13,7 @@ ghost use Rattle.rows.specs.Flat.{flat, heldIn};
 ghost use Rattle.lent.specs.Answer.{outcomeOf, after};
 ghost use Rattle.state.specs.Grows.{jobIn, Number, Grows};
 ghost use Rattle.finish.specs.Finished.{FinishedTo};
-ghost use Rattle.start.specs.Starts.{Plantable, Flattened};
+ghost use Rattle.start.specs.Starts.{Plantable};
 ghost use Rattle.learn.specs.Learns.{resultIn, Learnable};
 use checks::Check;
 use checks::Rooms;

@@ -3,7 +3,6 @@ ghost use mathlib.Core.Path.{_≡_};
 ghost use Prim.Native.Nat.{_+_, _-_, _*_, _≤_, _<_};
 ghost use lib.ListN.{length};
 ghost use Rattle.model.specs.Settings.{maxRows};
-ghost use Rattle.model.specs.Score.{lower};
 ghost use Rattle.model.specs.Cost.{extraFrom};
 ghost use Rattle.cost.specs.Counted.{rowsIn};
 ghost use Rattle.score.specs.Sides.{entropiesOf, costsOf, lowerCost, lowerSides, SideCounted};

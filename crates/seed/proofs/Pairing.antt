@@ -20,7 +20,7 @@ use Rattle.layout.specs.Tree.{NodeLists, nodeLists, HasRoom, put, leafWith}
 use Rattle.layout.proofs.Cells.{set-paste, stores-two, stores-five}
 use Rattle.tree.specs.Trees.{nodeAt}
 use Rattle.seed.specs.Ordered.{Paired, Pairs}
-use Rattle.seed.specs.Sown.{infoAt, keptNode}
+use Rattle.seed.specs.Kept.{infoAt, keptNode}
 
 -- ---- pairs
 pub pairs-none : (count : ℕ) (space spans : List ℕ) → Pairs 0 count space spans spans

@@ -1,5 +1,3 @@
--- `Ordered`: a seed's rows in the order of its
--- leaves. `Sown`: a seed planted node by node. `Seeded`: what planting a seed asks for and leaves.
+-- `Ordered`: a seed's rows in the order of its leaves. `Kept`: its nodes without rows.
 pub mod Ordered
-pub mod Sown
-pub mod Seeded
+pub mod Kept

@@ -8,7 +8,7 @@ use Rattle.rows.specs.Flat.{flat, heldIn}
 use Rattle.state.specs.Grows.{jobIn}
 use Rattle.finish.proofs.Finishing.{clear-same}
 use Rattle.seed.specs.Ordered.{seedIn}
-use Rattle.seed.specs.Seeded.{splitsOf}
+use Rattle.plant.specs.Seeded.{splitsOf}
 use Rattle.deepen.proofs.Seeding.{seed-growable, seed-grows, seed-finished}
 use Rattle.deepen.proofs.grow_from_seed.Statement.{statement}
 use Rattle.deepen.proofs.grow_from_seed.Tie as tie

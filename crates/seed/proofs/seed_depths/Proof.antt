@@ -1,11 +1,23 @@
 -- `seed::seed_depths` meets its contract. Assumes nothing.
-use mathlib.Core.Path.{sym, _∙_}
+use mathlib.Core.Path.{sym, ap, _∙_}
+use mathlib.Core.List.{List}
+use Prim.Native.Nat.{ℕ, _≤_}
+use lib.ListN.{length, length-replicate}
 use lib.Seq.{take-at, length-take-le}
 use native.Mathlib.Omega.{arith}
-use Rattle.seed.proofs.Walking.{depths-room}
 use borrow.Author.Needs.{needs}
+use Rattle.model.specs.Settings.{maxNodes}
+use Rattle.tree.proofs.Soundness.{few}
+use Rattle.seed.specs.Ordered.{DepthsFit}
 use Rattle.seed.proofs.seed_depths.Statement.{statement}
 use Rattle.seed.proofs.seed_depths.Tie as tie
+
+-- there is a place for each depth
+depths-room : {words : List ℕ} {count : ℕ} {out : List ℕ} → DepthsFit words count out → (count ≤ maxNodes) × (count ≤ length out)
+depths-room {words} {count} d =
+    let f = few words count (d .sound) .1 in
+    let long = ap length (d .zeros) ∙ length-replicate {A = ℕ} maxNodes 0 in
+    (f, omega arith)
 
 cast-depths : tie.Need-cast-depths
 cast-depths c = omega (arith, depths-room (c .before .before .pre))

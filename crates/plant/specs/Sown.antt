@@ -4,25 +4,25 @@ use mathlib.Core.Path.{_≡_}
 use mathlib.Core.Bool.{Bool, true, false, cond}
 use mathlib.Core.List.{List, [], _++_}
 use mathlib.Core.Option.{none}
-use lib.ListN.{length, getD, take, drop}
-use lib.Ieee.{Float, nan, add, binary64}
+use lib.ListN.{length, take, drop}
+use lib.Ieee.{Float, add, binary64}
 use lib.Dec.{eqb}
 use Rattle.model.specs.Settings.{maxNodes}
 use Rattle.model.specs.Single.{singles}
 use Rattle.model.specs.Rows.{Row}
-use Rattle.model.specs.Tree.{Node, split, leaf, Info, Record, nodesOf, faultOf}
+use Rattle.model.specs.Tree.{leaf, Record, nodesOf, faultOf}
 use Rattle.model.specs.Learn.{leafCount}
 use Rattle.model.specs.Profile.{single, jobOf}
 use Rattle.model.specs.Job.{Job}
-use Rattle.model.specs.Grow.{Entry, State}
+use Rattle.model.specs.Grow.{State}
 use Rattle.model.specs.Lent.{Waiting}
-use Rattle.model.specs.Deepen.{depthsOf, seedSplit, emptyLeaf, withSeedNode, seedFrom}
+use Rattle.model.specs.Deepen.{depthsOf, withSeedNode, seedFrom}
 use Rattle.model.proofs.Bounded.{LogsWithin}
 use Rattle.checks.specs.Given.{settingsOf}
 use Rattle.checks.specs.declared.Settings.{Settings}
 use Rattle.layout.specs.declared.Leaf.{Leaf}
 use Rattle.layout.specs.Values.{offerIs}
-use Rattle.layout.specs.Layout.{kindAt, predAt, offsetAt}
+use Rattle.layout.specs.Layout.{kindAt}
 use Rattle.layout.specs.Tree.{NodeLists, holding, HasRoom, put, leafWith}
 use Rattle.layout.specs.Waiting.{QueueLists, Queued, QueueRoom, SameQueue, queueOf, waits}
 use Rattle.lent.specs.Lists.{spanAt}
@@ -33,8 +33,9 @@ use Rattle.rows.specs.Flat.{Flat, heldIn, rowCount, Spanned, SameSize}
 use Rattle.tree.specs.Trees.{nodeAt}
 use Rattle.state.specs.Fitting.{usesOf, Fitting}
 use Rattle.leaf.specs.Made.{MadeLeaf}
 use Rattle.seed.specs.Ordered.{seedIn}
-use Rattle.seed.specs.declared.Sum.{Sum}
+use Rattle.seed.specs.Kept.{infoAt}
+use Rattle.plant.specs.declared.Sum.{Sum}
 
 -- the model's state after the first i nodes of the seed
 unfoldable pub seededTo : Job singles → List (Record singles) → List Row → ℕ → State singles
@@ -53,16 +54,7 @@ pub record Sown (s : Settings) (logs : List Float) (counts : List ℕ) (x : Flat
   pub idle : scored ≡ false → sum .waiting ≡ 0
   pub summed : sum .bits ≡ st .bits
 
--- what stands beside node i in the lists
-abbrev pub infoAt : NodeLists → ℕ → Info singles
-infoAt n i = record { cost = getD (n .costs) i nan; pred = predAt (n .words) i; offset = offsetAt (n .values) i }
-
 -- ---- one node
-
--- a split or a leaf without rows, as it stands in the node lists
-abbrev pub keptNode : Node → Info singles → Entry singles
-keptNode (split prop val gt le) i = seedSplit (split prop val gt le) 0
-keptNode leaf i = emptyLeaf i 0
 
 -- a leaf over the rows from first to end can be evaluated as node i, and there is room for it, and in the queue if it is scored
 pub record LeafReady (s : Settings) (logs : List Float) (counts : List ℕ) (x : Flat) (n : NodeLists) (q : QueueLists) (sum : Sum) (i first end : ℕ)

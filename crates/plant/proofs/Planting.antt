@@ -42,10 +42,11 @@ use Rattle.rows.proofs.Cells.{span-length}
 use Rattle.rows.proofs.Shapes.{size-same}
 use Rattle.tree.specs.Trees.{nodeAt}
 use Rattle.state.proofs.Numbers.{evaluated-number}
-use Rattle.seed.specs.declared.Sum.{Sum}
+use Rattle.plant.specs.declared.Sum.{Sum}
 use Rattle.state.specs.Fitting.{usesOf, Fitting}
 use Rattle.leaf.specs.Made.{settledAt, MadeLeaf}
-use Rattle.seed.specs.Sown.{Sown, infoAt, keptNode, LeafPlanted, NextIs, NodePlanted}
+use Rattle.seed.specs.Kept.{infoAt, keptNode}
+use Rattle.plant.specs.Sown.{Sown, LeafPlanted, NextIs, NodePlanted}
 use Rattle.leaf.proofs.Making.{uses-still, made-fitting}
 
 -- ---- the cost of a leaf is a number, and the same in double precision

@@ -26,8 +26,8 @@ use Rattle.lent.specs.Lists.{nodesLent, storedNodes, spanAt}
 use Rattle.tree.specs.Trees.{nodeAt, SoundTree}
 use Rattle.tree.proofs.Lists.{take-each}
 use Rattle.tree.proofs.Entries.{tree-each}
 use Rattle.seed.specs.Ordered.{seedIn, nodesIn}
-use Rattle.seed.specs.Sown.{infoAt}
+use Rattle.seed.specs.Kept.{infoAt}
 
 module _ (count : ℕ) (n : NodeLists) (room : HasRoom count n) where
   abbrev recordAt : ℕ → Record singles

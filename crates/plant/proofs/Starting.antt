@@ -49,17 +49,17 @@ use Rattle.rows.specs.Flat.{Flat, heldIn, rowCount, SameSize}
 use Rattle.rows.proofs.Cells.{length-held, tok-held}
 use Rattle.rows.proofs.Shapes.{size-then, count-still}
 use Rattle.state.proofs.Numbers.{evaluated-number}
-use Rattle.seed.specs.declared.Sum.{Sum}
-use Rattle.seed.specs.declared.Planted.{Planted}
+use Rattle.plant.specs.declared.Sum.{Sum}
+use Rattle.plant.specs.declared.Planted.{Planted}
 use Rattle.state.specs.Fitting.{usesOf, Fitting}
 use Rattle.state.specs.Grows.{jobIn, Number, Grows}
 use Rattle.seed.specs.Ordered.{seedIn, numbersIn, Orderable, OrderedBy}
-use Rattle.seed.specs.Sown.{seededTo, Plants, Plantable, PlantedTo}
-use Rattle.seed.specs.Seeded.{splitsOf, Seedable, Seeded}
+use Rattle.plant.specs.Sown.{seededTo, Plants, Plantable, PlantedTo}
+use Rattle.plant.specs.Seeded.{splitsOf, Seedable, Seeded}
 use Rattle.leaf.proofs.Making.{uses-still, fitting-still}
-use Rattle.seed.proofs.SeedLists.{seed-length, nodes-length, nodes-in, sound-tree, seed-few}
-use Rattle.seed.proofs.Walking.{room-queue}
-use Rattle.seed.proofs.Seeding.{leaves-few, seeded-all, seeded-length}
+use Rattle.plant.proofs.SeedLists.{seed-length, nodes-length, nodes-in, sound-tree, seed-few}
+use Rattle.plant.proofs.Walking.{room-queue}
+use Rattle.plant.proofs.Seeding.{leaves-few, seeded-all, seeded-length}
 
 -- ---- the tokens of ordered rows are those of the rows
 module _ {A : Type 0} (P : A → Type 0) where

@@ -19,8 +19,8 @@ use Rattle.layout.specs.Waiting.{QueueLists, QueueRoom, SameQueue}
 use Rattle.rows.specs.Flat.{Flat, heldIn, rowCount, SameSize}
 use Rattle.state.specs.Fitting.{Fitting}
 use Rattle.state.specs.Grows.{jobIn, Grows}
 use Rattle.seed.specs.Ordered.{seedIn}
-use Rattle.seed.specs.declared.Planted.{Planted}
+use Rattle.plant.specs.declared.Planted.{Planted}
 
 -- what the checks of deepening ensure: 1 to 7, the rooms of a seed of `count` nodes, and a sound seed
 pub record Seedable (s : Settings) (logs : List Float) (counts : List ℕ) (x : Flat) (n : NodeLists) (q : QueueLists) (rows count : ℕ) : Type 0 where

@@ -27,7 +27,7 @@ use Rattle.order.specs.Order.{orderedBy, firstOf, timesOf}
 use Rattle.order.specs.Leaves.{leafNumbers}
 use Rattle.order.proofs.OrderLaws.{first-none, first-more}
 use Rattle.order.proofs.Leaves.{leaf-span}
-use Rattle.seed.specs.Sown.{seededTo}
+use Rattle.plant.specs.Sown.{seededTo}
 
 -- ---- one node more
 seed-one : (j : Job singles) (nodes : List Node) (depths : List ℕ) (rows : List Row) (k : ℕ) (rs : List (Record singles)) (r : Record singles)

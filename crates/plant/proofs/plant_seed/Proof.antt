@@ -1,9 +1,9 @@
--- `seed::plant_seed` meets its contract: the rows ordered by leaf, and then the nodes planted. Assumes nothing.
+-- `plant::plant_seed` meets its contract: the rows ordered by leaf, and then the nodes planted. Assumes nothing.
 use Rattle.model.specs.Rows.{rowsHeld}
-use Rattle.seed.proofs.Starting.{orderable, plantable, plants, seeded, seeded-zeros}
+use Rattle.plant.proofs.Starting.{orderable, plantable, plants, seeded, seeded-zeros}
 use borrow.Author.Needs.{needs}
-use Rattle.seed.proofs.plant_seed.Statement.{statement}
-use Rattle.seed.proofs.plant_seed.Tie as tie
+use Rattle.plant.proofs.plant_seed.Statement.{statement}
+use Rattle.plant.proofs.plant_seed.Tie as tie
 
 -- ---- from each call back to the one before it
 abbrev entry : tie.After-order-by-leaf → tie.Start

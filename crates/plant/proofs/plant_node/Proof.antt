@@ -1,13 +1,13 @@
--- `seed::plant_node` meets its contract: a node without rows is kept, and a leaf with rows is planted. Assumes nothing.
+-- `plant::plant_node` meets its contract: a node without rows is kept, and a leaf with rows is planted. Assumes nothing.
 use mathlib.Core.Path.{refl}
 use Prim.Native.Nat.{_+_, _*_}
 use lib.Dec.{eqb}
 use lib.ListN.{getD}
 use Rattle.layout.specs.Layout.{kindAt}
-use Rattle.seed.proofs.Planting.{kept-planted, leaf-planted}
+use Rattle.plant.proofs.Planting.{kept-planted, leaf-planted}
 use borrow.Author.Needs.{needs}
-use Rattle.seed.proofs.plant_node.Statement.{statement}
-use Rattle.seed.proofs.plant_node.Tie as tie
+use Rattle.plant.proofs.plant_node.Statement.{statement}
+use Rattle.plant.proofs.plant_node.Tie as tie
 use Rattle.model.proofs.Tests.{neither}
 
 -- ---- from either branch back to the entry, and from its call to the branch

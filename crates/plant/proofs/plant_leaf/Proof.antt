@@ -1,9 +1,9 @@
--- `seed::plant_leaf` meets its contract: what the leaf came to is written, waits if it offers a split, and its cost is added. Assumes nothing.
+-- `plant::plant_leaf` meets its contract: what the leaf came to is written, waits if it offers a split, and its cost is added. Assumes nothing.
 use mathlib.Core.Path.{refl}
-use Rattle.seed.proofs.Planting.{made-widens, offer-room}
+use Rattle.plant.proofs.Planting.{made-widens, offer-room}
 use borrow.Author.Needs.{needs}
-use Rattle.seed.proofs.plant_leaf.Statement.{statement}
-use Rattle.seed.proofs.plant_leaf.Tie as tie
+use Rattle.plant.proofs.plant_leaf.Statement.{statement}
+use Rattle.plant.proofs.plant_leaf.Tie as tie
 
 -- ---- from each call back to the one before it
 abbrev entry : tie.After-make-leaf → tie.Start

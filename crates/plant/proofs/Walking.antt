@@ -6,7 +6,7 @@ use Prim.Native.Nat.{ℕ, suc, _+_, _≤_, _<_}
 use native.Mathlib.Nat.{le-trans, mul-le-mul-right}
 use native.Mathlib.Numerals.{add-one}
 use native.Mathlib.Omega.{arith}
-use lib.ListN.{length, getD, take, drop, length-map, length-replicate}
+use lib.ListN.{length, getD, take, drop, length-map}
 use lib.Seq.{getD-take}
 use lib.IntN.{ℤ}
 use lib.Ieee.{Float}
@@ -37,15 +37,15 @@ use Rattle.rows.specs.Flat.{Flat, heldIn, rowCount, SameSize}
 use Rattle.rows.proofs.Cells.{length-held}
 use Rattle.rows.proofs.Shapes.{size-same, size-then, count-still}
 use Rattle.tree.specs.Trees.{nodeAt, OfTree, SoundTree}
-use Rattle.tree.proofs.Soundness.{few}
 use Rattle.tree.proofs.Entries.{nodes-each}
-use Rattle.seed.specs.declared.Sum.{Sum}
+use Rattle.plant.specs.declared.Sum.{Sum}
 use Rattle.state.specs.Fitting.{usesOf}
-use Rattle.seed.specs.Ordered.{seedIn, DepthsFit}
-use Rattle.seed.specs.Sown.{seededTo, Sown, infoAt, NodeFits, NextIs, NodePlanted, Plants, PlantedTo}
-use Rattle.seed.proofs.SeedLists.{seed-length, nodes-in, nodes-length, record-in, node-in, sound-tree, seed-few}
-use Rattle.seed.proofs.SeedLists.{node-still, info-still, span-still}
-use Rattle.seed.proofs.Seeding.{leaves-more, leaves-few, seeded-none, seeded-more, seeded-length, split-empty, mine-length, seeded-rows, rows-left}
+use Rattle.seed.specs.Ordered.{seedIn}
+use Rattle.seed.specs.Kept.{infoAt}
+use Rattle.plant.specs.Sown.{seededTo, Sown, NodeFits, NextIs, NodePlanted, Plants, PlantedTo}
+use Rattle.plant.proofs.SeedLists.{seed-length, nodes-in, nodes-length, record-in, node-in, sound-tree, seed-few}
+use Rattle.plant.proofs.SeedLists.{node-still, info-still, span-still}
+use Rattle.plant.proofs.Seeding.{leaves-more, leaves-few, seeded-none, seeded-more, seeded-length, split-empty, mine-length, seeded-rows, rows-left}
 
 -- a node's kind says whether it is a leaf
 leaf-kind : (b : Bool) (prop : ℕ) (val : ℤ) (gt le : ℕ) → isLeaf (cond b (split prop val gt le) leaf) ≡ cond b false true
@@ -251,10 +251,3 @@ depths-deep {n = n} {count = count} p out is k h =
     sym (getD-take count out k 0 h)
     ∙ ap (λ (l : List ℕ). getD l k 0) (is (n .values) (n .costs) held)
     ∙ ap (λ (l : List Node). getD (depthsOf l) k 0) (nodes-each (n .words) (n .values) (n .costs) count held ∙ sym (nodes-in count n (p .room)))
-
--- there is a place for each depth
-pub depths-room : {words : List ℕ} {count : ℕ} {out : List ℕ} → DepthsFit words count out → (count ≤ maxNodes) × (count ≤ length out)
-depths-room {words} {count} d =
-    let f = few words count (d .sound) .1 in
-    let long = ap length (d .zeros) ∙ length-replicate {A = ℕ} maxNodes 0 in
-    (f, omega arith)

@@ -1,4 +1,4 @@
--- `seed::plant_nodes` meets its contract. The invariant: the nodes passed are planted, and the depths are the seed's. Assumes nothing.
+-- `plant::plant_nodes` meets its contract. The invariant: the nodes passed are planted, and the depths are the seed's. Assumes nothing.
 use mathlib.Core.Path.{_≡_, refl, ap, subst}
 use Prim.Native.Nat.{ℕ, _-_, _<_}
 use lib.ListN.{length}
@@ -8,11 +8,11 @@ use borrow.Author.Needs.{needs}
 use Rattle.layout.specs.Tree.{nodeLists}
 use Rattle.layout.specs.Waiting.{queueLists}
 use Rattle.rows.specs.Flat.{flat}
-use Rattle.seed.specs.Sown.{PlantedTo}
-use Rattle.seed.proofs.Walking.{Walked, walk-sound, walk-few, planted-none, node-fits, planted-more}
-use Rattle.seed.proofs.Walking.{walked-size, walked-queue, walked-zeros, walked-lists, depths-deep}
-use Rattle.seed.proofs.plant_nodes.Statement.{statement}
-use Rattle.seed.proofs.plant_nodes.Tie as tie
+use Rattle.plant.specs.Sown.{PlantedTo}
+use Rattle.plant.proofs.Walking.{Walked, walk-sound, walk-few, planted-none, node-fits, planted-more}
+use Rattle.plant.proofs.Walking.{walked-size, walked-queue, walked-zeros, walked-lists, depths-deep}
+use Rattle.plant.proofs.plant_nodes.Statement.{statement}
+use Rattle.plant.proofs.plant_nodes.Tie as tie
 
 abbrev Inv-loop : tie.InvT-loop
 Inv-loop props tok₀ res words₀ values₀ costs₀ spans₀ queue-words₀ queue-values₀ queue-gains₀ counts₀ logs s count score-split depths sum₀ i₀ tok words values costs spans queue-words queue-values queue-gains counts sum i =
