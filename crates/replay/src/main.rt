@@ -1,9 +1,9 @@
 // Replays stored jobs through the proved crates and holds each answer to the stored one, byte for byte. Standard input has a job and its answer by
 // turns, each as document JOBS describes it: kind, bytes in the body, body. It prints how many of each kind were replayed and how many came out wrong.
+// Learning and deepening are not among them: interface/check replays these through the C interface, and the other public operations too.
 // To add a kind: a function like those of `small`, an arm in `replayed`, and a line in `report_all`.
 
 mod bytes;
-mod learning;
 mod parts;
 mod rooms;
 mod small;
@@ -15,8 +15,6 @@ use bytes::after;
 use bytes::word;
 use libc::STDIN_FILENO;
 use libc::STDOUT_FILENO;
-
-const LEARN: u32 = 1;
 
 const LOOKUP: u32 = 3;
 
@@ -39,7 +37,6 @@ const PARTITION: u32 = 18;
 // The comparison at the answer's end. A kind that is not known is wrong.
 fn replayed(b: &[u8], kind: u32, job: usize, answer: Check) -> Check {
     match kind {
-        LEARN => learning::learn(b, job, answer),
         LOOKUP => trees::lookup(b, job, answer),
         CONTEXTS => trees::contexts(b, job, answer),
         SAMPLING => small::sampling(b, job, answer),
@@ -115,7 +112,6 @@ fn report_kind(name: &[u8], kind: u32, tried: &[u64; 32], wrong: &[u64; 32], fir
 }
 
 fn report_all(tried: &[u64; 32], wrong: &[u64; 32], first: &[u64; 32]) {
-    report_kind(b"learning", LEARN, tried, wrong, first);
     report_kind(b"lookup", LOOKUP, tried, wrong, first);
     report_kind(b"contexts", CONTEXTS, tried, wrong, first);
     report_kind(b"even sampling", SAMPLING, tried, wrong, first);

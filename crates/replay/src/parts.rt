@@ -15,7 +15,7 @@ const FEW: u32 = 64;
 
 const MANY: u32 = 2064;
 
-pub fn put_numbers(res: &mut [i32], b: &[u8], first: usize) {
+fn put_numbers(res: &mut [i32], b: &[u8], first: usize) {
     let mut at = first;
     for i in 0..res.len() {
         res[i] = signed(word(b, at));
@@ -52,7 +52,7 @@ fn put_number(list: &mut [i32], at: usize, value: i32) {
     }
 }
 
-pub fn number(list: &[i32], at: usize) -> i32 {
+fn number(list: &[i32], at: usize) -> i32 {
     if at < list.len() { list[at] } else { 0 }
 }
 
@@ -78,7 +78,7 @@ fn narrow(n: usize) -> u32 {
     if n < 4294967296 { n as u32 } else { 0 }
 }
 
-pub fn expect_numbers(b: &[u8], c: Check, cands: &[i32], n: usize) -> Check {
+fn expect_numbers(b: &[u8], c: Check, cands: &[i32], n: usize) -> Check {
     let mut all = expect(b, c, narrow(n));
     for i in 0..n {
         all = expect(b, all, entropy::pattern(number(cands, i)));

@@ -5,10 +5,10 @@ ghost use Rattle.mode.specs.Lent.{Clear};
 ghost use Rattle.candidates.specs.Marks.{Blank};
 
 // The stored bytes.
-pub fn stored() -> [u8; 458752]
-    ensures { λ r. ⌜ 458752 ≡ length r ⌝ }
+pub fn stored() -> [u8; 327680]
+    ensures { λ r. ⌜ 327680 ≡ length r ⌝ }
 {
-    [0; 458752]
+    [0; 327680]
 }
 
 // Count space: the mode step and the candidates ask for zeros.
@@ -82,41 +82,4 @@ pub fn candidates() -> [i32; 32]
     ensures { λ r. ⌜ 32 ≡ length r ⌝ }
 {
     [0; 32]
-}
-
-// Costs and spans of 128 nodes, queue entries of 64 leaves, logarithms, and count space for learning.
-pub fn costs() -> [f32; 128]
-    ensures { λ r. ⌜ 128 ≡ length r ⌝ }
-{
-    [0.0; 128]
-}
-
-pub fn spans() -> [u32; 256]
-    ensures { λ r. ⌜ 256 ≡ length r ⌝ }
-{
-    [0; 256]
-}
-
-pub fn queue_words() -> [u32; 192]
-    ensures { λ r. ⌜ 192 ≡ length r ⌝ }
-{
-    [0; 192]
-}
-
-pub fn queue_gains() -> [f32; 64]
-    ensures { λ r. ⌜ 64 ≡ length r ⌝ }
-{
-    [0.0; 64]
-}
-
-pub fn logs() -> [f32; 128]
-    ensures { λ r. ⌜ 128 ≡ length r ⌝ }
-{
-    [0.0; 128]
-}
-
-pub fn space() -> [u32; 131072]
-    ensures { λ r. ⌜ 131072 ≡ length r ⌝ }
-{
-    [0; 131072]
 }

@@ -45,7 +45,7 @@ fn put_values(values: &mut [i32], b: &[u8], at: usize, node: u32) {
 }
 
 // The records that the job gives.
-pub fn put_given(words: &mut [u32], values: &mut [i32], b: &[u8], first: usize, n: u32) {
+fn put_given(words: &mut [u32], values: &mut [i32], b: &[u8], first: usize, n: u32) {
     for i in 0..n {
         let at = std::num::wrapping_add_usize(first, 32 * i as usize);
         put_words(words, b, at, i);
@@ -66,14 +66,14 @@ fn put_pattern(words: &mut [u32], values: &mut [i32], node: u32, v: u32) {
     put_value(values, 2 * node as usize + 1, z);
 }
 
-pub fn put_rest(words: &mut [u32], values: &mut [i32], given: u32, entries: u32, fill: u32) {
+fn put_rest(words: &mut [u32], values: &mut [i32], given: u32, entries: u32, fill: u32) {
     for i in given..entries {
         put_pattern(words, values, i, std::num::wrapping_add_u32(fill, i));
     }
 }
 
 // Where a node list that starts at a place ends: its two numbers, and a record for each node given.
-pub fn nodes_end(b: &[u8], at: usize) -> usize {
+fn nodes_end(b: &[u8], at: usize) -> usize {
     std::num::wrapping_add_usize(after(at, 2), 32 * word(b, after(at, 1)) as usize)
 }
 
@@ -171,7 +171,7 @@ fn count_runs(queue: &[u32], fill: u32) -> u32 {
 }
 
 // The queue as runs: entries, runs, and each run's value and length.
-pub fn expect_runs(b: &[u8], c: Check, count: u32, queue: &[u32], fill: u32) -> Check {
+fn expect_runs(b: &[u8], c: Check, count: u32, queue: &[u32], fill: u32) -> Check {
     let mut all = expect(b, expect(b, c, count), count_runs(queue, fill));
     let mut length: u32 = 0;
     for i in 0..queue.len() {
