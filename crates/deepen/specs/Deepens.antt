@@ -1,28 +1,18 @@
--- What deepening's parts ask for, after the checks have passed, and what it makes of a sound seed (document 01, "Deepening"). Assumes nothing.
+-- What deepening asks for after the checks have passed (document 01, "Deepening"). Assumes nothing.
 use Prim.Native.Nat.{ℕ}
 use mathlib.Core.Path.{_≡_}
 use mathlib.Core.List.{List}
 use mathlib.Core.Option.{none}
 use lib.Ieee.{Float}
-use Rattle.model.specs.Single.{singles}
 use Rattle.model.specs.Tree.{faultOf}
-use Rattle.model.specs.Learn.{Result}
-use Rattle.model.specs.Deepen.{deepened}
 use Rattle.model.specs.Profile.{single}
 use Rattle.model.specs.Refuse.{refuseAt, deepenRefusal}
 use Rattle.model.proofs.Accepted.{SeedRooms}
 use Rattle.checks.specs.Given.{settingsOf}
 use Rattle.checks.specs.declared.Settings.{Settings}
 use Rattle.checks.proofs.Passed.{Accepted}
-use Rattle.layout.specs.Tree.{NodeLists}
-use Rattle.rows.specs.Flat.{Flat, heldIn}
-use Rattle.state.specs.Grows.{jobIn}
 use Rattle.lent.specs.Lists.{Lists, lentIn}
 use Rattle.seed.specs.Ordered.{seedIn}
-
--- what deepening makes of the seed, the first `count` nodes, and the rows
-abbrev pub deepenedIn : Settings → List Float → ℕ → Flat → NodeLists → Result singles
-deepenedIn s logs count x n = deepened (jobIn s logs x) (s .«max_leaves») (seedIn count n) (heldIn x)
 
 -- conditions 1 to 7 do not hold, of so many rows: what is left is the seed's soundness
 pub record Passing (s : Settings) (logs : List Float) (x : Lists) (rows count : ℕ) : Type 0 where

@@ -1,2 +1,2 @@
--- `Learns`: what learning asks for and makes.
+-- `Learns`: what learning asks for.
 pub mod Learns

@@ -14,7 +14,7 @@ use Rattle.lent.specs.Lists.{Lists, lists, lentIn, deepenLists}
 use Rattle.lent.proofs.Read.{deepen-read}
 use Rattle.lent.proofs.Answered.{refused-lists, both}
 use Rattle.lent.proofs.Rooms.{lends-rooms}
-use Rattle.deepen.specs.Deepens.{deepenedIn}
+use Rattle.from_seed.specs.Result.{deepenedIn}
 use Rattle.deepen.proofs.deepen_ma_tree.Statement.{statement}
 use Rattle.deepen.proofs.deepen_ma_tree.Tie as tie
 

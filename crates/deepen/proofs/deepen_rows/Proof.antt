@@ -9,7 +9,7 @@ use Rattle.rows.specs.Flat.{flat}
 use Rattle.lent.specs.Lists.{Lists, lists}
 use Rattle.start.proofs.Accepting.{accepted-fitting, accepted-flattened}
 use Rattle.finish.proofs.Made.{made-lists, made-answer}
-use Rattle.deepen.specs.Deepens.{deepenedIn}
+use Rattle.from_seed.specs.Result.{deepenedIn}
 use Rattle.deepen.proofs.Seeding.{accepted-seedable}
 use Rattle.deepen.proofs.deepen_rows.Statement.{statement}
 use Rattle.deepen.proofs.deepen_rows.Tie as tie

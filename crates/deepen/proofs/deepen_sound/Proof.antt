@@ -13,7 +13,7 @@ use Rattle.tree.specs.Answers.{faultNamed}
 use Rattle.lent.specs.Lists.{Lists, lists, deepenLists}
 use Rattle.lent.proofs.Answered.{refused-lists, accepted-lists}
 use Rattle.seed.specs.Ordered.{seedIn}
-use Rattle.deepen.specs.Deepens.{deepenedIn}
+use Rattle.from_seed.specs.Result.{deepenedIn}
 use Rattle.deepen.proofs.Seeding.{nodes-there, seed-same}
 use Rattle.deepen.proofs.deepen_sound.Statement.{statement}
 use Rattle.deepen.proofs.deepen_sound.Tie as tie

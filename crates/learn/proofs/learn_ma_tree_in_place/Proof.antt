@@ -12,7 +12,7 @@ use Rattle.checks.proofs.Passed.{learn-passed, learn-refused}
 use Rattle.lent.specs.Lists.{Lists, lists, lentIn, learnLists}
 use Rattle.lent.proofs.Read.{learn-read}
 use Rattle.lent.proofs.Answered.{refused-lists, accepted-lists, both}
-use Rattle.learn.specs.Learns.{resultIn}
+use Rattle.from_root.specs.Result.{resultIn}
 use Rattle.lent.proofs.Rooms.{lends-rooms}
 use Rattle.learn.proofs.learn_ma_tree_in_place.Statement.{statement}
 use Rattle.learn.proofs.learn_ma_tree_in_place.Tie as tie

@@ -6,7 +6,7 @@ use Rattle.layout.specs.Tree.{nodeLists}
 use Rattle.layout.specs.Waiting.{queueLists}
 use Rattle.rows.specs.Flat.{flat}
 use Rattle.lent.specs.Lists.{Lists, lists}
-use Rattle.learn.specs.Learns.{resultIn}
+use Rattle.from_root.specs.Result.{resultIn}
 use Rattle.start.proofs.Accepting.{accepted-fitting, accepted-flattened, accepted-plantable}
 use Rattle.finish.proofs.Made.{made-lists, made-answer}
 use Rattle.learn.proofs.learn_rows.Statement.{statement}

@@ -9,7 +9,7 @@ use borrow.Author.Tests.{lt-ltb}
 use lib.Dec.{ltb}
 use lib.ListN.{length, getD, drop-of-length-le}
 use lib.Seq.{take-all}
-use lib.Ieee.{Float, isNan}
+use lib.Ieee.{Float}
 use Rattle.model.specs.Single.{singles}
 use Rattle.model.specs.Rows.{Row, within}
 use Rattle.model.specs.Mode.{spanMode, fresh}
@@ -41,16 +41,11 @@ use Rattle.finish.specs.Finished.{FinishedTo}
 use Rattle.finish.specs.declared.Finished.{Finished}
 use Rattle.state.specs.Fitting.{usesOf, Fitting, LeafFits}
 use Rattle.leaf.specs.Made.{MadeLeaf}
-use Rattle.state.proofs.Numbers.{evaluated-number}
+use Rattle.state.proofs.Numbers.{nought-number, evaluated-number}
 use Rattle.state.specs.Grows.{jobIn, Number, Grows}
 use Rattle.start.specs.Starts.{Plantable}
 use Rattle.model.proofs.Invariant.{Invariant}
 use Rattle.leaf.proofs.Making.{uses-still, made-fitting}
-
--- 0 is a number
-zero-number : Number (singles .nought)
-unfolding isNan
-zero-number = tt
 
 -- nothing waits yet
 pub none-queued : (q : QueueLists) → Queued 0 q []
@@ -127,7 +122,7 @@ module _ {s : Settings} {logs : List Float} {counts : List ℕ} {x : Flat} {n : 
           summed = cost ∙ ap (λ (i : Info singles). i .cost) info-is;
           inv = subst (λ (u : Bool). Invariant u noSeeds given root) (uses-still s (m .changed .size)) (root-keeps j given);
           healthy = root-healthy (single-lawful .bounds) j given (subst (JobFits (single-lawful .bounds) j) (sym (length-held (x .props) (x .toks) (x .res))) (p .lawful)) noSeeds;
-          sized = root-sized Number (rowCount y) j zero-number (λ mode l h. evaluated-number (p .fitting) mode l (omega arith)) given (omega (arith, length-held (x .props) (x .toks) (x .res)));
+          sized = root-sized Number (rowCount y) j nought-number (λ mode l h. evaluated-number (p .fitting) mode l (omega arith)) given (omega (arith, length-held (x .props) (x .toks) (x .res)));
           shallow = λ k h o e. elim k [ zero ↦ omega arith | suc i ↦ omega arith ];
         }
 

@@ -1,4 +1,4 @@
--- `learn::grow_from_root` meets its contract: the root, and then what growing and finishing make of it. Assumes nothing.
+-- `from_root::grow_from_root` meets its contract: the root, and then what growing and finishing make of it. Assumes nothing.
 use mathlib.Core.Path.{refl, _∙_}
 use native.Mathlib.Omega.{arith}
 use borrow.Author.Needs.{needs}
@@ -8,9 +8,9 @@ use Rattle.layout.specs.Tree.{nodeLists}
 use Rattle.rows.specs.Flat.{flat, heldIn}
 use Rattle.state.specs.Grows.{jobIn}
 use Rattle.finish.proofs.Finishing.{clear-same}
-use Rattle.learn.proofs.Planting.{finished-from}
-use Rattle.learn.proofs.grow_from_root.Statement.{statement}
-use Rattle.learn.proofs.grow_from_root.Tie as tie
+use Rattle.from_root.proofs.Planting.{finished-from}
+use Rattle.from_root.proofs.grow_from_root.Statement.{statement}
+use Rattle.from_root.proofs.grow_from_root.Tie as tie
 
 plant-root-requires : tie.Need-plant-root-requires
 plant-root-requires c κs = search needs

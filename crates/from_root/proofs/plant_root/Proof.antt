@@ -11,9 +11,9 @@ use Rattle.layout.proofs.Held.{room-fewer}
 use Rattle.layout.proofs.Queue.{fewer-room}
 use Rattle.rows.specs.Flat.{Flat, flat, heldIn}
 use Rattle.state.specs.Grows.{jobIn, Grows}
-use Rattle.learn.proofs.Planting.{none-queued, root-fits, root-number, planted}
-use Rattle.learn.proofs.plant_root.Statement.{statement}
-use Rattle.learn.proofs.plant_root.Tie as tie
+use Rattle.from_root.proofs.Planting.{none-queued, root-fits, root-number, planted}
+use Rattle.from_root.proofs.plant_root.Statement.{statement}
+use Rattle.from_root.proofs.plant_root.Tie as tie
 
 make-leaf-requires : tie.Need-make-leaf-requires
 make-leaf-requires c κs = root-fits (c .before .before .before .before .before .before .before .before .before .before .before .pre)

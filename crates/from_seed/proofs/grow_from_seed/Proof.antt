@@ -1,4 +1,4 @@
--- `deepen::grow_from_seed` meets its contract: the seed, and then what growing and finishing make of it. Assumes nothing.
+-- `from_seed::grow_from_seed` meets its contract: the seed, and then what growing and finishing make of it. Assumes nothing.
 use mathlib.Core.Path.{_∙_}
 use native.Mathlib.Omega.{arith}
 use borrow.Author.Needs.{needs}
@@ -9,9 +9,9 @@ use Rattle.state.specs.Grows.{jobIn}
 use Rattle.finish.proofs.Finishing.{clear-same}
 use Rattle.seed.specs.Ordered.{seedIn}
 use Rattle.plant.specs.Seeded.{splitsOf}
-use Rattle.deepen.proofs.Seeding.{seed-growable, seed-grows, seed-finished}
-use Rattle.deepen.proofs.grow_from_seed.Statement.{statement}
-use Rattle.deepen.proofs.grow_from_seed.Tie as tie
+use Rattle.from_seed.proofs.FromSeed.{seed-growable, seed-grows, seed-finished}
+use Rattle.from_seed.proofs.grow_from_seed.Statement.{statement}
+use Rattle.from_seed.proofs.grow_from_seed.Tie as tie
 
 plant-seed-requires : tie.Need-plant-seed-requires
 plant-seed-requires c κs = search needs

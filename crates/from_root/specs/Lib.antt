@@ -1,0 +1,2 @@
+-- `Result`: what learning makes of the rows.
+pub mod Result

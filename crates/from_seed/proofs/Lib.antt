@@ -1,0 +1,2 @@
+-- `FromSeed`: growth from a planted seed.
+pub mod FromSeed

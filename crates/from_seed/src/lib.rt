@@ -1,0 +1,90 @@
+// From a sound seed to the finished tree (document 01, "Deepening"; the Rust's `deepen_ma_tree` from the seed on): its leaves planted, then growth, pruning and settling
+// as in learning.
+ghost use mathlib.Core.Path.{_≡_};
+ghost use Prim.Native.Nat.{_-_};
+ghost use Rattle.layout.specs.Tree.{nodeLists};
+ghost use Rattle.layout.specs.Waiting.{queueLists};
+ghost use Rattle.lent.specs.Lists.{clearQueue};
+ghost use Rattle.rows.specs.Flat.{flat};
+ghost use Rattle.finish.specs.Finished.{FinishedTo};
+ghost use Rattle.plant.specs.Seeded.{Seedable};
+ghost use Rattle.from_seed.specs.Result.{deepenedIn};
+use checks::Settings;
+use finish::Finished;
+
+// How many leaves the limit leaves room for: none where the seed has as many already.
+fn leaves_left(limit: usize, leaves: usize) -> usize
+    ensures { λ r. ⌜ r ≡ limit - leaves ⌝ }
+{
+    if leaves < limit { limit - leaves } else { 0 }
+}
+
+// From the seed to the finished tree.
+pub fn grow_from_seed(
+    props: &mut [i32],
+    tok: &mut [u8],
+    res: &mut [i32],
+    words: &mut [u32],
+    values: &mut [i32],
+    costs: &mut [f32],
+    spans: &mut [u32],
+    queue_words: &mut [u32],
+    queue_values: &mut [i32],
+    queue_gains: &mut [f32],
+    counts: &mut [u32],
+    logs: &[f32],
+    s: Settings,
+    rows: usize,
+    count: usize,
+) -> Finished
+    requires { ⌜ Seedable s (now logs) (now counts) (flat (now props) (now tok) (now res)) (nodeLists (now words) (now values) (now costs) (now spans))
+        (queueLists (now «queue_words») (now «queue_values») (now «queue_gains»)) rows count ⌝ }
+    ensures { λ r. ⌜ FinishedTo (flat (now (props .entry)) (now (tok .entry)) (now (res .entry))) (flat (now (props .exit)) (now (tok .exit)) (now (res .exit)))
+        (nodeLists (now (words .exit)) (now (values .exit)) (now (costs .exit)) (now (spans .exit))) r
+        (nodeLists (now (words .entry)) (now (values .entry)) (now (costs .entry)) (now (spans .entry)))
+        (deepenedIn s (now (logs .entry)) count (flat (now (props .entry)) (now (tok .entry)) (now (res .entry)))
+        (nodeLists (now (words .entry)) (now (values .entry)) (now (costs .entry)) (now (spans .entry)))) ⌝ }
+    ensures { λ _. ⌜ now (counts .exit) ≡ now (counts .entry) ⌝ }
+    ensures { λ _. ⌜ queueLists (now («queue_words» .exit)) (now («queue_values» .exit)) (now («queue_gains» .exit))
+        ≡ clearQueue (queueLists (now («queue_words» .entry)) (now («queue_values» .entry)) (now («queue_gains» .entry))) ⌝ }
+{
+    let planted = plant::plant_seed(
+        props,
+        tok,
+        res,
+        words,
+        values,
+        costs,
+        spans,
+        queue_words,
+        queue_values,
+        queue_gains,
+        counts,
+        logs,
+        s,
+        rows,
+        count,
+    );
+    let waiting = planted.waiting;
+    let bits = planted.bits;
+    let more = leaves_left(s.max_leaves as usize, planted.leaves);
+    finish::grow_and_finish(
+        props,
+        tok,
+        res,
+        words,
+        values,
+        costs,
+        spans,
+        queue_words,
+        queue_values,
+        queue_gains,
+        counts,
+        logs,
+        s,
+        waiting,
+        count,
+        bits,
+        more,
+    )
+}
