@@ -2,13 +2,13 @@
 // number is document 01's, with its place; the rest of a refusal is 0.
 ghost use mathlib.Core.Path.{_≡_};
 ghost use Rattle.model.specs.Token.{answerOf};
-ghost use Rattle.rows.specs.Sampled.{outcomeOf};
+ghost use Rattle.sampling.specs.Sampled.{outcomeOf};
 ghost use Rattle.tree.specs.Answers.{contextsCounted};
 ghost use Rattle.lent.specs.Answer.{outcomeOf as treeOutcome};
 ghost use Rattle.answers.specs.Answers.{valueIn, countIn, treeIn};
 use lent::Learned;
 use model::TokenValue;
-use rows::Sampled;
+use sampling::Sampled;
 use tree::answers::Contexts;
 
 // A value's token, how many extra bits follow it, and those bits.

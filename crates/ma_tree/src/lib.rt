@@ -65,7 +65,7 @@ pub extern "C" fn ostrovuc_evenly_sampled_indices(
     ensures { λ r. ⌜ r ≡ countIn (sample rows target (now (out .entry)) .outcome) ⌝ }
     ensures { λ r. ⌜ now (out .exit) ≡ sample rows target (now (out .entry)) .lent ⌝ }
 {
-    answers::sampled_answer(rows::evenly_sampled_indices(rows, target, out))
+    answers::sampled_answer(sampling::evenly_sampled_indices(rows, target, out))
 }
 
 // ---- learning and deepening

@@ -10,7 +10,7 @@ use crate::bytes::signed;
 use crate::bytes::word;
 use crate::rooms;
 use model::TokenValue;
-use rows::Sampled;
+use sampling::Sampled;
 
 pub fn pack(b: &[u8], job: usize, answer: Check) -> Check {
     let n = word(b, job);
@@ -77,7 +77,7 @@ fn sample_into(
     entries: u32,
     out: &mut [u32],
 ) -> Check {
-    let r = rows::evenly_sampled_indices(rows, target, out);
+    let r = sampling::evenly_sampled_indices(rows, target, out);
     let c = expect_sampled(b, answer, r);
     expect_list(b, c, entries, out)
 }

@@ -1,7 +1,5 @@
--- `Blocks`: cells of a row in one flat list. `Flat`: the three lent lists as one value. `Cells`: one row of them.
--- `Parted`: what a partition leaves. `Sampled`: what even sampling answers.
+-- `Blocks`: cells of a row in one flat list. `Flat`: the three lent lists as one value. `Cells`: one row of them. `Parted`: what a partition leaves.
 pub mod Blocks
 pub mod Flat
 pub mod Cells
 pub mod Parted
-pub mod Sampled

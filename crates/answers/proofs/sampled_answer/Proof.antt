@@ -1,6 +1,6 @@
 -- The struct holds what the enum says. Assumes nothing.
 use mathlib.Core.Path.{sym, ap}
-use Rattle.rows.specs.Sampled.{outcomeOf}
+use Rattle.sampling.specs.Sampled.{outcomeOf}
 use Rattle.answers.specs.Answers.{countIn}
 use borrow.Author.Needs.{needs}
 use Rattle.answers.proofs.sampled_answer.Statement.{statement}

@@ -4,8 +4,8 @@ use mathlib.Core.List.{List}
 use lib.ListN.{length}
 use Rattle.model.specs.Settings.{maxRows}
 use Rattle.model.specs.Operations.{Outcome, refused, accepted, After}
-use Rattle.rows.specs.declared.Sampled.{Sampled}
-use Rattle.rows.specs.declared.Sampled.the-variants.{Picked, Refused}
+use Rattle.sampling.specs.declared.Sampled.{Sampled}
+use Rattle.sampling.specs.declared.Sampled.the-variants.{Picked, Refused}
 
 -- so many rows can be picked, and there is room for them
 pub record Picks (rows picked : ℕ) (out : List ℕ) : Type 0 where

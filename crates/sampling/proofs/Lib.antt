@@ -1,0 +1,2 @@
+-- `Picked`: the loop that picks rows.
+pub mod Picked

@@ -1,0 +1,2 @@
+-- `Sampled`: what even sampling answers.
+pub mod Sampled
