@@ -3,13 +3,13 @@
 ghost use mathlib.Core.Path.{_≡_};
 ghost use Rattle.model.specs.Token.{answerOf};
 ghost use Rattle.sampling.specs.Sampled.{outcomeOf};
-ghost use Rattle.tree.specs.Answers.{contextsCounted};
+ghost use Rattle.contexts.specs.Answers.{contextsCounted};
 ghost use Rattle.lent.specs.Answer.{outcomeOf as treeOutcome};
 ghost use Rattle.answers.specs.Answers.{valueIn, countIn, treeIn};
+use contexts::Contexts;
 use lent::Learned;
 use model::TokenValue;
 use sampling::Sampled;
-use tree::answers::Contexts;
 
 // A value's token, how many extra bits follow it, and those bits.
 #[repr(C)]

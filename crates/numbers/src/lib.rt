@@ -261,7 +261,7 @@ pub fn contexts_on<'a, 'b>(
         → record { contexts = now (contexts .exit); queue = now (queue .exit) }
         ≡ leafContexts (map storedOf nodes) count (record { contexts = now (contexts .entry); queue = now (queue .entry) }) .lent) ⌝ }
 {
-    answers::contexts_answer(tree::leaf_contexts(
+    answers::contexts_answer(contexts::leaf_contexts(
         &words[..n * NODE_WORDS],
         &values[..n * NODE_VALUES],
         count,

@@ -8,7 +8,7 @@ use crate::bytes::missed;
 use crate::bytes::signed;
 use crate::bytes::word;
 use crate::rooms;
-use tree::answers::Contexts;
+use contexts::Contexts;
 use tree::answers::Lookup;
 
 // Most entries of a node list, a context list and a queue, and most properties.
@@ -197,7 +197,7 @@ fn number(
     queue_entries: u32,
     value: u32,
 ) -> Check {
-    let r = tree::leaf_contexts(words, values, count, contexts, queue);
+    let r = contexts::leaf_contexts(words, values, count, contexts, queue);
     let c = expect_counted(b, answer, r);
     let c = expect_list(b, c, context_entries, contexts);
     expect_runs(b, c, queue_entries, queue, value)

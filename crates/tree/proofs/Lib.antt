@@ -1,6 +1,5 @@
 -- `Lists`: tests, and lists whose entries are a function of their place. `Entries`: the laws of the layout. `Soundness`: what the words of a
 -- sound tree say. `Ways`, `Routes`: lookups, step by step and row by row. `Parents`, `Faults`: the test for soundness. `Deepening`: depths.
--- `Breadth`, `Numbering`, `Refusals`: leaf contexts.
 pub mod Lists
 pub mod Entries
 pub mod Soundness
@@ -9,6 +8,3 @@ pub mod Routes
 pub mod Parents
 pub mod Faults
 pub mod Deepening
-pub mod Breadth
-pub mod Numbering
-pub mod Refusals

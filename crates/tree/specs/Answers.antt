@@ -1,15 +1,12 @@
 -- What the answers of the operations on trees say: this paper's numbers and values for each case (document 01, "Which number comes back").
 -- Assumes nothing.
 use Prim.Native.Nat.{ℕ}
-use mathlib.Core.List.{List}
 use mathlib.Core.Option.{Option, none, some}
-use Rattle.model.specs.Operations.{Outcome, refused, accepted, After, Found as Leaf, ContextLists}
+use Rattle.model.specs.Operations.{Outcome, refused, accepted, Found as Leaf}
 use Rattle.tree.specs.declared.answers.Fault.{Fault}
 use Rattle.tree.specs.declared.answers.Fault.the-variants.{Sound, At}
 use Rattle.tree.specs.declared.answers.Lookup.{Lookup}
 use Rattle.tree.specs.declared.answers.Lookup.the-variants.{Found, Refused}
-use Rattle.tree.specs.declared.answers.Contexts.{Contexts}
-use Rattle.tree.specs.declared.answers.Contexts.the-variants.{Counted, Refused as Denied}
 
 -- the lowest node at fault, 0 for a wrong count
 abbrev pub faultNamed : Fault → Option ℕ
@@ -20,12 +17,3 @@ faultNamed (At i) = some i
 abbrev pub leafFound : Lookup → Outcome Leaf
 leafFound (Found leaf pred) = accepted (record { leaf = leaf .0; pred = pred })
 leafFound (Refused number place) = refused (record { number = number; place = place })
-
--- how many contexts there are, or the refusal
-abbrev pub contextsCounted : Contexts → Outcome ℕ
-contextsCounted (Counted n) = accepted n
-contextsCounted (Denied number place) = refused (record { number = number; place = place })
-
--- the answer, and the two lists at exit
-abbrev pub contextsAfter : Contexts → List ℕ → List ℕ → After ℕ ContextLists
-contextsAfter r contexts queue = record { outcome = contextsCounted r; lent = record { contexts = contexts; queue = queue } }

@@ -1,4 +1,3 @@
 -- `Trees`: trees at the front of the lists. `Answers`: what the operations' answers say.
 pub mod Trees
-pub mod Breadth
 pub mod Answers

@@ -1,9 +1,7 @@
 // What the operations on trees answer.
 
-// A node's place in the node list, and a leaf's context: two types, so that a context never indexes the node list.
+// A node's place in the node list. A leaf's context is another type (crate `contexts`), so that a context never indexes the node list.
 pub struct NodeNumber(pub u32);
-
-pub struct LeafContext(pub u32);
 
 // What the test for soundness finds: nothing, or the lowest node at fault; node 0 stands for a wrong count.
 pub enum Fault {
@@ -14,11 +12,5 @@ pub enum Fault {
 // The leaf that the properties lead to, with its predictor; or a refusal's number and the named place.
 pub enum Lookup {
     Found { leaf: NodeNumber, pred: u32 },
-    Refused { number: u32, place: u32 },
-}
-
-// How many contexts were given; or a refusal's number and the named place.
-pub enum Contexts {
-    Counted(u32),
     Refused { number: u32, place: u32 },
 }

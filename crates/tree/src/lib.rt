@@ -1,4 +1,4 @@
-// Trees in flat lists of numbers: which are sound, where a lookup ends, how deep each node lies, and the contexts of the leaves.
+// Trees in flat lists of numbers: which are sound, where a lookup ends, and how deep each node lies.
 // The nodes of a tree stand at the front of the lists; `count` says how many there are.
 ghost use mathlib.Core.Path.{_≡_};
 ghost use Prim.Native.Nat.{ℕ, _+_, _<_};
@@ -12,20 +12,15 @@ ghost use Rattle.model.specs.Rows.{rowsOf};
 ghost use Rattle.model.specs.Single.{singles};
 ghost use Rattle.model.specs.Tree.{Record, nodesOf, hasChild, hasTwoChildren, faultFrom, faultOf, leafReached};
 ghost use Rattle.model.specs.Lent.{treeIn};
-ghost use Rattle.model.specs.Learn.{leafCount};
 ghost use Rattle.model.specs.Deepen.{depthsOf};
-ghost use Rattle.model.specs.Contexts.{contextsOf};
-ghost use Rattle.model.specs.Operations.{lookup as lookupOf, leafContexts};
+ghost use Rattle.model.specs.Operations.{lookup as lookupOf};
 ghost use Rattle.layout.specs.Layout.{kindAt, gtAt, leAt, predAt, nodesHeld, storedIn};
 ghost use Rattle.tree.specs.Trees.{nodeAt, childAt, isOrderlyAt, isFineAt, HasWords, HasNodes, OfTree, Leads, Routable, leafNumbers, AllRoutable, CountsParents, Raisable, Countable, Uncounted, Counted, deeper, Deepens, Measurable};
-ghost use Rattle.tree.specs.Breadth.{walking, visited, Visitable, Numerable};
-ghost use Rattle.tree.specs.Answers.{faultNamed, leafFound, contextsAfter};
+ghost use Rattle.tree.specs.Answers.{faultNamed, leafFound};
 
 pub mod answers;
 
-use answers::Contexts;
 use answers::Fault;
-use answers::LeafContext;
 use answers::Lookup;
 use answers::NodeNumber;
 
@@ -42,11 +37,8 @@ const NUM_MA_PREDS: u32 = 14;
 // Most nodes of a sound tree.
 const MAX_NODES: usize = 8191;
 
-// What a split has in place of a context.
-const NO_CONTEXT: u32 = 4294967295;
-
 // How many nodes have all their words and values.
-fn nodes_held(words: &[u32], values: &[i32]) -> usize
+pub fn nodes_held(words: &[u32], values: &[i32]) -> usize
     ensures { λ r. ⌜ r ≡ nodesHeld (now (words .entry)) (now (values .entry)) ⌝ }
 {
     let by_words = words.len() / NODE_WORDS;
@@ -58,7 +50,7 @@ fn nodes_held(words: &[u32], values: &[i32]) -> usize
     }
 }
 
-fn is_split(words: &[u32], node: NodeNumber) -> bool
+pub fn is_split(words: &[u32], node: NodeNumber) -> bool
     requires { ⌜ HasWords (now words) (node .0) ⌝ }
     ensures { λ r. ⌜ r ≡ eqb (kindAt (now (words .entry)) (node .0)) 1 ⌝ }
 {
@@ -66,7 +58,7 @@ fn is_split(words: &[u32], node: NodeNumber) -> bool
     words[at] == 1
 }
 
-fn gt_of(words: &[u32], node: NodeNumber) -> u32
+pub fn gt_of(words: &[u32], node: NodeNumber) -> u32
     requires { ⌜ HasWords (now words) (node .0) ⌝ }
     ensures { λ r. ⌜ r ≡ gtAt (now (words .entry)) (node .0) ⌝ }
 {
@@ -74,7 +66,7 @@ fn gt_of(words: &[u32], node: NodeNumber) -> u32
     words[at + 2]
 }
 
-fn le_of(words: &[u32], node: NodeNumber) -> u32
+pub fn le_of(words: &[u32], node: NodeNumber) -> u32
     requires { ⌜ HasWords (now words) (node .0) ⌝ }
     ensures { λ r. ⌜ r ≡ leAt (now (words .entry)) (node .0) ⌝ }
 {
@@ -258,7 +250,7 @@ pub fn fault_of(words: &[u32], count: u32) -> Fault
     lowest_fault(words, count, &parents)
 }
 
-fn fill(list: &mut [u32], value: u32)
+pub fn fill(list: &mut [u32], value: u32)
     ensures { λ _. ⌜ now (list .exit) ≡ replicate (length (now (list .entry))) value ⌝ }
 {
     for k in 0..list.len() {
@@ -290,95 +282,4 @@ pub fn depths(words: &[u32], count: u32, out: &mut [u32])
     for i in 0..count {
         lower_children(words, NodeNumber(i), out);
     }
-}
-
-// Where a breadth-first walk stands: the next context, and the end of the queue.
-struct Walk {
-    next: LeafContext,
-    end: usize,
-}
-
-// A leaf takes the next context; a split's children go to the end of the queue, gt before le.
-fn visit(
-    words: &[u32],
-    node: NodeNumber,
-    walk: Walk,
-    contexts: &mut [u32],
-    queue: &mut [u32],
-) -> Walk
-    requires { ⌜ Visitable (now words) (node .0) (walking (walk .next .0) (walk .end) (now contexts) (now queue)) ⌝ }
-    ensures { λ r. ⌜ ((values : List ℤ) → walking (r .next .0) (r .end) (now (contexts .exit)) (now (queue .exit))
-        ≡ visited (nodeAt (now (words .entry)) values (node .0)) (node .0) (walking (walk .next .0) (walk .end) (now (contexts .entry)) (now (queue .entry)))) ⌝ }
-{
-    let next = walk.next;
-    let end = walk.end;
-    if is_split(words, node) {
-        let gt = gt_of(words, node);
-        let le = le_of(words, node);
-        queue[end] = gt;
-        queue[end + 1] = le;
-        return Walk { next, end: end + 2 };
-    }
-    contexts[node.0 as usize] = next.0;
-    Walk {
-        next: LeafContext(next.0 + 1),
-        end,
-    }
-}
-
-// The contexts of a sound tree's leaves, breadth first; a split has none. Each node enters the queue once, so it needs as many places as there are nodes.
-fn number_leaves(words: &[u32], contexts: &mut [u32], queue: &mut [u32]) -> u32
-    requires { ⌜ Numerable (now words) (now contexts) (now queue) ⌝ }
-    ensures { λ r. ⌜ OfTree (now (words .entry)) (length (now (contexts .entry))) (λ (t : List (Record singles)).
-        (r ≡ leafCount (nodesOf t)) × (now (contexts .exit) ≡ contextsOf (nodesOf t))) ⌝ }
-{
-    fill(contexts, NO_CONTEXT);
-    queue[0] = 0;
-    let mut walk = Walk {
-        next: LeafContext(0),
-        end: 1,
-    };
-    let mut head: usize = 0;
-    while head < walk.end {
-        let node = NodeNumber(queue[head]);
-        walk = visit(words, node, walk, contexts, queue);
-        head += 1;
-    }
-    walk.next.0
-}
-
-// The context of each leaf, and how many there are. The queue is room for the walk, and holds zeros afterwards.
-pub fn leaf_contexts(
-    words: &[u32],
-    values: &[i32],
-    count: u32,
-    contexts: &mut [u32],
-    queue: &mut [u32],
-) -> Contexts
-    ensures { λ r. ⌜ ((costs : List Float) → contextsAfter r (now (contexts .exit)) (now (queue .exit))
-        ≡ leafContexts (storedIn (now (words .entry)) (now (values .entry)) costs) count (record { contexts = now (contexts .entry); queue = now (queue .entry) })) ⌝ }
-{
-    let n = count as usize;
-    if nodes_held(words, values) < n {
-        return Contexts::Refused {
-            number: 8,
-            place: 0,
-        };
-    }
-    let fault = fault_of(words, count);
-    if let Fault::At(node) = fault {
-        return Contexts::Refused {
-            number: 8,
-            place: node,
-        };
-    }
-    if (contexts.len() < n) | (queue.len() < n) {
-        return Contexts::Refused {
-            number: 7,
-            place: 0,
-        };
-    }
-    let leaves = number_leaves(words, &mut contexts[..n], &mut queue[..n]);
-    fill(queue, 0);
-    Contexts::Counted(leaves)
 }

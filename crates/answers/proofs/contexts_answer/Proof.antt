@@ -1,6 +1,6 @@
 -- The struct holds what the enum says. Assumes nothing.
 use mathlib.Core.Path.{sym, ap}
-use Rattle.tree.specs.Answers.{contextsCounted}
+use Rattle.contexts.specs.Answers.{contextsCounted}
 use Rattle.answers.specs.Answers.{countIn}
 use borrow.Author.Needs.{needs}
 use Rattle.answers.proofs.contexts_answer.Statement.{statement}

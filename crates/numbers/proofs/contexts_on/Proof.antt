@@ -7,7 +7,7 @@ use lib.Seq.{length-take-le}
 use lib.Ieee.{Float}
 use borrow.Author.Needs.{needs}
 use Rattle.model.specs.Operations.{ContextLists, leafContexts}
-use Rattle.tree.specs.Answers.{contextsAfter}
+use Rattle.contexts.specs.Answers.{contextsAfter}
 use Rattle.records.specs.Records.{storedOf}
 use Rattle.records.specs.declared.MaNode.{MaNode}
 use Rattle.answers.specs.Answers.{countIn}

@@ -1,15 +1,15 @@
--- `tree::number_leaves` meets its contract. The invariant: the walk has visited the places of the queue before `head`. Assumes nothing.
+-- `contexts::number_leaves` meets its contract. The invariant: the walk has visited the places of the queue before `head`. Assumes nothing.
 use mathlib.Core.Path.{sym, ap, _∙_}
 use Prim.Native.Nat.{ℕ, _≤_, _-_}
 use native.Mathlib.Omega.{arith}
 use lib.ListN.{length, replicate}
 use Rattle.model.specs.Contexts.{noContext}
 use Rattle.tree.specs.Trees.{SoundTree}
-use Rattle.tree.specs.Breadth.{walking}
+use Rattle.contexts.specs.Breadth.{walking}
 use Rattle.tree.proofs.Soundness.{few}
-use Rattle.tree.proofs.Numbering.{Numbered, numbered-first, queue-within, visitable, numbered-on, numbered-end}
-use Rattle.tree.proofs.number_leaves.Statement.{statement}
-use Rattle.tree.proofs.number_leaves.Tie as tie
+use Rattle.contexts.proofs.Numbering.{Numbered, numbered-first, queue-within, visitable, numbered-on, numbered-end}
+use Rattle.contexts.proofs.number_leaves.Statement.{statement}
+use Rattle.contexts.proofs.number_leaves.Tie as tie
 
 abbrev Inv-loop : tie.InvT-loop
 Inv-loop words contexts₀ queue₀ walk₀ head₀ contexts queue walk head = Numbered words (length contexts₀) head (walking (walk .next .0) (walk .end) contexts queue)

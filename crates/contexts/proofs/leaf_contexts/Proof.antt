@@ -1,4 +1,4 @@
--- `tree::leaf_contexts` meets its contract: each refusal is the definition's, and the walk gives what the definition gives. Assumes nothing.
+-- `contexts::leaf_contexts` meets its contract: each refusal is the definition's, and the walk gives what the definition gives. Assumes nothing.
 use mathlib.Core.Path.{sym, ap, _∙_}
 use Prim.Native.Nat.{ℕ, _≤_}
 use native.Mathlib.Omega.{arith}
@@ -7,12 +7,12 @@ use lib.Seq.{length-take-le, length-front}
 use borrow.Author.Needs.{needs}
 use borrow.Author.Tests.{ltb-false}
 use Rattle.layout.specs.Layout.{nodesHeld}
 use Rattle.tree.specs.Trees.{SoundTree}
 use Rattle.tree.specs.Answers.{faultNamed}
 use Rattle.model.proofs.Tests.{neither}
-use Rattle.tree.proofs.Refusals.{beyond, faulty, cramped, counted}
-use Rattle.tree.proofs.leaf_contexts.Statement.{statement}
-use Rattle.tree.proofs.leaf_contexts.Tie as tie
+use Rattle.contexts.proofs.Refusals.{beyond, faulty, cramped, counted}
+use Rattle.contexts.proofs.leaf_contexts.Statement.{statement}
+use Rattle.contexts.proofs.leaf_contexts.Tie as tie
 
 -- the nodes are there
 held : (c : tie.Else1) → let start = c .before .before .before .before .before .args in start .count ≤ nodesHeld (start .words .now) (start .values .now)

@@ -20,11 +20,11 @@ use Rattle.model.proofs.Sound.{Rooted}
 use Rattle.model.proofs.Tally.{tree-count}
 use Rattle.model.proofs.Slices.{slice-join, slice-ext}
 use Rattle.layout.specs.Layout.{kindAt, propAt, gtAt, leAt, valAt, storedIn}
 use Rattle.tree.specs.Trees.{nodeAt, OfTree, SoundTree}
-use Rattle.tree.specs.Breadth.{Walking, walking, visited, Visitable}
+use Rattle.contexts.specs.Breadth.{Walking, walking, visited, Visitable}
 use Rattle.tree.proofs.Entries.{nodes-length, node-at}
 use Rattle.tree.proofs.Soundness.{zeros, bare, bare-sound, bare-node, bare-length, few}
-use Rattle.tree.proofs.Breadth.{Queued, queue-first, queued-below, queue-fits, past-leaf, past-split, room, all-visited}
+use Rattle.contexts.proofs.Breadth.{Queued, queue-first, queued-below, queue-fits, past-leaf, past-split, room, all-visited}
 
 -- ---- one turn of the definition
 module _ (nodes : List Node) (fuel i next : ℕ) (queue contexts : List ℕ) where

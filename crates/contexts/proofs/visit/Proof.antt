@@ -1,11 +1,11 @@
--- `tree::visit` meets its contract. Assumes nothing.
+-- `contexts::visit` meets its contract. Assumes nothing.
 use mathlib.Core.Path.{sym, _∙_}
 use Prim.Native.Nat.{_+_, _<_}
 use native.Mathlib.Omega.{arith}
 use lib.ListN.{length, length-set}
 use borrow.Author.Needs.{needs}
-use Rattle.tree.proofs.visit.Statement.{statement}
-use Rattle.tree.proofs.visit.Tie as tie
+use Rattle.contexts.proofs.visit.Statement.{statement}
+use Rattle.contexts.proofs.visit.Tie as tie
 
 -- at a split the queue has two places more
 two-places : (c : tie.After-le-of) → let start = c .before .before .before .before .before .before .before .before .args in start .walk .end + 1 < length (start .queue .now)
