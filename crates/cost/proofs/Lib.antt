@@ -7,4 +7,3 @@ pub mod Bounded
 pub mod Predictors
 pub mod Sorting
 pub mod Bridge
-pub mod Flat

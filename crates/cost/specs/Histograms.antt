@@ -1,14 +1,12 @@
 -- The histograms of all predictors in one list, and how counting a row changes it. Assumes nothing.
 use mathlib.Core.Path.{_≡_}
 use Prim.Native.Nat.{ℕ, zero, suc, _+_, _*_, _≤_, _<_}
-use mathlib.Core.List.{List, [], _++_, map}
+use mathlib.Core.List.{List, [], _++_}
 use lib.IntN.{ℤ}
 use lib.ListN.{length, getD, set, take, drop}
-use Rattle.model.specs.Lists.{range}
 use Rattle.model.specs.Settings.{toksPerRow, maxRows}
 use Rattle.model.specs.Rows.{Row, Span, within, rowsOf}
 use Rattle.model.specs.Cost.{histogram}
-use Rattle.model.specs.Flat.{groupOf}
 
 -- n lists, one after the other
 unfoldable pub endToEnd : (ℕ → List ℕ) → ℕ → List ℕ
@@ -22,14 +20,6 @@ part width i cells = take width (drop (i * width) cells)
 -- predictor p's histogram stands at p × alphabet
 unfoldable pub histograms : ℕ → List Row → List ℕ
 histograms alphabet rows = endToEnd (λ (p : ℕ). histogram alphabet p rows) toksPerRow
-
--- the same for the rows of each flat group
-unfoldable pub groupHistograms : ℕ → List Row → List ℕ
-groupHistograms alphabet rows = endToEnd (λ (g : ℕ). histograms alphabet (groupOf g rows)) 4
-
--- how many rows each flat group has
-unfoldable pub groupSizes : List Row → List ℕ
-groupSizes rows = map (λ (g : ℕ). length (groupOf g rows)) (range 0 4)
 
 -- ---- counting a row, as the code does it
 

@@ -1,4 +1,3 @@
 pub mod Counted
 pub mod Histograms
 pub mod Predictors
-pub mod Flat

@@ -9,9 +9,9 @@ use lib.Ieee.{Float}
 use Rattle.model.specs.Lists.{isEmpty}
 use Rattle.checks.specs.Given.{settingsOf}
 use Rattle.checks.specs.declared.Settings.{Settings}
-use Rattle.cost.specs.Flat.{FlatFits}
 use Rattle.cost.specs.Predictors.{Uses}
 use Rattle.cost.proofs.Bridge.{usable-is}
+use Rattle.flat.specs.Flat.{FlatFits}
 use Rattle.start.specs.Starts.{Flattened}
 
 take-zeros : (n m : ℕ) → n ≤ m → take {A = ℕ} n (replicate m 0) ≡ replicate n 0

@@ -23,7 +23,7 @@ pub fn flat_bits(
 {
     let alphabet = s.alphabet as usize;
     let wide = 56 * alphabet;
-    cost::flat_cost(
+    flat::flat_cost(
         props,
         tok,
         rows,

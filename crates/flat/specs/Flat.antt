@@ -11,9 +11,10 @@ use Rattle.model.specs.Lists.{isEmpty}
 use Rattle.model.specs.Settings.{propsPerRow, toksPerRow, maxRows}
 use Rattle.model.specs.Rows.{rowsOf}
 use Rattle.model.specs.Single.{singles}
 use Rattle.cost.specs.Counted.{LogsReach}
-use Rattle.cost.specs.Histograms.{part, groupHistograms, groupSizes}
+use Rattle.cost.specs.Histograms.{part}
 use Rattle.cost.specs.Predictors.{usablePredictors, costAt, cheapestOf, NodeCounted}
+use Rattle.flat.specs.Groups.{groupHistograms, groupSizes}
 
 -- ---- counting
 
