@@ -22,8 +22,7 @@ use Rattle.cost.proofs.Numbers.{Each, Passes, keep-passes}
 use Rattle.cost.proofs.Histograms.{histograms-length}
 use Rattle.cost.proofs.Sorting.{byCost-length, byCost-each}
 use Rattle.cost.proofs.Bridge.{sides-is, usable-is}
-use Rattle.score.specs.Windows.{Windowable}
-use Rattle.score.specs.Windows.{Windows}
+use Rattle.windows.specs.Windows.{Windowable, Windows}
 use Rattle.node.specs.Evaluated.{Evaluable, Splittable, spanRows}
 
 some-there : (l : List ℕ) → isEmpty l ≡ false → 0 < length l

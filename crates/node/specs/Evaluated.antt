@@ -25,7 +25,7 @@ use Rattle.cost.specs.Histograms.{SpanFits, CountsSpan, spanOf}
 use Rattle.layout.specs.declared.Leaf.{Leaf}
 use Rattle.layout.specs.declared.NodeInfo.{NodeInfo}
 use Rattle.layout.specs.Values.{infoIs, offerIs}
-use Rattle.score.specs.Windows.{Windows}
+use Rattle.windows.specs.Windows.{Windows}
 
 -- the settings passed their checks, the span's rows are there, their tokens lie below the alphabet, the logarithms reach, and the count space is wide enough and zero
 pub record Evaluable (ps : List ℤ) (tok : List ℕ) (first end : ℕ) (s : Settings) (ls : List Float) (counts : List ℕ) : Type 0 where

@@ -217,7 +217,7 @@ fn offer_split(
         s.side_preds as usize,
         &mut preds,
     );
-    score::windows::set_windows(hist, alphabet, &preds[..sides], &mut firsts, &mut offs);
+    windows::set_windows(hist, alphabet, &preds[..sides], &mut firsts, &mut offs);
     let best = best_split(
         props,
         tok,

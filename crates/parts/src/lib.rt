@@ -24,7 +24,7 @@ ghost use Rattle.model.specs.Settings as model;
 ghost use Rattle.model.specs.Score.{scoreOf};
 ghost use Rattle.model.specs.Rows.{rowsOf, within};
 ghost use Rattle.cost.specs.Histograms.{SpanFits, CountsSpan, spanOf};
-ghost use Rattle.score.specs.Windows.{Windowable, Windows};
+ghost use Rattle.windows.specs.Windows.{Windowable, Windows};
 ghost use Rattle.score.specs.Scored.{Scorable, Spare};
 ghost use Rattle.parts.specs.Answers.{scoreOut};
 
@@ -155,7 +155,7 @@ pub extern "C" fn ostrovuc_set_windows(
     requires { ⌜ Windowable (now node) alphabet (now preds) (now firsts) (now offs) ⌝ }
     ensures { λ _. ⌜ Windows (now (node .entry)) alphabet (now (preds .entry)) (now (firsts .exit)) (now (offs .exit)) ⌝ }
 {
-    score::windows::set_windows(node, alphabet, preds, firsts, offs)
+    windows::set_windows(node, alphabet, preds, firsts, offs)
 }
 
 // The best of the candidates of a property over the rows from first to end.

@@ -3,10 +3,12 @@ use mathlib.Core.Path.{_≡_, refl, sym, ap, _∙_}
 use mathlib.Core.Bool.{Bool, true, false, cond, not}
 use mathlib.Core.List.{List, [], _∷_, _++_}
 use Prim.Native.Nat.{ℕ, zero, suc, _+_, _-_, _≤_, _<_}
+use native.Mathlib.Numerals.{add-one}
 use native.Mathlib.Omega.{arith}
 use native.Mathlib.Decide.{ℕ-discrete}
 use borrow.Author.Tests.{eq-eqb, ne-eqb}
-use lib.ListN.{length, getD, take, drop, take-append-drop}
+use lib.ListN.{length, getD, take, drop, take-append-drop, drop-of-length-le}
+use lib.Seq.{drop-cons}
 use Rattle.model.specs.Lists.{range, countIf, keep}
 use Rattle.model.specs.Rows.{Row, tokOf}
 use Rattle.model.specs.Cost.{hasToken, histogram}
@@ -65,6 +67,17 @@ pub rowsIn-none : (h : List ℕ) → ((t : ℕ) → t < length h → getD h t 0 
 unfolding rowsIn
 rowsIn-none [] z = refl
 rowsIn-none (c ∷ cs) z = omega (arith, z 0 (omega arith), rowsIn-none cs (λ t l. z (suc t) (omega arith)))
+
+-- turns and end of the sweep that adds them up
+pub rows-turn : (counts : List ℕ) (t rows : ℕ) → t < length counts → rows + rowsIn (drop t counts) ≡ rowsIn counts → rows + getD counts t 0 + rowsIn (drop (t + 1) counts) ≡ rowsIn counts
+unfolding rowsIn
+rows-turn counts t rows h inv =
+    let step : rowsIn (drop t counts) ≡ getD counts t 0 + rowsIn (drop (suc t) counts) = ap rowsIn (drop-cons counts t 0 h) in
+    rw add-one (omega arith)
+
+pub rows-end : (counts : List ℕ) (t rows : ℕ) → length counts ≤ t → rows + rowsIn (drop t counts) ≡ rowsIn counts → rows ≡ rowsIn counts
+unfolding rowsIn
+rows-end counts t rows h inv = let none : rowsIn (drop t counts) ≡ 0 = ap rowsIn (drop-of-length-le counts {i = t} h) in omega arith
 
 -- a number is found once in a range that it lies in
 hits-one : (v first n : ℕ) → first ≤ v → v < first + n → hits v (range first n) ≡ 1

@@ -22,14 +22,16 @@ use Rattle.cost.specs.Counted.{rowsIn}
 use Rattle.cost.specs.Histograms.{part, spanOf}
 use Rattle.cost.proofs.Blocks.{part-end}
 use Rattle.cost.proofs.Histograms.{histogram-length, histogram-rows, histograms-length}
-use Rattle.score.specs.declared.sides.Sides.{Sides}
-use Rattle.score.specs.Windows.{packed, windowAt, Windows}
-use Rattle.score.specs.Bins.{talliedRows, summed, binCell, widthOf, Low, Lanes, RowsThere, SumsLow}
-use Rattle.score.specs.Scored.{run, laneAt, lowestTo, scoredSides, sizeAt, scoredAt, scoredTo, ExtrasFit, Extras, Binned, Scorable, Spare}
-use Rattle.score.proofs.Tallies.{rows-length, rows-low, summed-length}
-use Rattle.score.proofs.Lanes.{lane-ends}
-use Rattle.score.proofs.Binning.{Held, held, left-counts, bin-room, sums-low}
-use Rattle.score.proofs.Windowing.{histogram-at, Holds, window-holds, packed-le, node-part, token-below, width-is, lanes, tops}
+use Rattle.windows.specs.Windows.{packed, windowAt, Windows, widthOf}
+use Rattle.windows.proofs.Windowing.{Holds, window-holds, packed-le}
+use Rattle.bins.specs.Bins.{talliedRows, summed, binCell, Low, Lanes, RowsThere, SumsLow}
+use Rattle.bins.proofs.Tallies.{rows-length, rows-low, summed-length}
+use Rattle.bins.proofs.Lanes.{lane-ends}
+use Rattle.bins.proofs.Binning.{Held, held, left-counts, bin-room, sums-low}
+use Rattle.sides.specs.declared.Sides.{Sides}
+use Rattle.sides.specs.Lowest.{run, laneAt, lowestTo}
+use Rattle.score.specs.Scored.{scoredSides, sizeAt, scoredAt, scoredTo, ExtrasFit, Extras, Binned, Scorable, Spare}
+use Rattle.score.proofs.Packing.{histogram-at, node-part, token-below, width-is, lanes, tops}
 use Rattle.score.proofs.Counting.{length-sides, all-keep, histogram-counts}
 use Rattle.score.proofs.Scores.{Inside, rows-window, extra-window, inside-le, window-costs, window-counted, run-length, run-at, lowest-is, scored-is, scored-no-le, scored-no-gt, scored-both, sides-no-le, sides-no-gt, sides-both}
 

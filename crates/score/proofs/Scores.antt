@@ -23,14 +23,14 @@ use Rattle.cost.specs.Counted.{rowsIn}
 use Rattle.cost.specs.Histograms.{part}
 use Rattle.cost.proofs.Sums.{entropy-zeros}
 use Rattle.cost.proofs.Histograms.{histogram-length, histogram-rows}
+use Rattle.sides.specs.declared.Sides.{Sides}
+use Rattle.sides.specs.Sides.{rest, costsOf, lowerCost, SideCounted}
+use Rattle.sides.specs.Lowest.{run, laneAt, lowestTo}
+use Rattle.sides.proofs.Sweeps.{rest-length, rest-at}
 use Rattle.score.specs.declared.Score as answer
 use Rattle.score.specs.declared.Score.the-variants.{Nothing, Threshold}
-use Rattle.score.specs.declared.sides.Sides.{Sides}
-use Rattle.score.specs.Bins.{widthOf}
-use Rattle.score.specs.Sides.{rest, costsOf, lowerCost, lowerSides, noSides, SideCounted}
-use Rattle.score.specs.Scored.{scoreIs, run, laneAt, lowestTo, scoredSides, sizeAt, scoredAt, scoredTo, Extras, Ready}
-use Rattle.score.proofs.Sweeps.{rest-length, rest-at}
-use Rattle.score.proofs.Windowing.{histogram-at}
+use Rattle.score.specs.Scored.{scoreIs, scoredSides, sizeAt, scoredAt, scoredTo, Extras}
+use Rattle.score.proofs.Packing.{histogram-at}
 use Rattle.score.proofs.Counting.{count-sides, rowsIn-parts, rowsIn-none}
 
 -- ---- the lower of two scores, by cases
@@ -47,14 +47,6 @@ pub lower-best : (best next : answer.Score) (v w : ℤ) (b d : Float) → best �
 lower-best best next v w b d e f t = rw (e, f, t)
 
 -- ---- for the loops
-
-pub lowestTo-none : (f : ℕ → Sides) → lowestTo f 0 ≡ noSides
-unfolding lowestTo
-lowestTo-none f = refl
-
-pub lowestTo-more : (f : ℕ → Sides) (n : ℕ) → lowestTo f (n + 1) ≡ lowerSides (lowestTo f n) (f n)
-unfolding lowestTo
-lowestTo-more f n = rw add-one
 
 pub scoredTo-none : (f : ℕ → Score singles) → scoredTo f 0 ≡ nothing
 unfolding scoredTo
@@ -213,43 +205,6 @@ module _ (h : List ℕ) (first width : ℕ) (w : Inside h first width) where
       ≡ histogramCost singles logs total h
   unfolding histogramCost
   cost-window total logs = rw (entropy-window logs (logOf singles logs total) (singles .nought), extra-window)
-
--- ---- what the code finds under side predictor j
-
-pub record LaneHere (cells node : List ℕ) (alphabet : ℕ) (preds firsts offs extras : List ℕ) (base : ℕ) (logs : List Float) (j : ℕ) : Type 0 where
-  pub lane : j + 1 < length offs
-  pub at-first : j < length firsts
-  pub at-extra : j < length extras
-  pub order : getD offs j 0 ≤ getD offs (j + 1) 0
-  pub in-cells : base + getD offs (j + 1) 0 ≤ length cells
-  pub in-node : getD preds j 0 * alphabet + getD firsts j 0 + (base + getD offs (j + 1) 0 - (base + getD offs j 0)) ≤ length node
-  pub width : base + getD offs (j + 1) 0 - (base + getD offs j 0) ≡ widthOf offs j
-  pub width-node : getD preds j 0 * alphabet + getD firsts j 0 + (base + getD offs (j + 1) 0 - (base + getD offs j 0)) - (getD preds j 0 * alphabet + getD firsts j 0) ≡ widthOf offs j
-  pub counted : SideCounted (run cells (base + getD offs j 0) (widthOf offs j)) (run node (getD preds j 0 * alphabet + getD firsts j 0) (widthOf offs j)) logs
-  pub top : getD firsts j 0 + length (run cells (base + getD offs j 0) (widthOf offs j)) ≤ 256
-  pub extra : getD extras j 0 ≡ extraFrom (getD firsts j 0) (run node (getD preds j 0 * alphabet + getD firsts j 0) (widthOf offs j))
-
-pub lane-here : (cells node : List ℕ) (alphabet : ℕ) (preds firsts offs extras : List ℕ) (base : ℕ) (logs : List Float) (j : ℕ) → Ready cells node alphabet preds firsts offs extras base logs
-    → j < length preds → LaneHere cells node alphabet preds firsts offs extras base logs j
-lane-here cells node alphabet preds firsts offs extras base logs j r l =
-    let next : getD offs (j + 1) 0 ≡ getD offs (suc j) 0 = ap (λ (n : ℕ). getD offs n 0) (add-one j) in
-    let order = r .order j l in
-    let in-cells = r .in-cells j l in
-    let in-node = r .in-node j l in
-    let top = r .top j l in
-    record {
-      lane = omega (arith, r .offs-room);
-      at-first = omega (arith, r .firsts-room);
-      at-extra = omega (arith, r .extras-room);
-      order = omega arith;
-      in-cells = omega arith;
-      in-node = omega arith;
-      width = omega arith;
-      width-node = omega arith;
-      counted = r .counted j l;
-      top = simp (length-take, length-drop) (omega arith);
-      extra = r .extra j l;
-    }
 
 -- ---- a window with the counts of one side and of both has both sides' costs
 

@@ -1,4 +1,2 @@
-pub mod Windows
-pub mod Bins
-pub mod Sides
+-- `Scored`: what a caller owes, and the score from bins.
 pub mod Scored

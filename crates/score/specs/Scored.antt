@@ -6,7 +6,7 @@ use mathlib.Core.List.{List}
 use Prim.Native.Nat.{ℕ, zero, suc, _+_, _-_, _*_, _≤_, _<_}
 use lib.Dec.{eqb}
 use lib.IntN.{ℤ, pos}
-use lib.ListN.{length, getD, take, drop, replicate}
+use lib.ListN.{length, getD, replicate}
 use lib.Ieee.{Float}
 use Rattle.model.specs.Settings.{propsPerRow, toksPerRow, maxRows}
 use Rattle.model.specs.Single.{singles}
@@ -14,11 +14,11 @@ use Rattle.model.specs.Cost.{logOf, extraFrom}
 use Rattle.model.specs.Score as model
 use Rattle.cost.specs.Counted.{rowsIn, LogsReach}
 use Rattle.cost.specs.Histograms.{part, SpanFits, CountsSpan}
+use Rattle.bins.specs.Bins.{Ascends}
+use Rattle.sides.specs.declared.Sides.{Sides}
+use Rattle.sides.specs.Lowest.{run, laneAt, lowestTo, Ready}
 use Rattle.score.specs.declared.Score.{Score}
 use Rattle.score.specs.declared.Score.the-variants.{Nothing, Threshold}
-use Rattle.score.specs.declared.sides.Sides.{Sides}
-use Rattle.score.specs.Bins.{Ascends, widthOf}
-use Rattle.score.specs.Sides.{costsOf, lowerSides, noSides, SideCounted}
 
 -- the answer as the model has it: nothing to offer, or a threshold with its cost in bits
 abbrev pub scoreIs : Score → model.Score singles
@@ -48,20 +48,6 @@ pub record Spare (s alphabet c : ℕ) (room : List ℕ) : Type 0 where
   pub zeros : room ≡ replicate (length room) 0
 
 -- ---- from bins
-
--- n numbers from `at` on
-abbrev pub run : List ℕ → ℕ → ℕ → List ℕ
-run cells at n = take n (drop at cells)
-
--- both sides' costs under side predictor j, from the bin that starts at `base`
-unfoldable pub laneAt : List ℕ → List ℕ → ℕ → List ℕ → List ℕ → List ℕ → ℕ → Float → Float → List Float → ℕ → Sides
-laneAt cells node alphabet preds firsts offs base logLe logGt logs j =
-    costsOf (run cells (base + getD offs j 0) (widthOf offs j)) (run node (getD preds j 0 * alphabet + getD firsts j 0) (widthOf offs j)) (getD firsts j 0) logLe logGt logs
-
--- on each side the lowest of the first n
-unfoldable pub lowestTo : (ℕ → Sides) → ℕ → Sides
-lowestTo f zero = noSides
-lowestTo f (suc n) = lowerSides (lowestTo f n) (f n)
 
 -- of `total` rows, `size` at most the value: a threshold with an empty side is skipped
 unfoldable pub scoredSides : ℕ → ℕ → ℤ → Sides → model.Score singles
@@ -95,20 +81,7 @@ pub record ExtrasFit (node : List ℕ) (alphabet : ℕ) (preds extras : List ℕ
 pub record Extras (node : List ℕ) (alphabet : ℕ) (preds extras : List ℕ) (n : ℕ) : Type 0 where
   pub each : (j : ℕ) → j < n → getD extras j 0 ≡ extraFrom 0 (part alphabet (getD preds j 0) node)
 
--- the bin that starts at `base` has its windows' counts
-pub record Ready (cells node : List ℕ) (alphabet : ℕ) (preds firsts offs extras : List ℕ) (base : ℕ) (logs : List Float) : Type 0 where
-  pub firsts-room : length preds ≤ length firsts
-  pub offs-room : length preds < length offs
-  pub order : (j : ℕ) → j < length preds → getD offs j 0 ≤ getD offs (suc j) 0
-  pub in-cells : (j : ℕ) → j < length preds → base + getD offs (suc j) 0 ≤ length cells
-  pub in-node : (j : ℕ) → j < length preds → getD preds j 0 * alphabet + getD firsts j 0 + widthOf offs j ≤ length node
-  pub top : (j : ℕ) → j < length preds → getD firsts j 0 + widthOf offs j ≤ 256
-  pub extras-room : length preds ≤ length extras
-  pub extra : (j : ℕ) → j < length preds → getD extras j 0 ≡ extraFrom (getD firsts j 0) (run node (getD preds j 0 * alphabet + getD firsts j 0) (widthOf offs j))
-  pub counted : (j : ℕ) → j < length preds
-      → SideCounted (run cells (base + getD offs j 0) (widthOf offs j)) (run node (getD preds j 0 * alphabet + getD firsts j 0) (widthOf offs j)) logs
-
--- and so has each of them
+-- each bin has its windows' counts
 pub record Binned (cells node : List ℕ) (alphabet : ℕ) (preds firsts offs extras : List ℕ) (stride total bins : ℕ) (logs : List Float) : Type 0 where
   pub ready : (k : ℕ) → k < bins → Ready cells node alphabet preds firsts offs extras (k * stride) logs
   pub sized : (k : ℕ) → k < bins → sizeAt cells offs (k * stride) ≤ total

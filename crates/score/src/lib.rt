@@ -1,4 +1,4 @@
-// The score of one property at a node: its best threshold, and what both sides of it cost.
+// The score of one property at a node: its best threshold, and what both sides of it cost (document 01, "Scoring"; the Rust's `score_split_plan`).
 ghost use mathlib.Core.Path.{_≡_};
 ghost use mathlib.Core.List.{List};
 ghost use Prim.Native.Nat.{ℕ, _+_, _-_, _*_, _≤_, _<_};
@@ -10,14 +10,8 @@ ghost use Rattle.model.specs.Rows.{rowsOf, within};
 ghost use Rattle.model.specs.Score.{lower, scoreOf};
 ghost use Rattle.cost.specs.Counted.{rowsIn};
 ghost use Rattle.cost.specs.Histograms.{spanOf};
-ghost use Rattle.score.specs.Windows.{Windows};
+ghost use Rattle.windows.specs.Windows.{Windows};
 ghost use Rattle.score.specs.Scored.{scoreIs, scoredAt, scoredTo, ExtrasFit, Extras, Binned, Scorable, Spare};
-
-pub mod bins;
-pub mod sides;
-pub mod windows;
-
-use sides::Sides;
 
 // Nothing to offer, or a threshold with its cost in bits.
 pub enum Score {

@@ -4,7 +4,7 @@ use Prim.Native.Nat.{_-_, _+_}
 use native.Mathlib.Omega.{arith}
 use lib.ListN.{length, drop}
 use Rattle.cost.specs.Counted.{rowsIn}
-use Rattle.score.proofs.Sweeps.{rows-turn, rows-end}
+use Rattle.score.proofs.Counting.{rows-turn, rows-end}
 use Rattle.score.proofs.rows_in.Statement.{statement}
 use Rattle.score.proofs.rows_in.Tie as tie
 

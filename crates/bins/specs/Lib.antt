@@ -1,0 +1,2 @@
+-- `Bins`: rows counted by bin and token, and bins summed.
+pub mod Bins

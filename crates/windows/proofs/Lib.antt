@@ -1,0 +1,2 @@
+-- `Windowing`: a window holds what is counted; the loops' turns.
+pub mod Windowing

@@ -1,0 +1,2 @@
+-- `Windows`: the windows of the side predictors, packed one after the other.
+pub mod Windows
