@@ -1,7 +1,7 @@
 -- Lists that hold entries hold the first of them too, over themselves: so a pruned tree stands in the lists without the entries that it vacated.
 -- Assumes nothing.
 use mathlib.Core.Path.{_≡_, refl, sym, ap, _∙_}
-use Prim.Native.Nat.{ℕ, _-_, _*_, _≤_}
+use Prim.Native.Nat.{ℕ, _*_, _≤_}
 use native.Mathlib.Omega.{arith}
 use mathlib.Core.List.{List, _++_, append-assoc}
 use lib.ListN.{length, drop, length-append}

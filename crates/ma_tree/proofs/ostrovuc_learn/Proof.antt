@@ -1,7 +1,6 @@
 -- `ostrovuc_learn` meets its contract: a walk of its MIR, by hand. All that is lent is passed on to `work` (`Passing.antt`), from which it takes only that it meets its contract.
 -- Assumes nothing.
 use mathlib.Core.Path.{refl}
-use Prim.Native.Nat.{_<_}
 use mathlib.Core.Bool.{false}
 use mathlib.Core.Option.{some}
 use mathlib.Core.List.{List, [], _∷_}

@@ -1,6 +1,6 @@
 -- `score::score_in` meets its contract: its room after each call, and then the law of the score from bins. Assumes nothing.
 use mathlib.Core.Path.{_≡_, ap, _∙_}
-use Prim.Native.Nat.{ℕ, _+_, _-_, _*_}
+use Prim.Native.Nat.{ℕ, _+_, _*_}
 use native.Mathlib.Omega.{arith}
 use lib.ListN.{length, replicate, length-replicate}
 use Rattle.cost.proofs.Blocks.{part-end}
