@@ -7,10 +7,10 @@ use lib.IntN.{ℤ, pos}
 use lib.Signed.{_<ℤ_}
 use lib.ListN.{length, getD}
 use Rattle.model.specs.Candidates.{stride, every, distinct, candidatesOf}
+use Rattle.distinct.proofs.Distinct.{distinct-ascending}
+use Rattle.distinct.proofs.Turns.{pairwise-at}
 use Rattle.candidates.specs.declared.Plan.the-variants.{Candidates, Nothing}
 use Rattle.candidates.specs.Plan.{planned}
-use Rattle.candidates.proofs.Distinct.{distinct-ascending}
-use Rattle.candidates.proofs.Turns.{pairwise-at}
 use Rattle.candidates.proofs.QuantileLaws.{place-inside, place-rises, length-quantiles, quantile-at}
 
 -- ---- of a column

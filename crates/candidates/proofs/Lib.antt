@@ -1,16 +1,7 @@
-pub mod Order
+-- `Machine`: keys and values in machine numbers. `ProbeLaws`: probing a column. `QuantileLaws`: values at even steps. `PickLaws`: from the probe to the plan.
+-- `CandidateLaws`: what holds of the candidates.
 pub mod Machine
-pub mod InOrder
-pub mod Distinct
-pub mod Turns
-pub mod OverlayLaws
-pub mod MarkLaws
-pub mod KeepLaws
-pub mod DigitLaws
-pub mod PlaceLaws
 pub mod ProbeLaws
-pub mod ShiftLaws
-pub mod RepeatLaws
 pub mod QuantileLaws
 pub mod PickLaws
 pub mod CandidateLaws

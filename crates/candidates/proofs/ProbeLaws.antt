@@ -13,9 +13,9 @@ use lib.IntN.{ℤ, pos}
 use lib.ListN.{length, getD, set, take, drop, length-map, length-append}
 use lib.Seq.{take-suc-set, length-take-le, getD-take}
 use Rattle.model.specs.Candidates.{stride, every}
-use Rattle.candidates.specs.Keys.{valueOf, values}
-use Rattle.candidates.specs.Column.{column, probeOf}
 use Rattle.model.proofs.Places.{length-each}
+use Rattle.distinct.specs.Keys.{valueOf, values}
+use Rattle.candidates.specs.Column.{column, probeOf}
 
 -- ---- the column
 module _ (ps : List ℤ) (prop : ℕ) where

@@ -9,7 +9,7 @@ use lib.ListN.{length, getD, drop}
 use Rattle.model.specs.Lists.{range, writtenOver}
 use Rattle.model.specs.Candidates.{quantiles}
 use Rattle.model.proofs.Places.{length-each, each-at}
-use Rattle.candidates.specs.Overlay.{overlay}
+use Rattle.distinct.specs.Overlay.{overlay}
 
 pub place-inside : (d n k : ℕ) → n ≤ d → k < n → k * d / n < d
 place-inside d n k le lt =

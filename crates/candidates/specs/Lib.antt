@@ -1,7 +1,3 @@
-pub mod Keys
+-- `Column`: one property of a span's rows, and its probe. `Plan`: what picking candidates asks for and answers.
 pub mod Column
-pub mod Overlay
-pub mod Sorted
-pub mod Marks
-pub mod Digits
 pub mod Plan

@@ -6,10 +6,10 @@ use lib.ListN.{length}
 use lib.IntN.{ℤ}
 use Rattle.model.specs.Lists.{writtenOver}
 use Rattle.model.specs.Candidates.{candidatesOf}
+use Rattle.distinct.specs.Marks.{Blank}
 use Rattle.candidates.specs.declared.Plan.{Plan}
 use Rattle.candidates.specs.declared.Plan.the-variants.{Candidates, Nothing}
 use Rattle.candidates.specs.Column.{Held}
-use Rattle.candidates.specs.Marks.{Blank}
 
 -- no candidate: nothing is planned; else how many there are
 abbrev pub planned : List ℤ → Plan

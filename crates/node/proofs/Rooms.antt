@@ -6,7 +6,7 @@ use native.Mathlib.Nat.{mul-le-mul-left, mul-le-mul-right, le-trans}
 use native.Mathlib.Omega.{arith}
 use lib.ListN.{length, getD, take, drop, replicate, length-take, length-drop, getD-replicate, take-append-drop}
 use lib.Seq.{getD-take}
-use Rattle.candidates.specs.Marks.{Blank}
+use Rattle.distinct.specs.Marks.{Blank}
 use Rattle.score.specs.Scored.{Spare}
 
 pub take-zeros : (n m : ℕ) → n ≤ m → _≡_ {A = List ℕ} (take n (replicate m 0)) (replicate n 0)

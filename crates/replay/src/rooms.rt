@@ -2,7 +2,7 @@
 ghost use mathlib.Core.Path.{_≡_};
 ghost use lib.ListN.{length};
 ghost use Rattle.mode.specs.Lent.{Clear};
-ghost use Rattle.candidates.specs.Marks.{Blank};
+ghost use Rattle.distinct.specs.Marks.{Blank};
 
 // The stored bytes.
 pub fn stored() -> [u8; 327680]
