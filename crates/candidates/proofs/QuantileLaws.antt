@@ -1,7 +1,7 @@
 -- Values at even steps: which places they have, and how a loop writes them. Assumes nothing.
 use mathlib.Core.Path.{_≡_, sym, ap}
 use mathlib.Core.List.{List, _++_, map}
-use Prim.Native.Nat.{ℕ, suc, _+_, _*_, _/_, _≤_, _<_}
+use Prim.Native.Nat.{ℕ, suc, _*_, _/_, _≤_, _<_}
 use native.Mathlib.Nat.{div-lt-iff-lt-mul, le-div-iff-mul-le, div-mul-le-self, mul-le-mul-right}
 use native.Mathlib.Omega.{arith}
 use lib.IntN.{ℤ, pos}
