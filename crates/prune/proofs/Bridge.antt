@@ -21,9 +21,9 @@ use Rattle.model.proofs.Folding.{Folded, folds, length-pruned}
 use Rattle.model.proofs.Pruned.{closed, length-kept, entry-kept, order-short, old-number}
 use Rattle.layout.specs.Layout.{kindAt, propAt, gtAt, leAt, predAt, valAt}
 use Rattle.layout.specs.Tree.{NodeLists, holding, HasRoom, entryWords, entryValues, entryCosts, entrySpans, nodeWords, nodeVal}
+use Rattle.moves.specs.Moves.{wordCells, valueCells, costCells, spanCells, compactedLists, AllMovable}
 use Rattle.prune.specs.Prices.{AllPriceable, ShowsTree, PricedAs}
 use Rattle.prune.specs.Order.{ShownAs, ShowsNodes, Walkable, Ordered}
-use Rattle.prune.specs.Moves.{wordCells, valueCells, costCells, spanCells, compactedLists, AllMovable}
 use Rattle.prune.specs.Held.{HoldsTree, prunedEntries}
 use Rattle.layout.proofs.Held.{words-each, room-same, holding-lengths, held-word, held-value, held-cost, held-row}
 use Rattle.prune.proofs.Held.{held-compacted}
@@ -238,7 +238,7 @@ module _ {x : NodeLists} {count : ℕ} {price : Float} {tree : List (Entry singl
         new-words = rw (entry-new q a, split-is i in-count) (go (getD pn i leaf) refl)
           where
             go : (m : Node) → getD pn i leaf ≡ m
-                → Rattle.prune.specs.Moves.wordsFrom (x .words) (not (isLeaf m)) places i ≡ nodeWords (renumbered preorder-of m) (entry i .info .pred)
+                → Rattle.moves.specs.Moves.wordsFrom (x .words) (not (isLeaf m)) places i ≡ nodeWords (renumbered preorder-of m) (entry i .info .pred)
             go leaf z = rw pred
             go (split p v g l) z =
                 let w = kept-split i p v g l z in

@@ -11,7 +11,7 @@ use Rattle.model.specs.Single.{singles}
 use Rattle.model.specs.Grow.{Entry, noEntry}
 use Rattle.layout.specs.Tree.{laid}
 use Rattle.layout.proofs.Cells.{laid-append, laid-length}
-use Rattle.prune.specs.Moves.{compacted}
+use Rattle.moves.specs.Moves.{compacted}
 
 module _ {A : Type 0} (part : Entry singles → List A) (w : ℕ) (wide : (e : Entry singles) → length (part e) ≡ w) where
   laid-blank : (b : A) → part noEntry ≡ replicate w b → (k : ℕ) → laid part (replicate k noEntry) ≡ replicate (k * w) b

@@ -1,6 +1,4 @@
--- `Prices`: the pass from the last node back. `Order`: the walk from the root. `Moves`: the lists in the new order.
--- `Held`: lists that hold a tree to be pruned.
+-- `Prices`: the pass from the last node back. `Order`: the walk from the root. `Held`: lists that hold a tree to be pruned.
 pub mod Prices
 pub mod Order
-pub mod Moves
 pub mod Held

@@ -1,0 +1,2 @@
+-- `Moving`: entries gathered one after the other, and copied back with blanks behind them.
+pub mod Moving

@@ -1,0 +1,2 @@
+-- `Moves`: the lists in the new order.
+pub mod Moves
