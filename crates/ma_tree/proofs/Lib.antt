@@ -1,6 +1,4 @@
--- `Looking`: the way of a lookup.
 -- What the walks by hand use. `Copied`, `Zeros`, `Copying`: local arrays, and records copied to them. `Slices`, `Said`, `Passing`: slices that are passed on.
-pub mod Looking
 pub mod Copied
 pub mod Said
 pub mod Slices

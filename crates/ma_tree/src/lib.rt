@@ -2,7 +2,7 @@
 // document 01's, and a refusal changes no list. A slice crosses over to C as two arguments, pointer and length.
 //
 // A function that sees the slice of records is walked by hand, so it does little: it copies records to the core's number lists (crate `numbers`)
-// and back, or reads one record after another (`ways`).
+// and back, or reads one record after another (crate `ways`).
 ghost use mathlib.Core.Path.{_≡_};
 ghost use mathlib.Core.List.{map};
 ghost use Rattle.model.specs.Pack.{packed};
@@ -15,9 +15,6 @@ ghost use Rattle.layout.specs.Waiting.{queueLists};
 ghost use Rattle.records.specs.Records.{storedOf};
 ghost use Rattle.answers.specs.Answers.{valueIn, foundIn, countIn, treeIn};
 ghost use Rattle.numbers.specs.Lists.{lists, lentIn, learnRecords, deepenRecords, Worked};
-
-pub mod ways;
-
 use answers::Count;
 use answers::Encoding;
 use answers::Leaf;

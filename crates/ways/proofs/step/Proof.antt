@@ -1,7 +1,7 @@
--- `ma_tree::ways::step` meets its contract: it is `follow` at a split and `end_at` at a leaf. Assumes nothing.
+-- `ways::step` meets its contract: it is `follow` at a split and `end_at` at a leaf. Assumes nothing.
 use borrow.Author.Needs.{needs}
-use Rattle.ma_tree.proofs.ways.step.Statement.{statement}
-use Rattle.ma_tree.proofs.ways.step.Tie as tie
+use Rattle.ways.proofs.step.Statement.{statement}
+use Rattle.ways.proofs.step.Tie as tie
 
 follow-requires : tie.Need-follow-requires
 follow-requires c κs = search needs

@@ -1,8 +1,8 @@
--- `ma_tree::ways::end_at` meets its contract: a leaf is in order where its predictor is below 14. Assumes nothing.
+-- `ways::end_at` meets its contract: a leaf is in order where its predictor is below 14. Assumes nothing.
 use borrow.Author.Needs.{needs}
 use borrow.Author.Tests.{le-ltb, lt-ltb}
-use Rattle.ma_tree.proofs.ways.end_at.Statement.{statement}
-use Rattle.ma_tree.proofs.ways.end_at.Tie as tie
+use Rattle.ways.proofs.end_at.Statement.{statement}
+use Rattle.ways.proofs.end_at.Tie as tie
 
 refuse-requires : tie.Need-refuse-requires
 refuse-requires c κs = search needs

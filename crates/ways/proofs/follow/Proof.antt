@@ -1,4 +1,4 @@
--- `ma_tree::ways::follow` meets its contract: the first test is whether the split is in order, and the second reads two 32-bit patterns, which are the value
+-- `ways::follow` meets its contract: the first test is whether the split is in order, and the second reads two 32-bit patterns, which are the value
 -- and the property. Assumes nothing.
 use mathlib.Core.Path.{_≡_, sym, _∙_}
 use native.Mathlib.Omega.{arith}
@@ -11,10 +11,10 @@ use mir.Val.{toZ, ofZ}
 use mir.ValLaws.{toZ-ofZ}
 use borrow.Author.Needs.{needs}
 use borrow.Author.Tests.{not-true, not-false}
-use Rattle.ma_tree.specs.Ways.{goesOn, stepped}
-use Rattle.ma_tree.proofs.Looking.{inOrder, childOf, split-in-order, stepped-fault, stepped-on}
-use Rattle.ma_tree.proofs.ways.follow.Statement.{statement}
-use Rattle.ma_tree.proofs.ways.follow.Tie as tie
+use Rattle.ways.specs.Ways.{goesOn, stepped}
+use Rattle.ways.proofs.Looking.{inOrder, childOf, split-in-order, stepped-fault, stepped-on}
+use Rattle.ways.proofs.follow.Statement.{statement}
+use Rattle.ways.proofs.follow.Tie as tie
 
 -- whether the split is in order
 orderly : (c : tie.Else1) → let start = c .before .before .args in inOrder (start .m) (start .node) (start .count) ≡ true

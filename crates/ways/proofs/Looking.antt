@@ -24,8 +24,8 @@ use Rattle.records.specs.Records.{storedOf, noRecord}
 use Rattle.records.specs.declared.MaNode.{MaNode}
 use Rattle.tree.proofs.Lists.{in-range}
 use Rattle.answers.specs.Answers.{foundIn}
-use Rattle.ma_tree.specs.declared.ways.Way.{Way}
-use Rattle.ma_tree.specs.Ways.{goesOn, found, refusedAt, begun, stepped, wayOf}
+use Rattle.ways.specs.declared.Way.{Way}
+use Rattle.ways.specs.Ways.{goesOn, found, refusedAt, begun, stepped, wayOf}
 
 -- ---- a step
 -- the record's own fields are in range

@@ -11,7 +11,7 @@ use Rattle.model.specs.Tree.{towards, isOrderly}
 use Rattle.model.specs.Lent.{recordIn}
 use Rattle.records.specs.Records.{storedOf, noRecord}
 use Rattle.records.specs.declared.MaNode.{MaNode}
-use Rattle.ma_tree.specs.declared.ways.Way.{Way}
+use Rattle.ways.specs.declared.Way.{Way}
 
 -- the way goes on at a node, or has ended with an answer
 abbrev pub goesOn : ℕ → Way

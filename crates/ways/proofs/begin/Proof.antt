@@ -1,8 +1,8 @@
--- `ma_tree::ways::begin` meets its contract: each test says which case of `begun` holds. Assumes nothing.
+-- `ways::begin` meets its contract: each test says which case of `begun` holds. Assumes nothing.
 use borrow.Author.Needs.{needs}
 use borrow.Author.Tests.{eq-eqb, ne-eqb}
-use Rattle.ma_tree.proofs.ways.begin.Statement.{statement}
-use Rattle.ma_tree.proofs.ways.begin.Tie as tie
+use Rattle.ways.proofs.begin.Statement.{statement}
+use Rattle.ways.proofs.begin.Tie as tie
 
 refuse-requires : tie.Need-refuse-requires
 refuse-requires c κs = search needs

@@ -4,7 +4,7 @@ ghost use Prim.Native.Nat.{ℕ};
 ghost use mathlib.Core.Bool.{true, false};
 ghost use mathlib.Core.List.{List};
 ghost use lib.IntN.{ℤ};
-ghost use Rattle.ma_tree.specs.Ways.{goesOn, refusedAt, begun, stepped, OneRow};
+ghost use Rattle.ways.specs.Ways.{goesOn, refusedAt, begun, stepped, OneRow};
 use answers::Leaf;
 use records::MaNode;
 

@@ -1,0 +1,2 @@
+-- `Looking`: the way of a lookup.
+pub mod Looking
