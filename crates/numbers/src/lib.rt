@@ -38,48 +38,6 @@ pub fn to_copy(room: usize) -> usize
     if room < MAX_NODES { room } else { MAX_NODES }
 }
 
-// Learns on the number lists.
-fn learn_numbers<'a, 'b>(
-    n: usize,
-    s: Settings,
-    logs: &'a [f32],
-    words: &'b mut [u32],
-    values: &'b mut [i32],
-    costs: &'b mut [f32],
-    props: &'a mut [i32],
-    tok: &'a mut [u8],
-    res: &'a mut [i32],
-    spans: &'a mut [u32],
-    queue_words: &'a mut [u32],
-    queue_values: &'a mut [i32],
-    queue_gains: &'a mut [f32],
-    counts: &'a mut [u32],
-) -> Learned
-    requires { ⌜ Arrays (now words) (now values) (now costs) ⌝ }
-    requires { ⌜ n ≤ maxNodes ⌝ }
-    ensures { λ r. ⌜ ((nodes : List MaNode) → Numbered nodes (now (words .entry)) (now (values .entry)) (now (costs .entry)) → n ≡ copied (length nodes)
-        → after r (lists (flat (now (props .exit)) (now (tok .exit)) (now (res .exit))) (filled (nodeOf (now (words .exit)) (now (values .exit)) (now (costs .exit))) (copied (length nodes)) nodes) (now (spans .exit))
-        (queueLists (now («queue_words» .exit)) (now («queue_values» .exit)) (now («queue_gains» .exit))) (now (counts .exit)))
-        ≡ learnRecords (settingsOf s) (now (logs .entry)) (lists (flat (now (props .entry)) (now (tok .entry)) (now (res .entry))) nodes (now (spans .entry))
-        (queueLists (now («queue_words» .entry)) (now («queue_values» .entry)) (now («queue_gains» .entry))) (now (counts .entry)))) ⌝ }
-{
-    learn::learn_ma_tree_in_place(
-        props,
-        tok,
-        res,
-        &mut words[..n * NODE_WORDS],
-        &mut values[..n * NODE_VALUES],
-        &mut costs[..n],
-        spans,
-        queue_words,
-        queue_values,
-        queue_gains,
-        counts,
-        logs,
-        s,
-    )
-}
-
 // A seed of more nodes than any sound tree has: 8 for its count, if none of 1 to 7 comes before.
 fn refuse_large_seed<'a>(
     room: usize,
@@ -116,68 +74,7 @@ fn refuse_large_seed<'a>(
     }
 }
 
-// Deepens on the number lists. The caller's list has `room` records.
-fn deepen_numbers<'a, 'b>(
-    room: usize,
-    n: usize,
-    s: Settings,
-    count: u32,
-    logs: &'a [f32],
-    words: &'b mut [u32],
-    values: &'b mut [i32],
-    costs: &'b mut [f32],
-    props: &'a mut [i32],
-    tok: &'a mut [u8],
-    res: &'a mut [i32],
-    spans: &'a mut [u32],
-    queue_words: &'a mut [u32],
-    queue_values: &'a mut [i32],
-    queue_gains: &'a mut [f32],
-    counts: &'a mut [u32],
-) -> Learned
-    requires { ⌜ Arrays (now words) (now values) (now costs) ⌝ }
-    requires { ⌜ n ≤ maxNodes ⌝ }
-    ensures { λ r. ⌜ ((nodes : List MaNode) → Numbered nodes (now (words .entry)) (now (values .entry)) (now (costs .entry)) → n ≡ copied (length nodes) → room ≡ length nodes
-        → after r (lists (flat (now (props .exit)) (now (tok .exit)) (now (res .exit))) (filled (nodeOf (now (words .exit)) (now (values .exit)) (now (costs .exit))) (copied (length nodes)) nodes) (now (spans .exit))
-        (queueLists (now («queue_words» .exit)) (now («queue_values» .exit)) (now («queue_gains» .exit))) (now (counts .exit)))
-        ≡ deepenRecords (settingsOf s) (now (logs .entry)) count (lists (flat (now (props .entry)) (now (tok .entry)) (now (res .entry))) nodes (now (spans .entry))
-        (queueLists (now («queue_words» .entry)) (now («queue_values» .entry)) (now («queue_gains» .entry))) (now (counts .entry)))) ⌝ }
-{
-    if MAX_NODES < count as usize {
-        return refuse_large_seed(
-            room,
-            s,
-            count,
-            logs,
-            props,
-            tok,
-            res,
-            spans,
-            queue_words,
-            queue_values,
-            queue_gains,
-            counts,
-        );
-    }
-    deepen::deepen_ma_tree(
-        props,
-        tok,
-        res,
-        &mut words[..n * NODE_WORDS],
-        &mut values[..n * NODE_VALUES],
-        &mut costs[..n],
-        spans,
-        queue_words,
-        queue_values,
-        queue_gains,
-        counts,
-        logs,
-        s,
-        count,
-    )
-}
-
-// Deepens the first `count` nodes if there is a seed, else learns.
+// Deepens the first `count` nodes if there is a seed, else learns. The core sees the parts of the lists that hold the caller's records.
 pub fn work_on<'a, 'b>(
     room: usize,
     n: usize,
@@ -207,40 +104,53 @@ pub fn work_on<'a, 'b>(
         (queueLists (now («queue_words» .exit)) (now («queue_values» .exit)) (now («queue_gains» .exit))) (now (counts .exit))) r) ⌝ }
 {
     if seeded {
-        return answers::learned_answer(deepen_numbers(
-            room,
-            n,
-            s,
-            count,
-            logs,
-            words,
-            values,
-            costs,
+        if MAX_NODES < count as usize {
+            return answers::learned_answer(refuse_large_seed(
+                room,
+                s,
+                count,
+                logs,
+                props,
+                tok,
+                res,
+                spans,
+                queue_words,
+                queue_values,
+                queue_gains,
+                counts,
+            ));
+        }
+        return answers::learned_answer(deepen::deepen_ma_tree(
             props,
             tok,
             res,
+            &mut words[..n * NODE_WORDS],
+            &mut values[..n * NODE_VALUES],
+            &mut costs[..n],
             spans,
             queue_words,
             queue_values,
             queue_gains,
             counts,
+            logs,
+            s,
+            count,
         ));
     }
-    answers::learned_answer(learn_numbers(
-        n,
-        s,
-        logs,
-        words,
-        values,
-        costs,
+    answers::learned_answer(learn::learn_ma_tree_in_place(
         props,
         tok,
         res,
+        &mut words[..n * NODE_WORDS],
+        &mut values[..n * NODE_VALUES],
+        &mut costs[..n],
         spans,
         queue_words,
         queue_values,
         queue_gains,
         counts,
+        logs,
+        s,
     ))
 }
 
