@@ -93,43 +93,46 @@ returns c =
     (deepen-refused (given .s) (given .logs .now) (lentIn (x checked)) (given .count) (told .0 .0) (told .0 .1 .0) (sym (answer checked) ∙ told .1)))
     (deepen-read (settingsOf (given .s)) (given .logs .now) (x checked) (given .count))
 
+abbrev after-deepen-sound : tie.After-slice-known14 → tie.After-deepen-sound
+after-deepen-sound c = c .before .before .before .before .before .before .before .before .before .before .before .before .before .before .before .before .before .before
+
 same-length-10 : tie.Need-same-length-10
-same-length-10 c = search needs
+same-length-10 c = after-deepen-sound c .deepen-sound .kept .0
 
 same-length-11 : tie.Need-same-length-11
-same-length-11 c = search needs
+same-length-11 c = after-deepen-sound c .deepen-sound .kept .1 .0
 
 same-length-12 : tie.Need-same-length-12
-same-length-12 c = search needs
+same-length-12 c = after-deepen-sound c .deepen-sound .kept .1 .1 .0
 
 same-length-13 : tie.Need-same-length-13
-same-length-13 c = search needs
+same-length-13 c = after-deepen-sound c .deepen-sound .kept .1 .1 .1 .0
 
 same-length-14 : tie.Need-same-length-14
-same-length-14 c = search needs
+same-length-14 c = after-deepen-sound c .deepen-sound .kept .1 .1 .1 .1 .0
 
 same-length-15 : tie.Need-same-length-15
-same-length-15 c = search needs
+same-length-15 c = after-deepen-sound c .deepen-sound .kept .1 .1 .1 .1 .1 .0
 
 same-length-16 : tie.Need-same-length-16
-same-length-16 c = search needs
+same-length-16 c = after-deepen-sound c .deepen-sound .kept .1 .1 .1 .1 .1 .1 .0
 
 same-length-17 : tie.Need-same-length-17
-same-length-17 c = search needs
+same-length-17 c = after-deepen-sound c .deepen-sound .kept .1 .1 .1 .1 .1 .1 .1 .0
 
 same-length-18 : tie.Need-same-length-18
-same-length-18 c = search needs
+same-length-18 c = after-deepen-sound c .deepen-sound .kept .1 .1 .1 .1 .1 .1 .1 .1 .0
 
 same-length-19 : tie.Need-same-length-19
-same-length-19 c = search needs
+same-length-19 c = after-deepen-sound c .deepen-sound .kept .1 .1 .1 .1 .1 .1 .1 .1 .1 .0
 
 same-length-20 : tie.Need-same-length-20
-same-length-20 c = search needs
+same-length-20 c = after-deepen-sound c .deepen-sound .kept .1 .1 .1 .1 .1 .1 .1 .1 .1 .1 .0
 
 returns-2 : tie.Need-returns-2
 returns-2 c =
     let checked = c .before .before .before .before .before .before .before .before .before .before .before .before .before .before .before .before .before .before .before .before .before .before .before .before .before .before .before .before .before .before .before .before .before in
-    let made = c .before .before .before .before .before .before .before .before .before .before .before .before .before .before .before .before .before .before .deepen-sound in
+    let made = after-deepen-sound c .deepen-sound in
     let given = start checked .args in
     both (made .ensures) (deepen-read (settingsOf (given .s)) (given .logs .now) (x checked) (given .count))
 

@@ -37,35 +37,38 @@ grow-from-seed-requires c κs =
     let summed = c .before .before .before .before .before .before .before .before .before .before .before .before .before .flat-bits in
     accepted-seedable (x cleared) (start cleared .pre) (summed .last .1 .1 .0) (summed .ensures .1 ∙ cleared .clear .ensures)
 
+abbrev after-grow-from-seed : tie.After-slice-known16 → tie.After-grow-from-seed
+after-grow-from-seed c = c .before .before .before .before .before .before .before .before .before .before .before .before .before .before .before .before .before .before
+
 same-length : tie.Need-same-length
-same-length c = search needs
+same-length c = after-grow-from-seed c .grow-from-seed .kept .0
 
 same-length-2 : tie.Need-same-length-2
-same-length-2 c = search needs
+same-length-2 c = after-grow-from-seed c .grow-from-seed .kept .1 .0
 
 same-length-3 : tie.Need-same-length-3
-same-length-3 c = search needs
+same-length-3 c = after-grow-from-seed c .grow-from-seed .kept .1 .1 .0
 
 same-length-4 : tie.Need-same-length-4
-same-length-4 c = search needs
+same-length-4 c = after-grow-from-seed c .grow-from-seed .kept .1 .1 .1 .0
 
 same-length-5 : tie.Need-same-length-5
-same-length-5 c = search needs
+same-length-5 c = after-grow-from-seed c .grow-from-seed .kept .1 .1 .1 .1 .0
 
 same-length-6 : tie.Need-same-length-6
-same-length-6 c = search needs
+same-length-6 c = after-grow-from-seed c .grow-from-seed .kept .1 .1 .1 .1 .1 .0
 
 same-length-7 : tie.Need-same-length-7
-same-length-7 c = search needs
+same-length-7 c = after-grow-from-seed c .grow-from-seed .kept .1 .1 .1 .1 .1 .1 .0
 
 same-length-8 : tie.Need-same-length-8
-same-length-8 c = search needs
+same-length-8 c = after-grow-from-seed c .grow-from-seed .kept .1 .1 .1 .1 .1 .1 .1 .0
 
 same-length-9 : tie.Need-same-length-9
-same-length-9 c = search needs
+same-length-9 c = after-grow-from-seed c .grow-from-seed .kept .1 .1 .1 .1 .1 .1 .1 .1 .0
 
 same-length-10 : tie.Need-same-length-10
-same-length-10 c = search needs
+same-length-10 c = after-grow-from-seed c .grow-from-seed .kept .1 .1 .1 .1 .1 .1 .1 .1 .1 .0
 
 same-length-11 : tie.Need-same-length-11
 same-length-11 c = c .before .before .before .before .before .before .before .before .before .before .before .before .before .before .before .before .before .before .grow-from-seed .kept .1 .1 .1 .1 .1 .1 .1 .1 .1 .1 .0 ∙ c .before .before .before .before .before .before .before .before .before .before .before .before .before .before .before .before .before .before .before .before .before .before .before .before .before .before .before .before .before .before .before .before .flat-bits .kept .1 .1 .0 ∙ c .before .before .before .before .before .before .before .before .before .before .before .before .before .before .before .before .before .before .before .before .before .before .before .before .before .before .before .before .before .before .before .before .before .before .before .before .before .before .clear .kept .0
@@ -75,7 +78,7 @@ unfolding deepened finished resultOf
 returns c =
     let cleared = c .before .before .before .before .before .before .before .before .before .before .before .before .before .before .before .before .before .before .before .before .before .before .before .before .before .before .before .before .before .before .before .before .before .before .before .before .before .before in
     let summed = c .before .before .before .before .before .before .before .before .before .before .before .before .before .before .before .before .before .before .before .before .before .before .before .before .before .before .before .before .before .before .before .before .flat-bits in
-    let grown = c .before .before .before .before .before .before .before .before .before .before .before .before .before .before .before .before .before .before .grow-from-seed in
+    let grown = after-grow-from-seed c .grow-from-seed in
     let given = start cleared .args in
     let made = deepenedIn (given .s) (given .logs .now) (given .count) (x cleared .rows) (x cleared .nodes) in
     let f = grown .ensures .0 in (

@@ -69,45 +69,48 @@ returns c =
     refused-lists (x tested) (deepenedIn (given .s) (given .logs .now) (given .count) (x tested .rows) (x tested .nodes)) 8 (told .0 .0)
     (start tested .pre .left ∙ ap (λ (o : Option ℕ). refuseAt o 8 none) (found tested ∙ ap faultNamed (told .1)))
 
+abbrev after-deepen-rows : tie.After-slice-known14 → tie.After-deepen-rows
+after-deepen-rows c = c .before .before .before .before .before .before .before .before .before .before .before .before .before .before .before .before .before .before
+
 same-length-2 : tie.Need-same-length-2
-same-length-2 c = search needs
+same-length-2 c = after-deepen-rows c .deepen-rows .kept .0
 
 same-length-3 : tie.Need-same-length-3
-same-length-3 c = search needs
+same-length-3 c = after-deepen-rows c .deepen-rows .kept .1 .0
 
 same-length-4 : tie.Need-same-length-4
-same-length-4 c = search needs
+same-length-4 c = after-deepen-rows c .deepen-rows .kept .1 .1 .0
 
 same-length-5 : tie.Need-same-length-5
-same-length-5 c = search needs
+same-length-5 c = after-deepen-rows c .deepen-rows .kept .1 .1 .1 .0
 
 same-length-6 : tie.Need-same-length-6
-same-length-6 c = search needs
+same-length-6 c = after-deepen-rows c .deepen-rows .kept .1 .1 .1 .1 .0
 
 same-length-7 : tie.Need-same-length-7
-same-length-7 c = search needs
+same-length-7 c = after-deepen-rows c .deepen-rows .kept .1 .1 .1 .1 .1 .0
 
 same-length-8 : tie.Need-same-length-8
-same-length-8 c = search needs
+same-length-8 c = after-deepen-rows c .deepen-rows .kept .1 .1 .1 .1 .1 .1 .0
 
 same-length-9 : tie.Need-same-length-9
-same-length-9 c = search needs
+same-length-9 c = after-deepen-rows c .deepen-rows .kept .1 .1 .1 .1 .1 .1 .1 .0
 
 same-length-10 : tie.Need-same-length-10
-same-length-10 c = search needs
+same-length-10 c = after-deepen-rows c .deepen-rows .kept .1 .1 .1 .1 .1 .1 .1 .1 .0
 
 same-length-11 : tie.Need-same-length-11
-same-length-11 c = search needs
+same-length-11 c = after-deepen-rows c .deepen-rows .kept .1 .1 .1 .1 .1 .1 .1 .1 .1 .0
 
 same-length-12 : tie.Need-same-length-12
-same-length-12 c = search needs
+same-length-12 c = after-deepen-rows c .deepen-rows .kept .1 .1 .1 .1 .1 .1 .1 .1 .1 .1 .0
 
 returns-2 : tie.Need-returns-2
 unfolding deepenLists
 returns-2 c =
     let tested = c .before .before .before .before .before .before .before .before .before .before .before .before .before .before .before .before .before .before .before .before .before .before .before .before .before .before .before .before .before .before .before .before in
     let told = c .before .before .before .before .before .before .before .before .before .before .before .before .before .before .before .before .before .before .before .before .before .before .before .before .before .before .before .before .before .before .enum-told .given in
-    let made = c .before .before .before .before .before .before .before .before .before .before .before .before .before .before .before .before .before .before .deepen-rows in
+    let made = after-deepen-rows c .deepen-rows in
     let given = start tested .args in
     accepted-lists (x tested) (deepenedIn (given .s) (given .logs .now) (given .count) (x tested .rows) (x tested .nodes))
     (start tested .pre .left ∙ ap (λ (o : Option ℕ). refuseAt o 8 none) (found tested ∙ ap faultNamed (told .1))) (made .ensures .0) (made .ensures .1)

@@ -51,28 +51,34 @@ add-t21 c = let pruned = c .before .before .before .before .before .before .befo
 cast-t34 : tie.Need-cast-t34
 cast-t34 c = let pruned = c .before .before .before .before .before .before .before .before .before .before .before .before .before .before .before .before .before in record { fits = omega (arith, few-kept (start pruned .pre .grew) (left pruned)) }
 
+abbrev after-settle-if : tie.After-slice-known10 → tie.After-settle-if
+after-settle-if c = c .before .before .before .before
+
 same-length : tie.Need-same-length
-same-length c = search needs
+same-length c = after-settle-if c .settle-if .kept .1 .1 .1 .1 .1 .0
+
+abbrev after-prune-if : tie.After-slice-known10 → tie.After-prune-if
+after-prune-if c = c .before .before .before .before .before .before .before .before .before .before .before .before .before .before .before .before .before
 
 same-length-2 : tie.Need-same-length-2
-same-length-2 c = search needs
+same-length-2 c = after-prune-if c .prune-if .kept .0
 
 same-length-3 : tie.Need-same-length-3
-same-length-3 c = search needs
+same-length-3 c = after-prune-if c .prune-if .kept .1 .0
 
 same-length-4 : tie.Need-same-length-4
-same-length-4 c = search needs
+same-length-4 c = after-prune-if c .prune-if .kept .1 .1 .0
 
 same-length-5 : tie.Need-same-length-5
-same-length-5 c = search needs
+same-length-5 c = after-prune-if c .prune-if .kept .1 .1 .1 .0
 
 same-length-6 : tie.Need-same-length-6
-same-length-6 c = search needs
+same-length-6 c = after-settle-if c .settle-if .kept .1 .1 .1 .1 .1 .1 .1 .0
 
 returns : tie.Need-returns
 returns c =
     let pruned = c .before .before .before .before .before .before .before .before .before .before .before .before .before .before .before .before .before in
-    let settled = c .before .before .before .before .settle-if in
+    let settled = after-settle-if c .settle-if in
     let given = start pruned .args in (
       λ props logs lent st seeds rows flatly g.
           let cut = pruned .prune-if .ensures (st .tree) lent (grew-holds g) in

@@ -39,14 +39,17 @@ grow-and-finish-requires c κs =
       grows = planted .plant-root .ensures .0;
     }
 
+abbrev after-grow-and-finish : tie.After-slice-known21 → tie.After-grow-and-finish
+after-grow-and-finish c = c .before .before .before .before .before .before .before .before .before .before .before .before .before .before .before .before .before .before
+
 same-length : tie.Need-same-length
-same-length c = search needs
+same-length c = after-grow-and-finish c .grow-and-finish .kept .0
 
 same-length-2 : tie.Need-same-length-2
 same-length-2 c = c .before .before .before .before .before .before .before .before .before .before .before .before .before .before .before .before .before .before .grow-and-finish .kept .1 .0 ∙ c .before .before .before .before .before .before .before .before .before .before .before .before .before .before .before .before .before .before .before .before .before .before .before .before .before .before .before .before .before .before .before .before .before .before .before .before .before .before .before .before .before .before .before .before .before .before .before .plant-root .kept .1 .0
 
 same-length-3 : tie.Need-same-length-3
-same-length-3 c = search needs
+same-length-3 c = after-grow-and-finish c .grow-and-finish .kept .1 .1 .0
 
 same-length-4 : tie.Need-same-length-4
 same-length-4 c = c .before .before .before .before .before .before .before .before .before .before .before .before .before .before .before .before .before .before .grow-and-finish .kept .1 .1 .1 .0 ∙ c .before .before .before .before .before .before .before .before .before .before .before .before .before .before .before .before .before .before .before .before .before .before .before .before .before .before .before .before .before .before .before .before .before .before .before .before .before .before .before .before .before .before .before .before .before .before .before .plant-root .kept .1 .1 .1 .0
@@ -76,7 +79,7 @@ returns : tie.Need-returns
 unfolding learned
 returns c =
     let planted = c .before .before .before .before .before .before .before .before .before .before .before .before .before .before .before .before .before .before .before .before .before .before .before .before .before .before .before .before .before .before .before .before .before .before .before .before .before .before .before .before .before .before .before .before .before .before .before in
-    let grown = c .before .before .before .before .before .before .before .before .before .before .before .before .before .before .before .before .before .before .grow-and-finish in
+    let grown = after-grow-and-finish c .grow-and-finish in
     let root = planted .plant-root in
     let given = start planted .args in
     let x = flat (given .props .now) (given .tok .now) (given .res .now) in

@@ -38,38 +38,47 @@ enqueue-requires c κs =
 as-total-requires : tie.Need-as-total-requires
 as-total-requires c κs = let made = c .before .before .before .before .before .before .before .before .before .before .before .before .before .before .before .before .before .before .before .before .before .before .before .before .before .before in root-number (start made .pre) (made .make-leaf .ensures .0)
 
+abbrev after-make-leaf : tie.After-as-total → tie.After-make-leaf
+after-make-leaf c = c .before .before .before .before .before .before .before .before .before .before .before .before .before .before .before .before .before .before .before .before .before .before .before .before .before .before .before
+
 same-length : tie.Need-same-length
-same-length c = search needs
+same-length c = after-make-leaf c .make-leaf .kept .1 .0
+
+abbrev after-put-leaf : tie.After-as-total → tie.After-put-leaf
+after-put-leaf c = c .before .before .before .before .before .before .before .before .before .before .before .before .before .before .before .before .before
 
 same-length-2 : tie.Need-same-length-2
-same-length-2 c = search needs
+same-length-2 c = after-put-leaf c .put-leaf .kept .0
 
 same-length-3 : tie.Need-same-length-3
-same-length-3 c = search needs
+same-length-3 c = after-put-leaf c .put-leaf .kept .1 .0
 
 same-length-4 : tie.Need-same-length-4
-same-length-4 c = search needs
+same-length-4 c = after-put-leaf c .put-leaf .kept .1 .1 .0
 
 same-length-5 : tie.Need-same-length-5
-same-length-5 c = search needs
+same-length-5 c = after-put-leaf c .put-leaf .kept .1 .1 .1 .0
+
+abbrev after-enqueue : tie.After-as-total → tie.After-enqueue
+after-enqueue c = c .before .before .before .before .before .before
 
 same-length-6 : tie.Need-same-length-6
-same-length-6 c = search needs
+same-length-6 c = after-enqueue c .enqueue .kept .0
 
 same-length-7 : tie.Need-same-length-7
-same-length-7 c = search needs
+same-length-7 c = after-enqueue c .enqueue .kept .1 .0
 
 same-length-8 : tie.Need-same-length-8
-same-length-8 c = search needs
+same-length-8 c = after-enqueue c .enqueue .kept .1 .1 .0
 
 same-length-9 : tie.Need-same-length-9
-same-length-9 c = search needs
+same-length-9 c = after-make-leaf c .make-leaf .kept .1 .1 .1 .1 .1 .1 .1 .1 .1 .0
 
 returns : tie.Need-returns
 returns c =
     let made = c .before .before .before .before .before .before .before .before .before .before .before .before .before .before .before .before .before .before .before .before .before .before .before .before .before .before .before in
-    let written = c .before .before .before .before .before .before .before .before .before .before .before .before .before .before .before .before .before .put-leaf in
-    let put-in = c .before .before .before .before .before .before .enqueue in
+    let written = after-put-leaf c .put-leaf in
+    let put-in = after-enqueue c .enqueue in
     let given = start made .args in
     let x : Flat = flat (given .props .now) (given .tok .now) (given .res .now) in
     let y : Flat = flat (given .props .now) (made .make-leaf .last .1 .0) (given .res .now) in

@@ -1,4 +1,5 @@
 -- `grow::requeue` meets its contract. Assumes nothing.
+use mathlib.Core.Path.{_∙_}
 use mathlib.Core.List.{_++_}
 use Prim.Native.Nat.{_+_, _≤_}
 use native.Mathlib.Omega.{arith}
@@ -34,14 +35,23 @@ enqueue-requires-2 c κs =
     let room = same-room (gt .enqueue .ensures .1 .1) (same-room (out .unqueue .ensures .1) (start .pre .2)) in
     (omega (arith, start .pre .1), λ o e. fewer-room room fewer)
 
+abbrev after-enqueue2 : tie.After-slice-known8 → tie.After-enqueue2
+after-enqueue2 c = c .before .before .before .before .before
+
+abbrev after-enqueue : tie.After-slice-known8 → tie.After-enqueue
+after-enqueue c = c .before .before .before .before .before .before .before .before .before .before .before .before .before .before
+
+abbrev after-unqueue : tie.After-slice-known8 → tie.After-unqueue
+after-unqueue c = c .before .before .before .before .before .before .before .before .before .before .before .before .before .before .before .before .before .before .before .before .before .before .before
+
 same-length : tie.Need-same-length
-same-length c = search needs
+same-length c = after-enqueue2 c .enqueue2 .kept .0 ∙ after-enqueue c .enqueue .kept .0 ∙ after-unqueue c .unqueue .kept .0
 
 same-length-2 : tie.Need-same-length-2
-same-length-2 c = search needs
+same-length-2 c = after-enqueue2 c .enqueue2 .kept .1 .0 ∙ after-enqueue c .enqueue .kept .1 .0 ∙ after-unqueue c .unqueue .kept .1 .0
 
 same-length-3 : tie.Need-same-length-3
-same-length-3 c = search needs
+same-length-3 c = after-enqueue2 c .enqueue2 .kept .1 .1 .0 ∙ after-enqueue c .enqueue .kept .1 .1 .0 ∙ after-unqueue c .unqueue .kept .1 .1 .0
 
 returns : tie.Need-returns
 returns c =

@@ -158,38 +158,47 @@ grown-bits-requires c κs =
     (pended .pending-at .result) (pended .pending-at .ensures)
     (bounded .bounds-of .result .first) (bounded .bounds-of .result .end) (bounded .bounds-of .ensures .0) (bounded .bounds-of .ensures .1) (cut rowed)
 
+abbrev after-split-rows : tie.After-grown-bits → tie.After-split-rows
+after-split-rows c = c .before .before .before .before .before .before .before .before .before .before .before .before .before .before .before .before .before .before .before .before .before .before .before .before .before .before .before .before .before .before .before .before
+
 same-length : tie.Need-same-length
-same-length c = search needs
+same-length c = after-split-rows c .split-rows .kept .0
 
 same-length-2 : tie.Need-same-length-2
-same-length-2 c = search needs
+same-length-2 c = after-split-rows c .split-rows .kept .1 .0
 
 same-length-3 : tie.Need-same-length-3
-same-length-3 c = search needs
+same-length-3 c = after-split-rows c .split-rows .kept .1 .1 .0
+
+abbrev after-split-nodes : tie.After-grown-bits → tie.After-split-nodes
+after-split-nodes c = c .before .before .before .before .before .before .before .before .before .before .before .before .before .before .before .before .before
 
 same-length-4 : tie.Need-same-length-4
-same-length-4 c = search needs
+same-length-4 c = after-split-nodes c .split-nodes .kept .0
 
 same-length-5 : tie.Need-same-length-5
-same-length-5 c = search needs
+same-length-5 c = after-split-nodes c .split-nodes .kept .1 .0
 
 same-length-6 : tie.Need-same-length-6
-same-length-6 c = search needs
+same-length-6 c = after-split-nodes c .split-nodes .kept .1 .1 .0
 
 same-length-7 : tie.Need-same-length-7
-same-length-7 c = search needs
+same-length-7 c = after-split-nodes c .split-nodes .kept .1 .1 .1 .0
+
+abbrev after-requeue : tie.After-grown-bits → tie.After-requeue
+after-requeue c = c .before .before .before .before .before .before
 
 same-length-8 : tie.Need-same-length-8
-same-length-8 c = search needs
+same-length-8 c = after-requeue c .requeue .kept .0
 
 same-length-9 : tie.Need-same-length-9
-same-length-9 c = search needs
+same-length-9 c = after-requeue c .requeue .kept .1 .0
 
 same-length-10 : tie.Need-same-length-10
-same-length-10 c = search needs
+same-length-10 c = after-requeue c .requeue .kept .1 .1 .0
 
 same-length-11 : tie.Need-same-length-11
-same-length-11 c = search needs
+same-length-11 c = after-split-rows c .split-rows .kept .1 .1 .1 .0
 
 returns : tie.Need-returns
 returns c =

@@ -68,11 +68,20 @@ same-length-2 c =
     let parts = gt .before .before .before .before .before .before .before .before .before in
     le .make-leaf2 .kept .1 .0 ∙ gt .make-leaf .kept .1 .0 ∙ parts .partition .kept .1 .0
 
+abbrev after-partition : tie.After-slice-known7 → tie.After-partition
+after-partition c = c .before .before .before .before .before .before .before .before .before .before .before .before .before .before .before .before .before .before .before .before .before .before
+
 same-length-3 : tie.Need-same-length-3
-same-length-3 c = search needs
+same-length-3 c = after-partition c .partition .kept .1 .1 .0
+
+abbrev after-make-leaf2 : tie.After-slice-known7 → tie.After-make-leaf2
+after-make-leaf2 c = c .before .before .before .before
+
+abbrev after-make-leaf : tie.After-slice-known7 → tie.After-make-leaf
+after-make-leaf c = c .before .before .before .before .before .before .before .before .before .before .before .before .before
 
 same-length-4 : tie.Need-same-length-4
-same-length-4 c = search needs
+same-length-4 c = after-make-leaf2 c .make-leaf2 .kept .1 .1 .1 .1 .1 .1 .1 .1 .1 .0 ∙ after-make-leaf c .make-leaf .kept .1 .1 .1 .1 .1 .1 .1 .1 .1 .0
 
 returns : tie.Need-returns
 returns c =

@@ -88,45 +88,48 @@ returns c =
     both (refused-lists (x checked) (resultIn (given .s) (given .logs .now) (x checked .rows)) (told .0 .0) (told .0 .1 .0) (learn-refused (given .s) (given .logs .now) (lentIn (x checked)) (told .0 .0) (told .0 .1 .0) (sym (answer checked) ∙ told .1)))
     (learn-read (settingsOf (given .s)) (given .logs .now) (x checked))
 
+abbrev after-learn-rows : tie.After-slice-known14 → tie.After-learn-rows
+after-learn-rows c = c .before .before .before .before .before .before .before .before .before .before .before .before .before .before .before .before .before .before
+
 same-length-10 : tie.Need-same-length-10
-same-length-10 c = search needs
+same-length-10 c = after-learn-rows c .learn-rows .kept .0
 
 same-length-11 : tie.Need-same-length-11
-same-length-11 c = search needs
+same-length-11 c = after-learn-rows c .learn-rows .kept .1 .0
 
 same-length-12 : tie.Need-same-length-12
-same-length-12 c = search needs
+same-length-12 c = after-learn-rows c .learn-rows .kept .1 .1 .0
 
 same-length-13 : tie.Need-same-length-13
-same-length-13 c = search needs
+same-length-13 c = after-learn-rows c .learn-rows .kept .1 .1 .1 .0
 
 same-length-14 : tie.Need-same-length-14
-same-length-14 c = search needs
+same-length-14 c = after-learn-rows c .learn-rows .kept .1 .1 .1 .1 .0
 
 same-length-15 : tie.Need-same-length-15
-same-length-15 c = search needs
+same-length-15 c = after-learn-rows c .learn-rows .kept .1 .1 .1 .1 .1 .0
 
 same-length-16 : tie.Need-same-length-16
-same-length-16 c = search needs
+same-length-16 c = after-learn-rows c .learn-rows .kept .1 .1 .1 .1 .1 .1 .0
 
 same-length-17 : tie.Need-same-length-17
-same-length-17 c = search needs
+same-length-17 c = after-learn-rows c .learn-rows .kept .1 .1 .1 .1 .1 .1 .1 .0
 
 same-length-18 : tie.Need-same-length-18
-same-length-18 c = search needs
+same-length-18 c = after-learn-rows c .learn-rows .kept .1 .1 .1 .1 .1 .1 .1 .1 .0
 
 same-length-19 : tie.Need-same-length-19
-same-length-19 c = search needs
+same-length-19 c = after-learn-rows c .learn-rows .kept .1 .1 .1 .1 .1 .1 .1 .1 .1 .0
 
 same-length-20 : tie.Need-same-length-20
-same-length-20 c = search needs
+same-length-20 c = after-learn-rows c .learn-rows .kept .1 .1 .1 .1 .1 .1 .1 .1 .1 .1 .0
 
 returns-2 : tie.Need-returns-2
 unfolding learnLists
 returns-2 c =
     let checked = c .before .before .before .before .before .before .before .before .before .before .before .before .before .before .before .before .before .before .before .before .before .before .before .before .before .before .before .before .before .before .before .before .before in
     let passed = c .before .before .before .before .before .before .before .before .before .before .before .before .before .before .before .before .before .before .before .before .before .before .before .before .before .before .before .before .before .before .before .rows .given in
-    let made = c .before .before .before .before .before .before .before .before .before .before .before .before .before .before .before .before .before .before .learn-rows in
+    let made = after-learn-rows c .learn-rows in
     let given = start checked .args in
     both
     (accepted-lists (x checked) (resultIn (given .s) (given .logs .now) (x checked .rows)) (learn-passed (given .s) (given .logs .now) (lentIn (x checked)) (passed .0 .0) (sym (answer checked) ∙ passed .1) .0) (made .ensures .0) (made .ensures .1))

@@ -35,35 +35,38 @@ grow-from-root-requires c κs =
     let summed = c .before .before .before .before .before .before .before .before .before .before .before .before .before .flat-bits in
     accepted-plantable (x cleared) (start cleared .pre .accepted) (summed .last .1 .1 .0) (summed .ensures .1 ∙ cleared .clear .ensures)
 
+abbrev after-grow-from-root : tie.After-slice-known16 → tie.After-grow-from-root
+after-grow-from-root c = c .before .before .before .before .before .before .before .before .before .before .before .before .before .before .before .before .before .before
+
 same-length : tie.Need-same-length
-same-length c = search needs
+same-length c = after-grow-from-root c .grow-from-root .kept .0
 
 same-length-2 : tie.Need-same-length-2
-same-length-2 c = search needs
+same-length-2 c = after-grow-from-root c .grow-from-root .kept .1 .0
 
 same-length-3 : tie.Need-same-length-3
-same-length-3 c = search needs
+same-length-3 c = after-grow-from-root c .grow-from-root .kept .1 .1 .0
 
 same-length-4 : tie.Need-same-length-4
-same-length-4 c = search needs
+same-length-4 c = after-grow-from-root c .grow-from-root .kept .1 .1 .1 .0
 
 same-length-5 : tie.Need-same-length-5
-same-length-5 c = search needs
+same-length-5 c = after-grow-from-root c .grow-from-root .kept .1 .1 .1 .1 .0
 
 same-length-6 : tie.Need-same-length-6
-same-length-6 c = search needs
+same-length-6 c = after-grow-from-root c .grow-from-root .kept .1 .1 .1 .1 .1 .0
 
 same-length-7 : tie.Need-same-length-7
-same-length-7 c = search needs
+same-length-7 c = after-grow-from-root c .grow-from-root .kept .1 .1 .1 .1 .1 .1 .0
 
 same-length-8 : tie.Need-same-length-8
-same-length-8 c = search needs
+same-length-8 c = after-grow-from-root c .grow-from-root .kept .1 .1 .1 .1 .1 .1 .1 .0
 
 same-length-9 : tie.Need-same-length-9
-same-length-9 c = search needs
+same-length-9 c = after-grow-from-root c .grow-from-root .kept .1 .1 .1 .1 .1 .1 .1 .1 .0
 
 same-length-10 : tie.Need-same-length-10
-same-length-10 c = search needs
+same-length-10 c = after-grow-from-root c .grow-from-root .kept .1 .1 .1 .1 .1 .1 .1 .1 .1 .0
 
 same-length-11 : tie.Need-same-length-11
 same-length-11 c = c .before .before .before .before .before .before .before .before .before .before .before .before .before .before .before .before .before .before .grow-from-root .kept .1 .1 .1 .1 .1 .1 .1 .1 .1 .1 .0 ∙ c .before .before .before .before .before .before .before .before .before .before .before .before .before .before .before .before .before .before .before .before .before .before .before .before .before .before .before .before .before .before .before .before .flat-bits .kept .1 .1 .0 ∙ c .before .before .before .before .before .before .before .before .before .before .before .before .before .before .before .before .before .before .before .before .before .before .before .before .before .before .before .before .before .before .before .before .before .before .before .before .before .before .clear .kept .0
@@ -73,7 +76,7 @@ unfolding learned finished resultOf
 returns c =
     let cleared = c .before .before .before .before .before .before .before .before .before .before .before .before .before .before .before .before .before .before .before .before .before .before .before .before .before .before .before .before .before .before .before .before .before .before .before .before .before .before in
     let summed = c .before .before .before .before .before .before .before .before .before .before .before .before .before .before .before .before .before .before .before .before .before .before .before .before .before .before .before .before .before .before .before .before .flat-bits in
-    let grown = c .before .before .before .before .before .before .before .before .before .before .before .before .before .before .before .before .before .before .grow-from-root in
+    let grown = after-grow-from-root c .grow-from-root in
     let given = start cleared .args in
     let made = resultIn (given .s) (given .logs .now) (x cleared .rows) in
     let f = grown .ensures .0 in (

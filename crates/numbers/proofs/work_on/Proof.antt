@@ -83,52 +83,58 @@ deepen-ma-tree-requires c κs = search needs
 learned-answer-requires-2 : tie.Need-learned-answer-requires-2
 learned-answer-requires-2 c κs = search needs
 
+abbrev after-deepen-ma-tree : tie.After-learned-answer2 → tie.After-deepen-ma-tree
+after-deepen-ma-tree c = c .before .before .before .before .before .before .before .before .before .before .before .before .before .before .before .before .before .before .before
+
+abbrev deepened-from : tie.After-learned-answer2 → tie.Start
+deepened-from c = c .before .before .before .before .before .before .before .before .before .before .before .before .before .before .before .before .before .before .before .before .before .before .before .before .before .before .before .before .before .before .before .before .before .before .before .before .before .before .before .before .before
+
 same-length-9 : tie.Need-same-length-9
 same-length-9 c =
-    let given = c .before .before .before .before .before .before .before .before .before .before .before .before .before .before .before .before .before .before .before .before .before .before .before .before .before .before .before .before .before .before .before .before .before .before .before .before .before .before .before .before .before .args in
-    let made = c .before .before .before .before .before .before .before .before .before .before .before .before .before .before .before .before .before .before .before .deepen-ma-tree in
+    let given = deepened-from c .args in
+    let made = after-deepen-ma-tree c .deepen-ma-tree in
     length-front (given .words .now) (made .last .1 .1 .1 .0) (given .n * 5) (made .kept .1 .1 .1 .0)
 
 same-length-10 : tie.Need-same-length-10
 same-length-10 c =
-    let given = c .before .before .before .before .before .before .before .before .before .before .before .before .before .before .before .before .before .before .before .before .before .before .before .before .before .before .before .before .before .before .before .before .before .before .before .before .before .before .before .before .before .args in
-    let made = c .before .before .before .before .before .before .before .before .before .before .before .before .before .before .before .before .before .before .before .deepen-ma-tree in
+    let given = deepened-from c .args in
+    let made = after-deepen-ma-tree c .deepen-ma-tree in
     length-front (given .values .now) (made .last .1 .1 .1 .1 .0) (given .n * 2) (made .kept .1 .1 .1 .1 .0)
 
 same-length-11 : tie.Need-same-length-11
 same-length-11 c =
-    let given = c .before .before .before .before .before .before .before .before .before .before .before .before .before .before .before .before .before .before .before .before .before .before .before .before .before .before .before .before .before .before .before .before .before .before .before .before .before .before .before .before .before .args in
-    let made = c .before .before .before .before .before .before .before .before .before .before .before .before .before .before .before .before .before .before .before .deepen-ma-tree in
+    let given = deepened-from c .args in
+    let made = after-deepen-ma-tree c .deepen-ma-tree in
     length-front (given .costs .now) (made .last .1 .1 .1 .1 .1 .0) (given .n) (made .kept .1 .1 .1 .1 .1 .0)
 
 same-length-12 : tie.Need-same-length-12
-same-length-12 c = c .before .before .before .before .before .before .before .before .before .before .before .before .before .before .before .before .before .before .before .deepen-ma-tree .kept .0
+same-length-12 c = after-deepen-ma-tree c .deepen-ma-tree .kept .0
 
 same-length-13 : tie.Need-same-length-13
-same-length-13 c = c .before .before .before .before .before .before .before .before .before .before .before .before .before .before .before .before .before .before .before .deepen-ma-tree .kept .1 .0
+same-length-13 c = after-deepen-ma-tree c .deepen-ma-tree .kept .1 .0
 
 same-length-14 : tie.Need-same-length-14
-same-length-14 c = c .before .before .before .before .before .before .before .before .before .before .before .before .before .before .before .before .before .before .before .deepen-ma-tree .kept .1 .1 .0
+same-length-14 c = after-deepen-ma-tree c .deepen-ma-tree .kept .1 .1 .0
 
 same-length-15 : tie.Need-same-length-15
-same-length-15 c = c .before .before .before .before .before .before .before .before .before .before .before .before .before .before .before .before .before .before .before .deepen-ma-tree .kept .1 .1 .1 .1 .1 .1 .0
+same-length-15 c = after-deepen-ma-tree c .deepen-ma-tree .kept .1 .1 .1 .1 .1 .1 .0
 
 same-length-16 : tie.Need-same-length-16
-same-length-16 c = c .before .before .before .before .before .before .before .before .before .before .before .before .before .before .before .before .before .before .before .deepen-ma-tree .kept .1 .1 .1 .1 .1 .1 .1 .0
+same-length-16 c = after-deepen-ma-tree c .deepen-ma-tree .kept .1 .1 .1 .1 .1 .1 .1 .0
 
 same-length-17 : tie.Need-same-length-17
-same-length-17 c = c .before .before .before .before .before .before .before .before .before .before .before .before .before .before .before .before .before .before .before .deepen-ma-tree .kept .1 .1 .1 .1 .1 .1 .1 .1 .0
+same-length-17 c = after-deepen-ma-tree c .deepen-ma-tree .kept .1 .1 .1 .1 .1 .1 .1 .1 .0
 
 same-length-18 : tie.Need-same-length-18
-same-length-18 c = c .before .before .before .before .before .before .before .before .before .before .before .before .before .before .before .before .before .before .before .deepen-ma-tree .kept .1 .1 .1 .1 .1 .1 .1 .1 .1 .0
+same-length-18 c = after-deepen-ma-tree c .deepen-ma-tree .kept .1 .1 .1 .1 .1 .1 .1 .1 .1 .0
 
 same-length-19 : tie.Need-same-length-19
-same-length-19 c = c .before .before .before .before .before .before .before .before .before .before .before .before .before .before .before .before .before .before .before .deepen-ma-tree .kept .1 .1 .1 .1 .1 .1 .1 .1 .1 .1 .0
+same-length-19 c = after-deepen-ma-tree c .deepen-ma-tree .kept .1 .1 .1 .1 .1 .1 .1 .1 .1 .1 .0
 
 returns-2 : tie.Need-returns-2
 returns-2 c = λ nodes same is room-is.
-    let start = c .before .before .before .before .before .before .before .before .before .before .before .before .before .before .before .before .before .before .before .before .before .before .before .before .before .before .before .before .before .before .before .before .before .before .before .before .before .before .before .before .before in
-    let made = c .before .before .before .before .before .before .before .before .before .before .before .before .before .before .before .before .before .before .before .deepen-ma-tree in
+    let start = deepened-from c in
+    let made = after-deepen-ma-tree c .deepen-ma-tree in
     let given = start .args in
     deepen-worked (settingsOf (given .s)) (given .logs .now) (lists (flat (given .props .now) (given .tok .now) (given .res .now)) nodes (given .spans .now)
     (queueLists (given .queue-words .now) (given .queue-values .now) (given .queue-gains .now)) (given .counts .now))
@@ -169,52 +175,58 @@ learn-ma-tree-in-place-requires c κs = search needs
 learned-answer-requires-3 : tie.Need-learned-answer-requires-3
 learned-answer-requires-3 c κs = search needs
 
+abbrev after-learn-ma-tree-in-place : tie.After-learned-answer3 → tie.After-learn-ma-tree-in-place
+after-learn-ma-tree-in-place c = c .before .before .before .before .before .before .before .before .before .before .before .before .before .before .before .before .before .before .before
+
+abbrev learned-from : tie.After-learned-answer3 → tie.Start
+learned-from c = c .before .before .before .before .before .before .before .before .before .before .before .before .before .before .before .before .before .before .before .before .before .before .before .before .before .before .before .before .before .before .before .before .before .before .before .before .before .before .before .before
+
 same-length-20 : tie.Need-same-length-20
 same-length-20 c =
-    let given = c .before .before .before .before .before .before .before .before .before .before .before .before .before .before .before .before .before .before .before .before .before .before .before .before .before .before .before .before .before .before .before .before .before .before .before .before .before .before .before .before .args in
-    let made = c .before .before .before .before .before .before .before .before .before .before .before .before .before .before .before .before .before .before .before .learn-ma-tree-in-place in
+    let given = learned-from c .args in
+    let made = after-learn-ma-tree-in-place c .learn-ma-tree-in-place in
     length-front (given .words .now) (made .last .1 .1 .1 .0) (given .n * 5) (made .kept .1 .1 .1 .0)
 
 same-length-21 : tie.Need-same-length-21
 same-length-21 c =
-    let given = c .before .before .before .before .before .before .before .before .before .before .before .before .before .before .before .before .before .before .before .before .before .before .before .before .before .before .before .before .before .before .before .before .before .before .before .before .before .before .before .before .args in
-    let made = c .before .before .before .before .before .before .before .before .before .before .before .before .before .before .before .before .before .before .before .learn-ma-tree-in-place in
+    let given = learned-from c .args in
+    let made = after-learn-ma-tree-in-place c .learn-ma-tree-in-place in
     length-front (given .values .now) (made .last .1 .1 .1 .1 .0) (given .n * 2) (made .kept .1 .1 .1 .1 .0)
 
 same-length-22 : tie.Need-same-length-22
 same-length-22 c =
-    let given = c .before .before .before .before .before .before .before .before .before .before .before .before .before .before .before .before .before .before .before .before .before .before .before .before .before .before .before .before .before .before .before .before .before .before .before .before .before .before .before .before .args in
-    let made = c .before .before .before .before .before .before .before .before .before .before .before .before .before .before .before .before .before .before .before .learn-ma-tree-in-place in
+    let given = learned-from c .args in
+    let made = after-learn-ma-tree-in-place c .learn-ma-tree-in-place in
     length-front (given .costs .now) (made .last .1 .1 .1 .1 .1 .0) (given .n) (made .kept .1 .1 .1 .1 .1 .0)
 
 same-length-23 : tie.Need-same-length-23
-same-length-23 c = c .before .before .before .before .before .before .before .before .before .before .before .before .before .before .before .before .before .before .before .learn-ma-tree-in-place .kept .0
+same-length-23 c = after-learn-ma-tree-in-place c .learn-ma-tree-in-place .kept .0
 
 same-length-24 : tie.Need-same-length-24
-same-length-24 c = c .before .before .before .before .before .before .before .before .before .before .before .before .before .before .before .before .before .before .before .learn-ma-tree-in-place .kept .1 .0
+same-length-24 c = after-learn-ma-tree-in-place c .learn-ma-tree-in-place .kept .1 .0
 
 same-length-25 : tie.Need-same-length-25
-same-length-25 c = c .before .before .before .before .before .before .before .before .before .before .before .before .before .before .before .before .before .before .before .learn-ma-tree-in-place .kept .1 .1 .0
+same-length-25 c = after-learn-ma-tree-in-place c .learn-ma-tree-in-place .kept .1 .1 .0
 
 same-length-26 : tie.Need-same-length-26
-same-length-26 c = c .before .before .before .before .before .before .before .before .before .before .before .before .before .before .before .before .before .before .before .learn-ma-tree-in-place .kept .1 .1 .1 .1 .1 .1 .0
+same-length-26 c = after-learn-ma-tree-in-place c .learn-ma-tree-in-place .kept .1 .1 .1 .1 .1 .1 .0
 
 same-length-27 : tie.Need-same-length-27
-same-length-27 c = c .before .before .before .before .before .before .before .before .before .before .before .before .before .before .before .before .before .before .before .learn-ma-tree-in-place .kept .1 .1 .1 .1 .1 .1 .1 .0
+same-length-27 c = after-learn-ma-tree-in-place c .learn-ma-tree-in-place .kept .1 .1 .1 .1 .1 .1 .1 .0
 
 same-length-28 : tie.Need-same-length-28
-same-length-28 c = c .before .before .before .before .before .before .before .before .before .before .before .before .before .before .before .before .before .before .before .learn-ma-tree-in-place .kept .1 .1 .1 .1 .1 .1 .1 .1 .0
+same-length-28 c = after-learn-ma-tree-in-place c .learn-ma-tree-in-place .kept .1 .1 .1 .1 .1 .1 .1 .1 .0
 
 same-length-29 : tie.Need-same-length-29
-same-length-29 c = c .before .before .before .before .before .before .before .before .before .before .before .before .before .before .before .before .before .before .before .learn-ma-tree-in-place .kept .1 .1 .1 .1 .1 .1 .1 .1 .1 .0
+same-length-29 c = after-learn-ma-tree-in-place c .learn-ma-tree-in-place .kept .1 .1 .1 .1 .1 .1 .1 .1 .1 .0
 
 same-length-30 : tie.Need-same-length-30
-same-length-30 c = c .before .before .before .before .before .before .before .before .before .before .before .before .before .before .before .before .before .before .before .learn-ma-tree-in-place .kept .1 .1 .1 .1 .1 .1 .1 .1 .1 .1 .0
+same-length-30 c = after-learn-ma-tree-in-place c .learn-ma-tree-in-place .kept .1 .1 .1 .1 .1 .1 .1 .1 .1 .1 .0
 
 returns-3 : tie.Need-returns-3
 returns-3 c = λ nodes same is room-is.
-    let start = c .before .before .before .before .before .before .before .before .before .before .before .before .before .before .before .before .before .before .before .before .before .before .before .before .before .before .before .before .before .before .before .before .before .before .before .before .before .before .before .before in
-    let made = c .before .before .before .before .before .before .before .before .before .before .before .before .before .before .before .before .before .before .before .learn-ma-tree-in-place in
+    let start = learned-from c in
+    let made = after-learn-ma-tree-in-place c .learn-ma-tree-in-place in
     let given = start .args in
     learn-worked (settingsOf (given .s)) (given .logs .now) (lists (flat (given .props .now) (given .tok .now) (given .res .now)) nodes (given .spans .now)
     (queueLists (given .queue-words .now) (given .queue-values .now) (given .queue-gains .now)) (given .counts .now))

@@ -31,32 +31,41 @@ float-to-float-bits c =
     let made = making (putting (c .before .before .before .before .before .before)) in
     made-widens (made .make-leaf .ensures .0) (entry made .pre .fitting) (entry made .pre .spanned)
 
+abbrev after-make-leaf : tie.After-struct-known2 → tie.After-make-leaf
+after-make-leaf c = c .before .before .before .before .before .before .before .before .before .before .before .before .before .before .before .before .before .before .before .before .before .before .before .before .before .before .before .before
+
 same-length : tie.Need-same-length
-same-length c = search needs
+same-length c = after-make-leaf c .make-leaf .kept .1 .0
+
+abbrev after-put-leaf : tie.After-struct-known2 → tie.After-put-leaf
+after-put-leaf c = c .before .before .before .before .before .before .before .before .before .before .before .before .before .before .before .before .before .before
 
 same-length-2 : tie.Need-same-length-2
-same-length-2 c = search needs
+same-length-2 c = after-put-leaf c .put-leaf .kept .0
 
 same-length-3 : tie.Need-same-length-3
-same-length-3 c = search needs
+same-length-3 c = after-put-leaf c .put-leaf .kept .1 .0
 
 same-length-4 : tie.Need-same-length-4
-same-length-4 c = search needs
+same-length-4 c = after-put-leaf c .put-leaf .kept .1 .1 .0
 
 same-length-5 : tie.Need-same-length-5
-same-length-5 c = search needs
+same-length-5 c = after-put-leaf c .put-leaf .kept .1 .1 .1 .0
+
+abbrev after-enqueue : tie.After-struct-known2 → tie.After-enqueue
+after-enqueue c = c .before .before .before .before .before .before .before
 
 same-length-6 : tie.Need-same-length-6
-same-length-6 c = search needs
+same-length-6 c = after-enqueue c .enqueue .kept .0
 
 same-length-7 : tie.Need-same-length-7
-same-length-7 c = search needs
+same-length-7 c = after-enqueue c .enqueue .kept .1 .0
 
 same-length-8 : tie.Need-same-length-8
-same-length-8 c = search needs
+same-length-8 c = after-enqueue c .enqueue .kept .1 .1 .0
 
 same-length-9 : tie.Need-same-length-9
-same-length-9 c = search needs
+same-length-9 c = after-make-leaf c .make-leaf .kept .1 .1 .1 .1 .1 .1 .1 .1 .1 .0
 
 returns : tie.Need-returns
 returns c =

@@ -62,17 +62,20 @@ slice-read-if1 c = search needs
 keep-node-requires : tie.Need-keep-node-requires
 keep-node-requires c κs = search needs
 
+abbrev after-keep-node : tie.After-slice-known13 → tie.After-keep-node
+after-keep-node c = c .before .before .before .before .before .before .before
+
 same-length : tie.Need-same-length
-same-length c = search needs
+same-length c = after-keep-node c .keep-node .kept .0
 
 same-length-2 : tie.Need-same-length-2
-same-length-2 c = search needs
+same-length-2 c = after-keep-node c .keep-node .kept .1 .0
 
 same-length-3 : tie.Need-same-length-3
-same-length-3 c = search needs
+same-length-3 c = after-keep-node c .keep-node .kept .1 .1 .0
 
 same-length-4 : tie.Need-same-length-4
-same-length-4 c = search needs
+same-length-4 c = after-keep-node c .keep-node .kept .1 .1 .1 .0
 
 returns : tie.Need-returns
 returns c =
@@ -98,32 +101,35 @@ plant-leaf-requires c κs =
       queue-room = λ t. start .pre .queue-room t (tests .0);
     }
 
+abbrev after-plant-leaf : tie.After-slice-known20 → tie.After-plant-leaf
+after-plant-leaf c = c .before .before .before .before .before .before .before .before .before .before .before .before .before .before .before .before
+
 same-length-5 : tie.Need-same-length-5
-same-length-5 c = search needs
+same-length-5 c = after-plant-leaf c .plant-leaf .kept .1 .0
 
 same-length-6 : tie.Need-same-length-6
-same-length-6 c = search needs
+same-length-6 c = after-plant-leaf c .plant-leaf .kept .1 .1 .1 .0
 
 same-length-7 : tie.Need-same-length-7
-same-length-7 c = search needs
+same-length-7 c = after-plant-leaf c .plant-leaf .kept .1 .1 .1 .1 .0
 
 same-length-8 : tie.Need-same-length-8
-same-length-8 c = search needs
+same-length-8 c = after-plant-leaf c .plant-leaf .kept .1 .1 .1 .1 .1 .0
 
 same-length-9 : tie.Need-same-length-9
-same-length-9 c = search needs
+same-length-9 c = after-plant-leaf c .plant-leaf .kept .1 .1 .1 .1 .1 .1 .0
 
 same-length-10 : tie.Need-same-length-10
-same-length-10 c = search needs
+same-length-10 c = after-plant-leaf c .plant-leaf .kept .1 .1 .1 .1 .1 .1 .1 .0
 
 same-length-11 : tie.Need-same-length-11
-same-length-11 c = search needs
+same-length-11 c = after-plant-leaf c .plant-leaf .kept .1 .1 .1 .1 .1 .1 .1 .1 .0
 
 same-length-12 : tie.Need-same-length-12
-same-length-12 c = search needs
+same-length-12 c = after-plant-leaf c .plant-leaf .kept .1 .1 .1 .1 .1 .1 .1 .1 .1 .0
 
 same-length-13 : tie.Need-same-length-13
-same-length-13 c = search needs
+same-length-13 c = after-plant-leaf c .plant-leaf .kept .1 .1 .1 .1 .1 .1 .1 .1 .1 .1 .0
 
 returns-2 : tie.Need-returns-2
 returns-2 c =

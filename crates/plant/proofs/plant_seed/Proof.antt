@@ -1,4 +1,5 @@
 -- `plant::plant_seed` meets its contract: the rows ordered by leaf, and then the nodes planted. Assumes nothing.
+use mathlib.Core.Path.{_∙_}
 use Rattle.model.specs.Rows.{rowsHeld}
 use Rattle.plant.proofs.Starting.{orderable, plantable, plants, seeded, seeded-zeros}
 use borrow.Author.Needs.{needs}
@@ -29,38 +30,44 @@ plant-nodes-requires c κs =
     let ordered = ordering c .order-by-leaf .ensures in
     plantable (entry (ordering c) .pre) (ordered .1) (ordered .0)
 
+abbrev after-order-by-leaf : tie.After-slice-known17 → tie.After-order-by-leaf
+after-order-by-leaf c = c .before .before .before .before .before .before .before .before .before .before .before .before .before .before .before .before .before .before .before .before .before .before .before .before .before .before .before .before .before .before .before .before .before .before .before .before
+
 same-length : tie.Need-same-length
-same-length c = search needs
+same-length c = after-order-by-leaf c .order-by-leaf .kept .0
+
+abbrev after-plant-nodes : tie.After-slice-known17 → tie.After-plant-nodes
+after-plant-nodes c = c .before .before .before .before .before .before .before .before .before .before .before .before .before .before .before .before
 
 same-length-2 : tie.Need-same-length-2
-same-length-2 c = search needs
+same-length-2 c = after-plant-nodes c .plant-nodes .kept .1 .0 ∙ after-order-by-leaf c .order-by-leaf .kept .1 .0
 
 same-length-3 : tie.Need-same-length-3
-same-length-3 c = search needs
+same-length-3 c = after-order-by-leaf c .order-by-leaf .kept .1 .1 .0
 
 same-length-4 : tie.Need-same-length-4
-same-length-4 c = search needs
+same-length-4 c = after-plant-nodes c .plant-nodes .kept .1 .1 .1 .0
 
 same-length-5 : tie.Need-same-length-5
-same-length-5 c = search needs
+same-length-5 c = after-plant-nodes c .plant-nodes .kept .1 .1 .1 .1 .0
 
 same-length-6 : tie.Need-same-length-6
-same-length-6 c = search needs
+same-length-6 c = after-plant-nodes c .plant-nodes .kept .1 .1 .1 .1 .1 .0
 
 same-length-7 : tie.Need-same-length-7
-same-length-7 c = search needs
+same-length-7 c = after-plant-nodes c .plant-nodes .kept .1 .1 .1 .1 .1 .1 .0 ∙ after-order-by-leaf c .order-by-leaf .kept .1 .1 .1 .1 .1 .0
 
 same-length-8 : tie.Need-same-length-8
-same-length-8 c = search needs
+same-length-8 c = after-plant-nodes c .plant-nodes .kept .1 .1 .1 .1 .1 .1 .1 .0
 
 same-length-9 : tie.Need-same-length-9
-same-length-9 c = search needs
+same-length-9 c = after-plant-nodes c .plant-nodes .kept .1 .1 .1 .1 .1 .1 .1 .1 .0
 
 same-length-10 : tie.Need-same-length-10
-same-length-10 c = search needs
+same-length-10 c = after-plant-nodes c .plant-nodes .kept .1 .1 .1 .1 .1 .1 .1 .1 .1 .0
 
 same-length-11 : tie.Need-same-length-11
-same-length-11 c = search needs
+same-length-11 c = after-plant-nodes c .plant-nodes .kept .1 .1 .1 .1 .1 .1 .1 .1 .1 .1 .0 ∙ after-order-by-leaf c .order-by-leaf .kept .1 .1 .1 .1 .1 .1 .0
 
 returns : tie.Need-returns
 returns c =

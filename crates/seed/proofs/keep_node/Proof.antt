@@ -35,17 +35,20 @@ keep-split-requires c κs =
     let branch = c .before .before .before .before in
     (splits branch .pre .0, (splits branch .pre .1, eq-eqb _ 1 (branch .if1 .taken)))
 
+abbrev after-keep-split : tie.After-slice-known7 → tie.After-keep-split
+after-keep-split c = c .before .before .before .before .before .before .before
+
 same-length : tie.Need-same-length
-same-length c = search needs
+same-length c = after-keep-split c .keep-split .kept .0
 
 same-length-2 : tie.Need-same-length-2
-same-length-2 c = search needs
+same-length-2 c = after-keep-split c .keep-split .kept .1 .0
 
 same-length-3 : tie.Need-same-length-3
-same-length-3 c = search needs
+same-length-3 c = after-keep-split c .keep-split .kept .1 .1 .0
 
 same-length-4 : tie.Need-same-length-4
-same-length-4 c = search needs
+same-length-4 c = after-keep-split c .keep-split .kept .1 .1 .1 .0
 
 returns : tie.Need-returns
 returns c =
@@ -80,17 +83,20 @@ slice-copy-out-t27 c = search needs
 put-leaf-requires : tie.Need-put-leaf-requires
 put-leaf-requires c κs = search needs
 
+abbrev after-put-leaf : tie.After-slice-known11 → tie.After-put-leaf
+after-put-leaf c = c .before .before .before .before .before .before .before
+
 same-length-5 : tie.Need-same-length-5
-same-length-5 c = search needs
+same-length-5 c = after-put-leaf c .put-leaf .kept .0
 
 same-length-6 : tie.Need-same-length-6
-same-length-6 c = search needs
+same-length-6 c = after-put-leaf c .put-leaf .kept .1 .0
 
 same-length-7 : tie.Need-same-length-7
-same-length-7 c = search needs
+same-length-7 c = after-put-leaf c .put-leaf .kept .1 .1 .0
 
 same-length-8 : tie.Need-same-length-8
-same-length-8 c = search needs
+same-length-8 c = after-put-leaf c .put-leaf .kept .1 .1 .1 .0
 
 returns-2 : tie.Need-returns-2
 unfolding ofBits

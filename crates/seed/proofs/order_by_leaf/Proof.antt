@@ -97,17 +97,23 @@ part-clear-end c = search needs
 clear-requires : tie.Need-clear-requires
 clear-requires c κs = search needs
 
+abbrev after-order-by-number : tie.After-slice-known8 → tie.After-order-by-number
+after-order-by-number c = c .before .before .before .before .before .before .before .before .before .before .before .before .before .before .before .before
+
 same-length : tie.Need-same-length
-same-length c = search needs
+same-length c = after-order-by-number c .order-by-number .kept .0
 
 same-length-2 : tie.Need-same-length-2
-same-length-2 c = search needs
+same-length-2 c = after-order-by-number c .order-by-number .kept .1 .0
 
 same-length-3 : tie.Need-same-length-3
-same-length-3 c = search needs
+same-length-3 c = after-order-by-number c .order-by-number .kept .1 .1 .0
+
+abbrev after-pair-spans : tie.After-slice-known8 → tie.After-pair-spans
+after-pair-spans c = c .before .before .before .before .before .before
 
 same-length-4 : tie.Need-same-length-4
-same-length-4 c = search needs
+same-length-4 c = after-pair-spans c .pair-spans .kept .1 .0
 
 same-length-5 : tie.Need-same-length-5
 same-length-5 c = search needs
