@@ -90,3 +90,12 @@ pub fn fill(list: &mut [u32], value: u32) {
         list[i] = value;
     }
 }
+
+// The words from a place on become a list's entries, as signed numbers.
+pub fn put_numbers(list: &mut [i32], b: &[u8], first: usize) {
+    let mut at = first;
+    for i in 0..list.len() {
+        list[i] = signed(word(b, at));
+        at = after(at, 1);
+    }
+}

@@ -5,6 +5,7 @@ use crate::bytes::byte;
 use crate::bytes::expect;
 use crate::bytes::expect_byte;
 use crate::bytes::missed;
+use crate::bytes::put_numbers;
 use crate::bytes::signed;
 use crate::bytes::word;
 use crate::rooms;
@@ -14,14 +15,6 @@ use candidates::Plan;
 const FEW: u32 = 64;
 
 const MANY: u32 = 2064;
-
-fn put_numbers(res: &mut [i32], b: &[u8], first: usize) {
-    let mut at = first;
-    for i in 0..res.len() {
-        res[i] = signed(word(b, at));
-        at = after(at, 1);
-    }
-}
 
 // The zero-predictor tokens of the first n rows.
 fn expect_tokens(b: &[u8], c: Check, tok: &[u8], n: u32) -> Check {

@@ -5,6 +5,7 @@ use crate::bytes::expect;
 use crate::bytes::expect_list;
 use crate::bytes::fill;
 use crate::bytes::missed;
+use crate::bytes::put_numbers;
 use crate::bytes::signed;
 use crate::bytes::word;
 use crate::rooms;
@@ -85,14 +86,6 @@ fn put_nodes(words: &mut [u32], values: &mut [i32], b: &[u8], at: usize) {
     put_rest(words, values, given, entries, word(b, nodes_end(b, at)));
 }
 
-fn put_properties(props: &mut [i32], b: &[u8], first: usize) {
-    let mut at = first;
-    for i in 0..props.len() {
-        props[i] = signed(word(b, at));
-        at = after(at, 1);
-    }
-}
-
 fn expect_found(b: &[u8], c: Check, r: Lookup) -> Check {
     match r {
         Lookup::Found { leaf, pred } => {
@@ -122,7 +115,7 @@ pub fn lookup(b: &[u8], job: usize, answer: Check) -> Check {
     let mut values = rooms::values();
     put_nodes(&mut words, &mut values, b, nodes);
     let mut props = rooms::properties();
-    put_properties(&mut props, b, after(end, 2));
+    put_numbers(&mut props, b, after(end, 2));
     let w = 5 * entries as usize;
     let v = 2 * entries as usize;
     let p = n as usize;

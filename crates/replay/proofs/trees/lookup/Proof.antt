@@ -53,14 +53,14 @@ put-nodes-requires c κs = search needs
 properties-requires : tie.Need-properties-requires
 properties-requires c κs = search needs
 
-slice-aggregate-put-properties : tie.Need-slice-aggregate-put-properties
-slice-aggregate-put-properties c = search needs
+slice-aggregate-put-numbers : tie.Need-slice-aggregate-put-numbers
+slice-aggregate-put-numbers c = search needs
 
 after-requires-3 : tie.Need-after-requires-3
 after-requires-3 c κs = search needs
 
-put-properties-requires : tie.Need-put-properties-requires
-put-properties-requires c κs = search needs
+put-numbers-requires : tie.Need-put-numbers-requires
+put-numbers-requires c κs = search needs
 
 cast-w : tie.Need-cast-w
 cast-w c = search needs
@@ -124,9 +124,9 @@ lookup-spec =
     slice-aggregate-put-nodes-2
     put-nodes-requires
     properties-requires
-    slice-aggregate-put-properties
+    slice-aggregate-put-numbers
     after-requires-3
-    put-properties-requires
+    put-numbers-requires
     cast-w
     mul-w
     cast-v

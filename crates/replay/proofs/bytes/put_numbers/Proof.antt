@@ -1,16 +1,16 @@
--- `replay::parts::put_numbers` is safe and ends. Assumes nothing.
+-- `replay::bytes::put_numbers` is safe and ends. Assumes nothing.
 use mathlib.Core.Path.{_≡_}
 use Prim.Native.Nat.{_-_}
 use lib.ListN.{length}
 use borrow.Author.Needs.{needs}
-use Rattle.replay.proofs.parts.put_numbers.Statement.{statement}
-use Rattle.replay.proofs.parts.put_numbers.Tie as tie
+use Rattle.replay.proofs.bytes.put_numbers.Statement.{statement}
+use Rattle.replay.proofs.bytes.put_numbers.Tie as tie
 
 abbrev Inv-loop : tie.InvT-loop
-Inv-loop res₀ b first at₀ i₀ i-end res at i = length res ≡ i-end
+Inv-loop list₀ b first at₀ i₀ i-end list at i = length list ≡ i-end
 
 abbrev μ-loop : tie.MeasureT-loop
-μ-loop res₀ b first at₀ i₀ i-end res at i = i-end - i
+μ-loop list₀ b first at₀ i₀ i-end list at i = i-end - i
 
 loop-holds : tie.Need-loop-holds Inv-loop μ-loop
 loop-holds c = search needs
@@ -24,8 +24,8 @@ signed-requires c κs = search needs
 mul-t10 : tie.Need-mul-t10 Inv-loop μ-loop
 mul-t10 c = search needs
 
-slice-set-from-res : tie.Need-slice-set-from-res Inv-loop μ-loop
-slice-set-from-res c = search needs
+slice-set-from-list : tie.Need-slice-set-from-list Inv-loop μ-loop
+slice-set-from-list c = search needs
 
 after-requires : tie.Need-after-requires Inv-loop μ-loop
 after-requires c κs = search needs
@@ -55,7 +55,7 @@ put-numbers-spec =
     word-requires
     signed-requires
     mul-t10
-    slice-set-from-res
+    slice-set-from-list
     after-requires
     add-i
     loop-less
