@@ -1,4 +1,6 @@
 // How many cases were tried, how many came out wrong, and the first of these.
+ghost use mathlib.Core.Path.{_≡_};
+ghost use Rattle.tally.specs.Counted.{nothing, counted};
 use libc::STDOUT_FILENO;
 
 pub struct Tally {
@@ -8,7 +10,9 @@ pub struct Tally {
 }
 
 impl Tally {
-    pub fn none() -> Self {
+    pub fn none() -> Self
+        ensures { λ r. ⌜ r ≡ nothing ⌝ }
+    {
         Self {
             tried: 0,
             wrong: 0,
@@ -17,7 +21,9 @@ impl Tally {
     }
 
     // One case more: right or not, and what it was.
-    pub fn with(self, right: bool, at: u32) -> Self {
+    pub fn with(self, right: bool, at: u32) -> Self
+        ensures { λ r. ⌜ r ≡ counted self right at ⌝ }
+    {
         let tried = std::num::wrapping_add_u64(self.tried, 1);
         if right {
             return Self {

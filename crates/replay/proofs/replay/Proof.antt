@@ -29,8 +29,8 @@ is-right-requires c κs = search needs
 add-requires : tie.Need-add-requires Inv-loop μ-loop
 add-requires c κs = search needs
 
-wrapping-add-u64-requires : tie.Need-wrapping-add-u64-requires Inv-loop μ-loop
-wrapping-add-u64-requires c κs = search needs
+wrapping-add-u32-requires : tie.Need-wrapping-add-u32-requires Inv-loop μ-loop
+wrapping-add-u32-requires c κs = search needs
 
 loop-less : tie.Need-loop-less Inv-loop μ-loop
 loop-less c = search needs
@@ -53,7 +53,7 @@ replay-spec =
     returns-2
     is-right-requires
     add-requires
-    wrapping-add-u64-requires
+    wrapping-add-u32-requires
     loop-less
     loop-again
     returns-3)

@@ -1,0 +1,2 @@
+-- `Counted`: what is counted.
+pub mod Counted
