@@ -4,7 +4,6 @@ use mathlib.Core.List.{List, map}
 use lib.ListN.{length, getD, set}
 use lib.IntN.{ℤ, pos}
 use lib.Ieee.{Float, nan}
-use lib.Dec.{eqb}
 use Rattle.model.specs.Lists.{range}
 use Rattle.model.specs.Single.{singles}
 use Rattle.model.specs.Lent.{Stored}
@@ -38,11 +37,11 @@ valAt values i = getD values (i * valuesPerNode) (pos 0)
 abbrev pub offsetAt : List ℤ → ℕ → ℤ
 offsetAt values i = getD values (i * valuesPerNode + 1) (pos 0)
 
--- entry i: kind 1 is a split, and any other number a leaf
+-- entry i
 abbrev pub storedAt : List ℕ → List ℤ → List Float → ℕ → Stored singles
 storedAt words values costs i =
     record {
-      isSplit = eqb (kindAt words i) 1;
+      kind = kindAt words i;
       prop = propAt words i;
       val = valAt values i;
       gt = gtAt words i;

@@ -1,10 +1,11 @@
 -- The lists that a caller lends to learning and deepening, and what they hold afterwards (document 01, "Which number comes back").
 -- Assumes nothing.
 use Prim.Native.Nat.{ℕ, _/_}
-use mathlib.Core.Bool.{Bool, true, false, cond, not, _&&_}
+use mathlib.Core.Bool.{Bool, cond, not, _&&_}
 use mathlib.Core.List.{List, [], map}
 use lib.ListN.{length, take, replicate}
 use lib.IntN.{ℤ, pos}
+use lib.Dec.{eqb}
 use Rattle.model.specs.Lists.{isEmpty, writtenOver}
 use Rattle.model.specs.Meter.{Meter}
 use Rattle.model.specs.Settings.{Settings, propsPerRow}
@@ -13,9 +14,9 @@ use Rattle.model.specs.Tree.{Node, split, leaf, Info, Record}
 use Rattle.model.specs.Job.{Offer}
 use Rattle.model.specs.Learn.{Result}
 
--- an entry of the lent node list: a node's kind and fields with what stands beside it. A leaf has no use for the first four fields
+-- an entry of the lent node list: a node's kind, any number; its fields, for which a leaf has no use; and what stands beside it
 pub record Stored (M : Meter) : Type 0 where
-  pub isSplit : Bool
+  pub kind : ℕ
   pub prop : ℕ
   pub val : ℤ
   pub gt : ℕ
@@ -23,14 +24,14 @@ pub record Stored (M : Meter) : Type 0 where
   pub info : Info M
 
 module _ {M : Meter} where
-  -- what is read of an entry: of a leaf, nothing but what stands beside it
+  -- what is read of an entry: kind 1 is a split, and any other number a leaf, of which nothing is read but what stands beside it
   abbrev pub recordIn : Stored M → Record M
-  recordIn e = record { node = cond (e .isSplit) (split (e .prop) (e .val) (e .gt) (e .le)) leaf; info = e .info }
+  recordIn e = record { node = cond (eqb (e .kind) 1) (split (e .prop) (e .val) (e .gt) (e .le)) leaf; info = e .info }
 
-  -- what is written: fields a leaf has no use for hold 0
+  -- what is written: kind 1 or 0; fields a leaf has no use for hold 0
   abbrev pub storedNode : Node → Info M → Stored M
-  storedNode (split prop val gt le) i = record { isSplit = true; prop = prop; val = val; gt = gt; le = le; info = i }
-  storedNode leaf i = record { isSplit = false; prop = 0; val = pos 0; gt = 0; le = 0; info = i }
+  storedNode (split prop val gt le) i = record { kind = 1; prop = prop; val = val; gt = gt; le = le; info = i }
+  storedNode leaf i = record { kind = 0; prop = 0; val = pos 0; gt = 0; le = 0; info = i }
 
   abbrev pub stored : Record M → Stored M
   stored r = storedNode (r .node) (r .info)

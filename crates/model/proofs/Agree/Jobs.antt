@@ -40,7 +40,7 @@ f64 = ofBits binary64
 -- a record of eight words
 abbrev pub node : ℕ → ℕ → ℕ → ℕ → ℕ → ℕ → ℕ → ℕ → Stored singles
 node kind prop val gt le cost pred offset =
-    record { isSplit = eqb kind 1; prop = prop; val = word val; gt = gt; le = le; info = record { cost = f32 cost; pred = pred; offset = word offset } }
+    record { kind = kind; prop = prop; val = word val; gt = gt; le = le; info = record { cost = f32 cost; pred = pred; offset = word offset } }
 
 -- entry i of a node list past the records given
 abbrev pub fillNode : ℕ → Stored singles
