@@ -104,16 +104,14 @@ pub fn enqueue(
         × SameQueue (queueLists (now (words .entry)) (now (values .entry)) (now (gains .entry)))
         (queueLists (now (words .exit)) (now (values .exit)) (now (gains .exit))) ⌝ }
 {
-    match offer {
-        Offer::Split { prop, val, gain } => {
-            let at = waiting * 3;
-            words[at] = node as u32;
-            words[at + 1] = prop;
-            words[at + 2] = depth;
-            values[waiting] = val;
-            gains[waiting] = gain;
-            waiting + 1
-        }
-        Offer::Nothing => waiting,
-    }
+    let Offer::Split { prop, val, gain } = offer else {
+        return waiting;
+    };
+    let at = waiting * 3;
+    words[at] = node as u32;
+    words[at + 1] = prop;
+    words[at + 2] = depth;
+    values[waiting] = val;
+    gains[waiting] = gain;
+    waiting + 1
 }

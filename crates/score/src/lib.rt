@@ -23,13 +23,13 @@ pub enum Score {
 fn lower_score(best: Score, next: Score) -> Score
     ensures { λ r. ⌜ scoreIs r ≡ lower (scoreIs best) (scoreIs next) ⌝ }
 {
-    match best {
-        Score::Nothing => next,
-        Score::Threshold(_, b) => match next {
-            Score::Nothing => best,
-            Score::Threshold(_, c) => if c < b { next } else { best },
-        },
-    }
+    let Score::Threshold(_, b) = best else {
+        return next;
+    };
+    let Score::Threshold(_, c) = next else {
+        return best;
+    };
+    if c < b { next } else { best }
 }
 
 // How many rows a window counts.

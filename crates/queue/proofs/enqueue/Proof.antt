@@ -88,8 +88,8 @@ same-length-2 c = search needs
 same-length-3 : tie.Need-same-length-3
 same-length-3 c = search needs
 
-returns : tie.Need-returns
-returns c =
+returns-2 : tie.Need-returns-2
+returns-2 c =
     let a = c .before .before .before .args in
     let o = offered c in
     let w : Waiting singles = record { node = a .node; depth = a .depth; offer = o } in
@@ -98,8 +98,8 @@ returns c =
       (refl, same-added (lists c) (a .waiting) (a .node) (o .prop) (a .depth) (o .val) (o .gain)),
     )
 
-returns-2 : tie.Need-returns-2
-returns-2 c =
+returns : tie.Need-returns
+returns c =
     let a = c .before .before .args in
     let q = queueLists (a .words .now) (a .values .now) (a .gains .now) in
     rw (c .enum-told .given .1) ((λ leaves h. rw append-nil h), (sym (add-zero (a .waiting)), same-itself q))
@@ -109,6 +109,8 @@ enqueue-spec =
     tie.close
     (tie.spec
     enum-known-offer
+    enum-told
+    returns
     mul-at
     cast-words
     mul-words
@@ -124,9 +126,7 @@ enqueue-spec =
     mul-gains
     slice-write-gains
     add-result
-    enum-told
     same-length
     same-length-2
     same-length-3
-    returns
     returns-2)

@@ -32,11 +32,11 @@ pub lower-score-spec : {M : Type 1} → statement M
 lower-score-spec =
     tie.close
     (tie.spec
-    enum-told
     enum-known-best
-    enum-told-2
-    enum-known-next
+    enum-told
     returns
+    enum-known-next
+    enum-told-2
     returns-2
     returns-3
     returns-4)
