@@ -2,8 +2,6 @@
 use tally::Tally;
 use tally::report;
 
-pub const LOOKUP: u32 = 3;
-
 pub const CONTEXTS: u32 = 4;
 
 pub const SAMPLING: u32 = 5;
@@ -52,7 +50,6 @@ fn report_kind(name: &[u8], kind: u32, tried: &[u64; 32], wrong: &[u64; 32], fir
 }
 
 pub fn report_all(tried: &[u64; 32], wrong: &[u64; 32], first: &[u32; 32]) {
-    report_kind(b"lookup", LOOKUP, tried, wrong, first);
     report_kind(b"contexts", CONTEXTS, tried, wrong, first);
     report_kind(b"even sampling", SAMPLING, tried, wrong, first);
     report_kind(b"packing", PACK, tried, wrong, first);

@@ -1,6 +1,6 @@
 // Replays stored jobs through the proved crates and holds each answer to the stored one, byte for byte. Standard input has a job and its answer by
 // turns, each as document JOBS describes it: kind, bytes in the body, body. It prints how many of each kind were replayed and how many came out wrong.
-// Learning and deepening are not among them: interface/check replays these through the C interface, and the other public operations too.
+// Learning, deepening and lookup are not among them: interface/check replays these through the C interface, and the other public operations too.
 // To add a kind: a function like those of `small`, an arm in `replayed`, and a number and a line in `kinds`.
 
 mod bytes;
@@ -19,7 +19,6 @@ use libc::STDOUT_FILENO;
 // The comparison at the answer's end. A kind that is not known is wrong.
 fn replayed(b: &[u8], kind: u32, job: usize, answer: Check) -> Check {
     match kind {
-        kinds::LOOKUP => trees::lookup(b, job, answer),
         kinds::CONTEXTS => trees::contexts(b, job, answer),
         kinds::SAMPLING => small::sampling(b, job, answer),
         kinds::PACK => small::pack(b, job, answer),

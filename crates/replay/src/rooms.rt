@@ -46,13 +46,6 @@ pub fn entries() -> [u32; 128]
     [0; 128]
 }
 
-// The properties of a lookup: 24 are right, and other counts are refused.
-pub fn properties() -> [i32; 48]
-    ensures { λ r. ⌜ 48 ≡ length r ⌝ }
-{
-    [0; 48]
-}
-
 // Properties, tokens and residuals of 64 rows; properties of 2,064.
 pub fn few_properties() -> [i32; 1536]
     ensures { λ r. ⌜ 1536 ≡ length r ⌝ }

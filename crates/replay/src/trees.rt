@@ -1,21 +1,17 @@
-// Lookup and leaf contexts: the stored node list is laid out as the crate `tree` has it, five words and two values a node.
+// Leaf contexts: the stored node list is laid out as the crate `layout` has it, five words and two values a node.
 use crate::bytes::Check;
 use crate::bytes::after;
 use crate::bytes::expect;
 use crate::bytes::expect_list;
 use crate::bytes::fill;
 use crate::bytes::missed;
-use crate::bytes::put_numbers;
 use crate::bytes::signed;
 use crate::bytes::word;
 use crate::rooms;
 use contexts::Contexts;
-use tree::answers::Lookup;
 
-// Most entries of a node list, a context list and a queue, and most properties.
+// Most entries of a node list, a context list and a queue.
 const ENTRIES: u32 = 128;
-
-const PROPERTIES: u32 = 48;
 
 fn put_word(words: &mut [u32], at: usize, value: u32) {
     if at < words.len() {
@@ -84,43 +80,6 @@ fn put_nodes(words: &mut [u32], values: &mut [i32], b: &[u8], at: usize) {
     let given = word(b, after(at, 1));
     put_given(words, values, b, after(at, 2), given);
     put_rest(words, values, given, entries, word(b, nodes_end(b, at)));
-}
-
-fn expect_found(b: &[u8], c: Check, r: Lookup) -> Check {
-    match r {
-        Lookup::Found { leaf, pred } => {
-            let c = expect(b, expect(b, c, 0), 0);
-            expect(b, expect(b, c, leaf.0), pred)
-        }
-        Lookup::Refused { number, place } => {
-            let c = expect(b, expect(b, c, number), place);
-            expect(b, expect(b, c, 0), 0)
-        }
-    }
-}
-
-pub fn lookup(b: &[u8], job: usize, answer: Check) -> Check {
-    let count = word(b, job);
-    let nodes = after(job, 1);
-    let end = nodes_end(b, nodes);
-    let entries = word(b, nodes);
-    let n = word(b, after(end, 1));
-    if entries > ENTRIES {
-        return missed(answer);
-    }
-    if n > PROPERTIES {
-        return missed(answer);
-    }
-    let mut words = rooms::words();
-    let mut values = rooms::values();
-    put_nodes(&mut words, &mut values, b, nodes);
-    let mut props = rooms::properties();
-    put_numbers(&mut props, b, after(end, 2));
-    let w = 5 * entries as usize;
-    let v = 2 * entries as usize;
-    let p = n as usize;
-    let r = tree::lookup(&words[..w], &values[..v], count, &props[..p]);
-    expect_found(b, answer, r)
 }
 
 fn expect_counted(b: &[u8], c: Check, r: Contexts) -> Check {

@@ -8,9 +8,3 @@ pub enum Fault {
     Sound,
     At(u32),
 }
-
-// The leaf that the properties lead to, with its predictor; or a refusal's number and the named place.
-pub enum Lookup {
-    Found { leaf: NodeNumber, pred: u32 },
-    Refused { number: u32, place: u32 },
-}

@@ -13,15 +13,13 @@ ghost use Rattle.model.specs.Single.{singles};
 ghost use Rattle.model.specs.Tree.{Record, nodesOf, hasChild, hasTwoChildren, faultFrom, faultOf, leafReached};
 ghost use Rattle.model.specs.Lent.{treeIn};
 ghost use Rattle.model.specs.Deepen.{depthsOf};
-ghost use Rattle.model.specs.Operations.{lookup as lookupOf};
-ghost use Rattle.layout.specs.Layout.{kindAt, gtAt, leAt, predAt, nodesHeld, storedIn};
+ghost use Rattle.layout.specs.Layout.{kindAt, gtAt, leAt, nodesHeld, storedIn};
 ghost use Rattle.tree.specs.Trees.{nodeAt, childAt, isOrderlyAt, isFineAt, HasWords, HasNodes, OfTree, Leads, Routable, leafNumbers, AllRoutable, CountsParents, Raisable, Countable, Uncounted, Counted, deeper, Deepens, Measurable};
-ghost use Rattle.tree.specs.Answers.{faultNamed, leafFound};
+ghost use Rattle.tree.specs.Answers.{faultNamed};
 
 pub mod answers;
 
 use answers::Fault;
-use answers::Lookup;
 use answers::NodeNumber;
 
 // A node's words are kind, property, gt, le and predictor; its values are threshold and offset.
@@ -74,14 +72,6 @@ pub fn le_of(words: &[u32], node: NodeNumber) -> u32
     words[at + 3]
 }
 
-fn pred_of(words: &[u32], node: NodeNumber) -> u32
-    requires { ⌜ HasWords (now words) (node .0) ⌝ }
-    ensures { λ r. ⌜ r ≡ predAt (now (words .entry)) (node .0) ⌝ }
-{
-    let at = node.0 as usize * NODE_WORDS;
-    words[at + 4]
-}
-
 // The node's own fields are in range: of a split, the property is below 24 and both children stand behind it, below the count; of a leaf, the
 // predictor is below 14.
 fn is_orderly(words: &[u32], count: u32, node: NodeNumber) -> bool
@@ -113,39 +103,8 @@ fn towards(words: &[u32], values: &[i32], props: &[i32], node: NodeNumber) -> No
     NodeNumber(words[at + 3])
 }
 
-// The leaf that 24 properties lead to from node 0. Only the nodes met on the way are looked at, each with both its children.
-pub fn lookup(words: &[u32], values: &[i32], count: u32, props: &[i32]) -> Lookup
-    ensures { λ r. ⌜ ((costs : List Float) → leafFound r ≡ lookupOf (storedIn (now (words .entry)) (now (values .entry)) costs) count (now (props .entry))) ⌝ }
-{
-    if props.len() != NUM_MA_PROPS {
-        return Lookup::Refused {
-            number: 9,
-            place: 0,
-        };
-    }
-    if (count == 0) | (nodes_held(words, values) < count as usize) {
-        return Lookup::Refused {
-            number: 8,
-            place: 0,
-        };
-    }
-    let mut node = NodeNumber(0);
-    while is_orderly(words, count, node) {
-        if !is_split(words, node) {
-            return Lookup::Found {
-                leaf: node,
-                pred: pred_of(words, node),
-            };
-        }
-        node = towards(words, values, props, node);
-    }
-    Lookup::Refused {
-        number: 8,
-        place: node.0,
-    }
-}
-
-// The same way in a sound tree, where every node is in order: nothing is tested, and `count` only says which nodes are the tree.
+// The leaf that the properties of a row lead to from node 0 of a sound tree, where every node is in order: nothing is tested, and `count` only says
+// which nodes are the tree.
 fn leaf_reached(words: &[u32], values: &[i32], count: u32, props: &[i32]) -> NodeNumber
     requires { ⌜ Routable (now words) (now values) count (now props) ⌝ }
     ensures { λ r. ⌜ ((costs : List Float) → r .0 ≡ leafReached (nodesOf (treeIn count (storedIn (now (words .entry)) (now (values .entry)) costs))) (now (props .entry))) ⌝ }
