@@ -1,7 +1,6 @@
 -- Document 01's answers as the structs that cross over to C: a refusal's number and place, or number 0 and the answer ("Which number comes back").
 -- Assumes nothing.
 use Prim.Native.Nat.{ℕ}
-use Rattle.model.specs.Token.{TokenAnswer}
 use Rattle.model.specs.Single.{singles}
 use Rattle.model.specs.Operations.{Outcome, refused, accepted, Found, Tree}
 use Rattle.answers.specs.declared.Read.{Read}
@@ -9,9 +8,10 @@ use Rattle.answers.specs.declared.Leaf.{Leaf}
 use Rattle.answers.specs.declared.Count.{Count}
 use Rattle.answers.specs.declared.LearnedTree.{LearnedTree}
 
--- the value of a token, or number 10
-abbrev pub valueIn : TokenAnswer → Read
-valueIn a = record { number = a .number; value = a .value }
+-- the value of a token, or the refusal
+abbrev pub valueIn : Outcome ℕ → Read
+valueIn (accepted v) = record { number = 0; place = 0; value = v }
+valueIn (refused r) = record { number = r .number; place = r .place; value = 0 }
 
 -- the leaf and its predictor, or the refusal
 abbrev pub foundIn : Outcome Found → Leaf

@@ -1,7 +1,7 @@
 // What the exports answer. Enums do not cross over to C, so an answer is a struct of numbers: number 0 says that the call was accepted, and any other
 // number is document 01's, with its place; the rest of a refusal is 0.
 ghost use mathlib.Core.Path.{_≡_};
-ghost use Rattle.model.specs.Token.{answerOf};
+ghost use Rattle.model.specs.Operations.{answerOf};
 ghost use Rattle.sampling.specs.Sampled.{outcomeOf};
 ghost use Rattle.contexts.specs.Answers.{contextsCounted};
 ghost use Rattle.lent.specs.Answer.{outcomeOf as treeOutcome};
@@ -23,6 +23,7 @@ pub struct Encoding {
 #[repr(C)]
 pub struct Read {
     pub number: u32,
+    pub place: u32,
     pub value: u32,
 }
 
@@ -58,9 +59,14 @@ pub fn value_answer(r: TokenValue) -> Read
     ensures { λ a. ⌜ a ≡ valueIn (answerOf r) ⌝ }
 {
     match r {
-        TokenValue::Value(value) => Read { number: 0, value },
-        TokenValue::Refused => Read {
-            number: 10,
+        TokenValue::Value(value) => Read {
+            number: 0,
+            place: 0,
+            value,
+        },
+        TokenValue::Refused { number, place } => Read {
+            number,
+            place,
             value: 0,
         },
     }

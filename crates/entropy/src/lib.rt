@@ -1,7 +1,8 @@
 // Packing and tokens, after the Rust's entropy/token.rs.
 ghost use mathlib.Core.Path.{_≡_};
 ghost use Rattle.model.specs.Pack.{packed, pattern as Pack·pattern};
-ghost use Rattle.model.specs.Token.{extraCount, encodedOf, tokenValueOf, answerOf, tokenAnswer};
+ghost use Rattle.model.specs.Token.{extraCount, encodedOf};
+ghost use Rattle.model.specs.Operations.{answerOf, tokenAnswer};
 use model::Encoded;
 use model::TokenValue;
 
@@ -58,15 +59,20 @@ pub fn extra_count(token: u32) -> u32
 // The value of a token and its extra bits. Refused are a token over 127, and extra bits too large
 // for their count.
 pub fn token_value(token: u32, extra: u32) -> TokenValue
-    ensures { λ r. ⌜ r ≡ tokenValueOf token extra ⌝ }
     ensures { λ r. ⌜ answerOf r ≡ tokenAnswer token extra ⌝ }
 {
     if token > 127 {
-        return TokenValue::Refused;
+        return TokenValue::Refused {
+            number: 10,
+            place: 0,
+        };
     }
     let nbits = extra_count(token);
     if extra >= 1 << nbits {
-        return TokenValue::Refused;
+        return TokenValue::Refused {
+            number: 10,
+            place: 0,
+        };
     }
     if token < 16 {
         return TokenValue::Value(token);

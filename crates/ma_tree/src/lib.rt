@@ -6,8 +6,8 @@
 ghost use mathlib.Core.Path.{_≡_};
 ghost use mathlib.Core.List.{map};
 ghost use Rattle.model.specs.Pack.{packed};
-ghost use Rattle.model.specs.Token.{encodedOf, tokenAnswer};
-ghost use Rattle.model.specs.Operations.{learn, deepen, lookup, leafContexts, sample};
+ghost use Rattle.model.specs.Token.{encodedOf};
+ghost use Rattle.model.specs.Operations.{learn, deepen, lookup, leafContexts, sample, tokenAnswer};
 ghost use Rattle.model.specs.Profile.{single};
 ghost use Rattle.rows.specs.Flat.{flat};
 ghost use Rattle.checks.specs.Given.{settingsOf};

@@ -1,7 +1,8 @@
 -- 01's tokens are the standard's hybrid integers at (4, 2, 0). A value is read back from its token and extra bits, and a token with its extra bits is written
 -- back from its value. Assumes nothing.
 use mathlib.Core.Path.{_≡_, refl, sym, ap, _∙_}
-use mathlib.Core.Bool.{Bool, true, false, cond, _&&_}
+use mathlib.Core.Bool.{Bool, true, false, not, _&&_}
+use mathlib.Core.Option.{none}
 use Prim.Native.Nat.{ℕ, suc, _+_, _-_, _*_, _/_, _%_, _^_, _≤_, _<_}
 use native.Mathlib.Nat.{add-zero, mul-one, div-one, mod-one, add-mul, pow-suc, div-add-mod', mod-lt, le-div-iff-mul-le, div-lt-iff-lt-mul}
 use native.Mathlib.Decide.{decLt}
@@ -14,10 +15,11 @@ use lib.Ieee.Digits.{size-lt, size-reaches, size-le}
 use lib.IntN.{ℤ}
 use lib.Pow.{pow-add, pow-mono, pow-pos}
 use lib.Signed.{mag}
-use Rattle.model.specs.declared.TokenValue.the-variants.{Value, Refused}
 use Rattle.model.specs.Pack.{packed}
 use Rattle.model.specs.Standard.{hybridBits, readHybrid, defaultConfig}
-use Rattle.model.specs.Token.{topBit, tokenOf, extraCount, extraBits, valueOf, encodedOf, readable, tokenValueOf, answerOf, tokenAnswer}
+use Rattle.model.specs.Token.{topBit, tokenOf, extraCount, extraBits, valueOf, encodedOf, readable}
+use Rattle.model.specs.Refuse.{Refusal, refuseIf, tokenRefusal}
+use Rattle.model.specs.Operations.{refused, accepted, outcomeOf, tokenAnswer}
 use Rattle.model.proofs.Packing.{packed-lt}
 
 -- ---- the standard's reading
@@ -204,38 +206,33 @@ value-fits t extra =
 
 -- ---- the value of a token, and the refusals
 
-pub reads : (t extra : ℕ) → t ≤ 127 → extra < 2 ^ extraCount t → tokenValueOf t extra ≡ Value (valueOf t extra)
-unfolding tokenValueOf readable
+pub reads : (t extra : ℕ) → t ≤ 127 → extra < 2 ^ extraCount t → tokenAnswer t extra ≡ accepted (valueOf t extra)
+unfolding tokenAnswer tokenRefusal readable
 reads t extra le lt = rw (le-leb t 127 le, lt-ltb extra (2 ^ extraCount t) lt)
 
-pub refuses-token : (t extra : ℕ) → 127 < t → tokenValueOf t extra ≡ Refused
-unfolding tokenValueOf readable
+-- 10 names no place
+abbrev pub unread : Refusal
+unread = record { number = 10; place = 0 }
+
+pub refuses-token : (t extra : ℕ) → 127 < t → tokenAnswer t extra ≡ refused unread
+unfolding tokenAnswer tokenRefusal readable
 refuses-token t extra lt = rw (lt-leb t 127 lt)
 
-pub refuses-extra : (t extra : ℕ) → t ≤ 127 → 2 ^ extraCount t ≤ extra → tokenValueOf t extra ≡ Refused
-unfolding tokenValueOf readable
+pub refuses-extra : (t extra : ℕ) → t ≤ 127 → 2 ^ extraCount t ≤ extra → tokenAnswer t extra ≡ refused unread
+unfolding tokenAnswer tokenRefusal readable
 refuses-extra t extra le over = rw (le-leb t 127 le, le-ltb extra (2 ^ extraCount t) over)
-
--- 01's number and value of what comes back
-pub answer-is : (t extra : ℕ) → answerOf (tokenValueOf t extra) ≡ tokenAnswer t extra
-unfolding tokenValueOf tokenAnswer
-answer-is t extra = go (readable t extra)
-  where
-    go : (b : Bool) → answerOf (cond b (Value (valueOf t extra)) Refused) ≡ cond b (record { number = 0; value = valueOf t extra }) (record { number = 10; value = 0 })
-    go true = refl
-    go false = refl
 
 -- ---- what is written is read back, and what is read is written back
 
-pub encoded-reads : (v : ℕ) → v < 2 ^ 32 → tokenValueOf (encodedOf v .token) (encodedOf v .bits) ≡ Value v
+pub encoded-reads : (v : ℕ) → v < 2 ^ 32 → tokenAnswer (encodedOf v .token) (encodedOf v .bits) ≡ accepted v
 unfolding encodedOf
-encoded-reads v h = reads (tokenOf v) (extraBits v) (token-fits v h) (bits-fit v) ∙ ap Value (read-back v)
+encoded-reads v h = reads (tokenOf v) (extraBits v) (token-fits v h) (bits-fit v) ∙ ap accepted (read-back v)
 
-pub read-encodes : (t extra v : ℕ) → tokenValueOf t extra ≡ Value v → encodedOf v ≡ record { token = t; nbits = extraCount t; bits = extra }
-unfolding encodedOf tokenValueOf readable
+pub read-encodes : (t extra v : ℕ) → tokenAnswer t extra ≡ accepted v → encodedOf v ≡ record { token = t; nbits = extraCount t; bits = extra }
+unfolding encodedOf tokenAnswer tokenRefusal readable
 read-encodes t extra v h = go (leb t 127) (ltb extra (2 ^ extraCount t)) refl h
   where
-    go : (a b : Bool) → ltb extra (2 ^ extraCount t) ≡ b → cond (a && b) (Value (valueOf t extra)) Refused ≡ Value v
+    go : (a b : Bool) → ltb extra (2 ^ extraCount t) ≡ b → outcomeOf (refuseIf (not (a && b)) 10 none) (valueOf t extra) ≡ accepted v
         → encodedOf v ≡ record { token = t; nbits = extraCount t; bits = extra }
     go true true e h =
         let few = ltb-true extra (2 ^ extraCount t) e in

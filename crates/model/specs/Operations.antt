@@ -1,5 +1,5 @@
 -- The public operations on trees and rows: what each answers, and what each lent list holds afterwards (document 01, "Which number comes back").
--- A refusal leaves each lent list as it was. Packing and tokens stand in Pack and Token. Assumes nothing.
+-- A refusal leaves each lent list as it was. Packing and the token of a value, which refuse nothing, stand in Pack and Token. Assumes nothing.
 use Prim.Native.Nat.{ℕ}
 use mathlib.Core.List.{List}
 use mathlib.Core.Option.{Option, none, some}
@@ -8,6 +8,7 @@ use lib.IntN.{ℤ}
 use Rattle.model.specs.Lists.{writtenOver}
 use Rattle.model.specs.Meter.{Meter}
 use Rattle.model.specs.Settings.{Settings}
+use Rattle.model.specs.Token.{valueOf}
 use Rattle.model.specs.Tree.{blankRecord, nodesOf, leafReached}
 use Rattle.model.specs.Contexts.{contextsOf}
 use Rattle.model.specs.Learn.{Result, leafCount, learned}
@@ -15,7 +16,9 @@ use Rattle.model.specs.Deepen.{deepened}
 use Rattle.model.specs.Sampling.{evenSample}
 use Rattle.model.specs.Profile.{Profile, jobOf}
 use Rattle.model.specs.Lent.{Stored, Lent, rowsIn, usesModes, treeIn, lentAfter}
-use Rattle.model.specs.Refuse.{Refusal, learnRefusal, deepenRefusal, lookupRefusal, contextsRefusal, sampleRefusal}
+use Rattle.model.specs.Refuse.{Refusal, learnRefusal, deepenRefusal, lookupRefusal, contextsRefusal, sampleRefusal, tokenRefusal}
+use Rattle.model.specs.declared.TokenValue.{TokenValue}
+use Rattle.model.specs.declared.TokenValue.the-variants.{Value, Refused}
 
 pub data Outcome (A : Type 0) : Type 0 where
   refused : Refusal → Outcome A
@@ -93,3 +96,12 @@ sample rows target out =
     let answer = length picked in
     let exit = writtenOver picked out in
     unless (sampleRefusal rows target out) out answer exit
+
+-- ---- value of a token
+unfoldable pub tokenAnswer : ℕ → ℕ → Outcome ℕ
+tokenAnswer t extra = outcomeOf (tokenRefusal t extra) (valueOf t extra)
+
+-- what the code's answer says
+abbrev pub answerOf : TokenValue → Outcome ℕ
+answerOf (Value v) = accepted v
+answerOf (Refused number place) = refused (record { number = number; place = place })

@@ -9,6 +9,7 @@ use lib.Dec.{eqb, leb, ltb}
 use Rattle.model.specs.Lists.{all, isEmpty}
 use Rattle.model.specs.Meter.{Meter}
 use Rattle.model.specs.Settings.{Settings, propsPerRow, toksPerRow, maxRows, maxLeaves}
+use Rattle.model.specs.Token.{readable}
 use Rattle.model.specs.Cost.{usable}
 use Rattle.model.specs.Tree.{faultOf, faultOnWay}
 use Rattle.model.specs.Profile.{Profile}
@@ -115,3 +116,7 @@ module _ {M : Meter} where
 -- 3, then 7: output shorter than min(rows, target)
 unfoldable pub sampleRefusal : ℕ → ℕ → List ℕ → Option Refusal
 sampleRefusal rows target out = refuseIf (ltb maxRows rows) 3 (refuseIf (ltb (length out) (min rows target)) 7 none)
+
+-- 10: a token over 127, or extra bits too large for their count
+unfoldable pub tokenRefusal : ℕ → ℕ → Option Refusal
+tokenRefusal t extra = refuseIf (not (readable t extra)) 10 none

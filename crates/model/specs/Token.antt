@@ -1,11 +1,9 @@
--- Tokens and their values (01, "Packing and tokens", and "Value of a token"; the Rust's `uint_encode`). Assumes nothing.
+-- Tokens and their values (01, "Packing and tokens"; the Rust's `uint_encode`), and which of them can be read ("Value of a token"). Assumes nothing.
 use Prim.Native.Nat.{ℕ, _+_, _-_, _*_, _/_, _%_, _^_}
 use mathlib.Core.Bool.{Bool, _&&_, cond}
 use lib.Dec.{ltb, leb}
 use lib.Ieee.{size}
 use Rattle.model.specs.declared.Encoded.{Encoded}
-use Rattle.model.specs.declared.TokenValue.{TokenValue}
-use Rattle.model.specs.declared.TokenValue.the-variants.{Value, Refused}
 
 -- the place of the top bit of a value above 0: `size` counts its binary digits
 unfoldable pub topBit : ℕ → ℕ
@@ -34,19 +32,3 @@ encodedOf v = record { token = tokenOf v; nbits = extraCount (tokenOf v); bits =
 -- a token of at most 127, and extra bits that are not too large for their count (under 16 the count is 0, so the extra bits are 0)
 unfoldable pub readable : ℕ → ℕ → Bool
 readable t extra = leb t 127 && ltb extra (2 ^ extraCount t)
-
--- the value of a token and its extra bits, or the refusal
-unfoldable pub tokenValueOf : ℕ → ℕ → TokenValue
-tokenValueOf t extra = cond (readable t extra) (Value (valueOf t extra)) Refused
-
--- "Value of a token" by 01's numbers: 0 and the value, or the refusal 10 (and 0, since it names no place)
-pub record TokenAnswer : Type 0 where
-  pub number : ℕ
-  pub value : ℕ
-
-abbrev pub answerOf : TokenValue → TokenAnswer
-answerOf (Value v) = record { number = 0; value = v }
-answerOf Refused = record { number = 10; value = 0 }
-
-unfoldable pub tokenAnswer : ℕ → ℕ → TokenAnswer
-tokenAnswer t extra = cond (readable t extra) (record { number = 0; value = valueOf t extra }) (record { number = 10; value = 0 })

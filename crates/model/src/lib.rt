@@ -7,8 +7,8 @@ pub struct Encoded {
     pub bits: u32,
 }
 
-// The value of a token with its extra bits, or the refusal of both.
+// The value of a token with its extra bits; or a refusal's number and the named place.
 pub enum TokenValue {
     Value(u32),
-    Refused,
+    Refused { number: u32, place: u32 },
 }

@@ -44,7 +44,11 @@ fn expect_value(b: &[u8], c: Check, token: u32, extra: u32) -> Check {
     let read = entropy::token_value(token, extra);
     match read {
         TokenValue::Value(value) => expect(b, expect(b, expect(b, c, 0), 0), value),
-        TokenValue::Refused => expect(b, expect(b, expect(b, c, 10), 0), 0),
+        TokenValue::Refused { number, place } => expect(
+            b,
+            expect(b, expect(b, c, number), place),
+            0,
+        ),
     }
 }
 

@@ -3,20 +3,15 @@ use mathlib.Core.Path.{_≡_, sym, ap, _∙_}
 use Prim.Native.Nat.{ℕ, _+_, _*_, _%_, _^_, _<_}
 use native.Mathlib.Omega.{arith}
 use borrow.Author.Needs.{needs}
-use Rattle.model.specs.declared.TokenValue.{TokenValue}
-use Rattle.model.specs.declared.TokenValue.the-variants.{Value}
-use Rattle.model.specs.Token.{extraCount, valueOf, tokenValueOf, answerOf, tokenAnswer}
-use Rattle.model.proofs.Tokens.{count-fits, small-value, value-fits, reads, refuses-token, refuses-extra, answer-is}
+use Rattle.model.specs.Token.{extraCount, valueOf}
+use Rattle.model.specs.Operations.{accepted}
+use Rattle.model.proofs.Tokens.{count-fits, small-value, value-fits, reads, refuses-token, refuses-extra}
 use Rattle.entropy.proofs.Words.{shl-one, word-value}
 use Rattle.entropy.proofs.token_value.Statement.{statement}
 use Rattle.entropy.proofs.token_value.Tie as tie
 
--- an answer that the definition gives also has 01's number and value
-told : (t extra : ℕ) (r : TokenValue) → tokenValueOf t extra ≡ r → (r ≡ tokenValueOf t extra) × (answerOf r ≡ tokenAnswer t extra)
-told t extra r e = (sym e, ap answerOf (sym e) ∙ answer-is t extra)
-
 returns : tie.Need-returns
-returns c = let start = c .before in told _ _ _ (refuses-token (start .args .token) (start .args .extra) (c .if1 .taken))
+returns c = let start = c .before in sym (refuses-token (start .args .token) (start .args .extra) (c .if1 .taken))
 
 extra-count-requires : tie.Need-extra-count-requires
 extra-count-requires c κs = search needs
@@ -31,7 +26,7 @@ limit c = rw (shl-one (c .extra-count .result) (shl-if2 c), c .extra-count .ensu
 returns-2 : tie.Need-returns-2
 returns-2 c =
     let start = c .before .before .before in
-    told _ _ _ (refuses-extra (start .args .token) (start .args .extra) (c .before .before .if1 .left) (rw (limit (c .before)) at (c .if2 .taken)))
+    sym (refuses-extra (start .args .token) (start .args .extra) (c .before .before .if1 .left) (rw (limit (c .before)) at (c .if2 .taken)))
 
 few : (c : tie.Else2) → c .before .before .before .args .extra < 2 ^ extraCount (c .before .before .before .args .token)
 few c = rw (limit (c .before)) at (c .if2 .left)
@@ -39,7 +34,7 @@ few c = rw (limit (c .before)) at (c .if2 .left)
 returns-3 : tie.Need-returns-3
 returns-3 c =
     let start = c .before .before .before .before in
-    told _ _ _ (reads (start .args .token) (start .args .extra) (c .before .before .before .if1 .left) (few (c .before)) ∙ ap Value (small-value (start .args .token) (start .args .extra) (c .if3 .taken)))
+    sym (reads (start .args .token) (start .args .extra) (c .before .before .before .if1 .left) (few (c .before)) ∙ ap accepted (small-value (start .args .token) (start .args .extra) (c .if3 .taken)))
 
 add-t6 : tie.Need-add-t6
 add-t6 c = search needs
@@ -60,7 +55,7 @@ add-t8 c =
 returns-4 : tie.Need-returns-4
 returns-4 c =
     let start = c .before .before .before .before in
-    rw (value c) (told _ _ _ (reads (start .args .token) (start .args .extra) (c .before .before .before .if1 .left) (few (c .before))))
+    rw (value c) (sym (reads (start .args .token) (start .args .extra) (c .before .before .before .if1 .left) (few (c .before))))
 
 pub token-value-spec : {M : Type 1} → statement M
 token-value-spec =

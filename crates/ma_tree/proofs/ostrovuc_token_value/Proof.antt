@@ -12,7 +12,7 @@ value-answer-requires : tie.Need-value-answer-requires
 value-answer-requires c κs = search needs
 
 returns : tie.Need-returns
-returns c = c .value-answer .ensures ∙ ap valueIn (c .before .token-value .ensures .1)
+returns c = c .value-answer .ensures ∙ ap valueIn (c .before .token-value .ensures)
 
 pub ostrovuc-token-value-spec : {M : Type 1} → statement M
 ostrovuc-token-value-spec = tie.close (tie.spec token-value-requires value-answer-requires returns)

@@ -11,7 +11,7 @@ use lib.Ieee.{Float, binary32, binary64, ofBits}
 use Rattle.model.specs.Lists.{range}
 use Rattle.model.specs.Settings.{Settings}
 use Rattle.model.specs.Pack.{packed}
-use Rattle.model.specs.Token.{encodedOf, tokenValueOf, answerOf}
+use Rattle.model.specs.Token.{encodedOf}
 use Rattle.model.specs.Rows.{Span}
 use Rattle.model.specs.Partition.{aboveRows, otherRows}
 use Rattle.model.specs.Mode.{mode, zeroToken}
@@ -22,7 +22,7 @@ use Rattle.model.specs.Learn.{resultOf}
 use Rattle.model.specs.Single.{singles}
 use Rattle.model.specs.Profile.{single}
 use Rattle.model.specs.Lent.{Stored, recordIn, stored, Waiting, Lent}
-use Rattle.model.specs.Operations.{Outcome, refused, accepted, After, Tree, Found, ContextLists, learn, deepen, lookup, leafContexts, sample}
+use Rattle.model.specs.Operations.{Outcome, refused, accepted, After, Tree, Found, ContextLists, learn, deepen, lookup, leafContexts, sample, tokenAnswer}
 
 -- a 32-bit word as a signed number, and a list of them
 abbrev pub word : ℕ → ℤ
@@ -130,6 +130,11 @@ prunedAnswer price tree =
     let r = resultOf {M = singles} (record { rows = []; tree = prunedTree price tree; bits = prunedBits {M = singles} price tree }) (length tree) (f64 0) in
     prunedTo (r .bits) (r .count) (map stored (r .records)) (r .spans)
 
+-- number, place and value
+abbrev valueWords : Outcome ℕ → List ℕ
+valueWords (accepted v) = 0 ∷ 0 ∷ v ∷ []
+valueWords (refused r) = r .number ∷ r .place ∷ 0 ∷ []
+
 -- what the model answers
 abbrev pub answerTo : Job → Answer
 answerTo (learning t logs x) = grown (learn single t (map f32 logs) x)
@@ -139,7 +144,7 @@ answerTo (numbering count nodes x) = numbered (leafContexts nodes count x)
 answerTo (sampling rows target out) = sampled (sample rows target out)
 answerTo (packing vs) = naturals (map (λ (v : ℕ). packed (word v)) vs)
 answerTo (encoding vs) = encodings (map (λ (v : ℕ). let e = encodedOf v in e .token ∷ e .nbits ∷ e .bits ∷ []) vs)
-answerTo (reading ts) = encodings (map (λ (t : ℕ × ℕ). let a = answerOf (tokenValueOf (t .0) (t .1)) in a .number ∷ 0 ∷ a .value ∷ []) ts)
+answerTo (reading ts) = encodings (map (λ (t : ℕ × ℕ). valueWords (tokenAnswer (t .0) (t .1))) ts)
 answerTo (modeStep rs) = let m = mode (words rs) in rebasedTo m (map (λ (r : ℕ). zeroToken m (word r)) rs)
 answerTo (thresholds column most) = integers (candidatesOf most (words column))
 answerTo (parting column threshold) =
