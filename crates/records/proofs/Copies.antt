@@ -4,18 +4,16 @@ use mathlib.Core.Logic.{inl, inr}
 use Prim.Native.Nat.{ℕ, zero, suc, _+_, _*_, _≤_, _<_}
 use native.Mathlib.Nat.{add-zero, le-of-lt, le-of-suc-le-suc, eq-or-lt-of-le, mul-le-mul-right, suc-mul}
 use native.Mathlib.Omega.{arith}
-use mathlib.Core.Bool.{Bool, true, false}
 use mathlib.Core.List.{List, [], _∷_}
 use lib.ListN.{length, getD, set, length-set}
 use lib.Seq.{sets, length-sets, getD-set-same, getD-set-other, set-getD}
 use lib.IntN.{ℤ, pos}
 use lib.Ieee.{Float, nan}
-use lib.Dec.{eqb}
 use Rattle.model.specs.Single.{singles}
 use Rattle.model.specs.Lent.{Stored}
 use Rattle.layout.specs.Layout.{storedAt}
 use Rattle.records.specs.declared.MaNode.{MaNode}
-use Rattle.records.specs.Records.{storedOf, recordOf, noRecord, kindIs, HasPlace, HasPlaces, wordsFrom, valuesFrom, costsFrom, filled}
+use Rattle.records.specs.Records.{storedOf, recordOf, noRecord, HasPlace, HasPlaces, wordsFrom, valuesFrom, costsFrom, filled}
 
 -- ---- a record and an entry are field by field the same
 pub record-stored : (m : MaNode) → recordOf (storedOf m) ≡ m
@@ -45,11 +43,6 @@ module _ {X : Type 0} (f : ℕ → X) where
   pub filled-same : (n : ℕ) (xs : List X) (d : X) → ((i : ℕ) → i < n → f i ≡ getD xs i d) → filled f n xs ≡ xs
   filled-same zero xs d h = refl
   filled-same (suc n) xs d h = ap (λ (r : List X). set r n (f n)) (filled-same n xs d (λ i l. h i (omega arith))) ∙ ap (set xs n) (h n (omega arith)) ∙ set-getD xs n d
-
--- a kind as a number, and back
-is-split : (b : Bool) → eqb (kindIs b) 1 ≡ b
-is-split true = refl
-is-split false = refl
 
 -- ---- several neighbouring cells stored
 module _ {A : Type 0} where
@@ -98,7 +91,7 @@ module _ (ns : List MaNode) where
 
   -- a record's words and values, as they stand
   abbrev words : ℕ → List ℕ
-  words i = kindIs (node i .split) ∷ node i .prop ∷ node i .gt ∷ node i .le ∷ node i .info .pred ∷ []
+  words i = node i .kind ∷ node i .prop ∷ node i .gt ∷ node i .le ∷ node i .info .pred ∷ []
 
   abbrev values : ℕ → List ℤ
   values i = node i .val ∷ node i .info .offset ∷ []
@@ -141,7 +134,7 @@ module _ (ns : List MaNode) where
       let cost : getD (costsFrom ns n c) i nan ≡ node i .info .cost = ap (λ (r : List Float). getD r i nan) (costs-filled n c) ∙ filled-at (λ i. node i .info .cost) n c i nan l (h .costs-there) in
       let kind = rw add-zero at (word 0 (omega arith)) in
       let val = rw add-zero at (value 0 (omega arith)) in
-      rw (kind, word 1 (omega arith), word 2 (omega arith), word 3 (omega arith), word 4 (omega arith), val, value 1 (omega arith), cost, is-split (node i .split)) refl
+      rw (kind, word 1 (omega arith), word 2 (omega arith), word 3 (omega arith), word 4 (omega arith), val, value 1 (omega arith), cost) refl
 
 -- ---- places
 pub one-place : {n : ℕ} {w : List ℕ} {v : List ℤ} {c : List Float} → HasPlaces n w v c → {i : ℕ} → i < n → HasPlace i w v c

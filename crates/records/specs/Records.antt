@@ -1,7 +1,6 @@
 -- Node records: what the model reads in one, and how they stand in the core's number lists (document 01, "The node list is one lent run of records").
 -- Assumes nothing.
 use Prim.Native.Nat.{ℕ, zero, suc, _+_, _*_, _≤_, _<_}
-use mathlib.Core.Bool.{Bool, true, false}
 use mathlib.Core.List.{List}
 use lib.ListN.{length, getD, set}
 use lib.IntN.{ℤ, pos}
@@ -17,24 +16,19 @@ use Rattle.records.specs.declared.MaNode.{MaNode}
 -- ---- a record and the model's entry of the node list: field by field the same
 
 abbrev pub storedOf : MaNode → Stored singles
-storedOf m = record { isSplit = m .split; prop = m .prop; val = m .val; gt = m .gt; le = m .le; info = infoIs (m .info) }
+storedOf m = record { kind = m .kind; prop = m .prop; val = m .val; gt = m .gt; le = m .le; info = infoIs (m .info) }
 
 abbrev pub infoOf : Info singles → NodeInfo
 infoOf i = record { cost = i .cost; pred = i .pred; offset = i .offset }
 
 abbrev pub recordOf : Stored singles → MaNode
-recordOf e = record { split = e .isSplit; prop = e .prop; val = e .val; gt = e .gt; le = e .le; info = infoOf (e .info) }
+recordOf e = record { kind = e .kind; prop = e .prop; val = e .val; gt = e .gt; le = e .le; info = infoOf (e .info) }
 
 -- a record to name where a list has none
 abbrev pub noRecord : MaNode
-noRecord = record { split = false; prop = 0; val = pos 0; gt = 0; le = 0; info = record { cost = nan; pred = 0; offset = pos 0 } }
+noRecord = record { kind = 0; prop = 0; val = pos 0; gt = 0; le = 0; info = record { cost = nan; pred = 0; offset = pos 0 } }
 
 -- ---- records in the core's number lists
-
--- a node's kind as a number: 1 of a split, else 0
-abbrev pub kindIs : Bool → ℕ
-kindIs true = 1
-kindIs false = 0
 
 -- place i of the number lists as a record
 abbrev pub nodeOf : List ℕ → List ℤ → List Float → ℕ → MaNode
@@ -56,7 +50,7 @@ abbrev pub wordsFrom : List MaNode → ℕ → List ℕ → List ℕ
 wordsFrom ns zero words = words
 wordsFrom ns (suc i) words =
     let m = getD ns i noRecord in
-    putWords i (kindIs (m .split)) (m .prop) (m .gt) (m .le) (m .info .pred) (wordsFrom ns i words)
+    putWords i (m .kind) (m .prop) (m .gt) (m .le) (m .info .pred) (wordsFrom ns i words)
 
 abbrev pub valuesFrom : List MaNode → ℕ → List ℤ → List ℤ
 valuesFrom ns zero values = values

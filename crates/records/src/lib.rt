@@ -1,17 +1,19 @@
-// A node as a caller holds it: one record of its kind and fields with what stands beside it, in a lent slice. Records go to the core's number lists and come
-// back from them. Only the two loops see the slice, and are walked by hand.
+// A node as a caller holds it: one record of its kind and fields with what stands beside it, in a lent slice. Records
+// go to the core's number lists and come back from them. Only the two loops see the slice, and are walked by hand.
 ghost use mathlib.Core.Path.{_≡_};
 ghost use lib.ListN.{length};
 ghost use Prim.Native.Nat.{_≤_};
 ghost use Rattle.layout.specs.Layout.{putWords, putValues};
 ghost use lib.ListN.{set};
-ghost use Rattle.records.specs.Records.{kindIs, nodeOf, filled, wordsFrom, valuesFrom, costsFrom, HasPlace, HasPlaces};
+ghost use Rattle.records.specs.Records.{nodeOf, filled, wordsFrom, valuesFrom, costsFrom, HasPlace, HasPlaces};
 use layout::NodeInfo;
 
-// A split's property, threshold and children, for which a leaf has no use; and beside every node its cost, predictor and offset.
+// A node's kind, 1 for a split and any other number for a leaf; a split's property, threshold and children, for which
+// a leaf has no use; and beside every node its cost, predictor and offset. Eight numbers of 32 bits with nothing
+// between them, and each may hold any bits.
 #[repr(C)]
 pub struct MaNode {
-    pub split: bool,
+    pub kind: u32,
     pub prop: u32,
     pub val: i32,
     pub gt: u32,
@@ -24,12 +26,6 @@ const NODE_WORDS: usize = 5;
 
 const NODE_VALUES: usize = 2;
 
-fn kind_of(split: bool) -> u32
-    ensures { λ r. ⌜ r ≡ kindIs split ⌝ }
-{
-    if split { 1 } else { 0 }
-}
-
 // Record m goes to place i of the number lists.
 fn put_node<'a>(
     i: usize,
@@ -39,13 +35,13 @@ fn put_node<'a>(
     costs: &'a mut [f32],
 )
     requires { ⌜ HasPlace i (now words) (now values) (now costs) ⌝ }
-    ensures { λ _. ⌜ now (words .exit) ≡ putWords i (kindIs (m .split)) (m .prop) (m .gt) (m .le) (m .info .pred) (now (words .entry)) ⌝ }
+    ensures { λ _. ⌜ now (words .exit)
+        ≡ putWords i (m .kind) (m .prop) (m .gt) (m .le) (m .info .pred) (now (words .entry)) ⌝ }
     ensures { λ _. ⌜ now (values .exit) ≡ putValues i (m .val) (m .info .offset) (now (values .entry)) ⌝ }
     ensures { λ _. ⌜ now (costs .exit) ≡ set (now (costs .entry)) i (m .info .cost) ⌝ }
 {
     let at = i * NODE_WORDS;
-    let kind = kind_of(m.split);
-    words[at] = kind;
+    words[at] = m.kind;
     words[at + 1] = m.prop;
     words[at + 2] = m.gt;
     words[at + 3] = m.le;
@@ -72,7 +68,7 @@ fn node_of<'a>(i: usize, words: &'a [u32], values: &'a [i32], costs: &'a [f32]) 
         offset: values[value_at + 1],
     };
     MaNode {
-        split: words[at] == 1,
+        kind: words[at],
         prop: words[at + 1],
         val: values[value_at],
         gt: words[at + 2],
@@ -113,7 +109,8 @@ pub fn to_records<'n, 'a>(
 )
     requires { ⌜ n ≤ length (now nodes) ⌝ }
     requires { ⌜ HasPlaces n (now words) (now values) (now costs) ⌝ }
-    ensures { λ _. ⌜ now (nodes .exit) ≡ filled (nodeOf (now (words .entry)) (now (values .entry)) (now (costs .entry))) n (now (nodes .entry)) ⌝ }
+    ensures { λ _. ⌜ now (nodes .exit)
+        ≡ filled (nodeOf (now (words .entry)) (now (values .entry)) (now (costs .entry))) n (now (nodes .entry)) ⌝ }
 {
     let mut i: usize = 0;
     while i < n {

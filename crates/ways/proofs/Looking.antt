@@ -25,7 +25,7 @@ use Rattle.records.specs.declared.MaNode.{MaNode}
 use Rattle.tree.proofs.Lists.{in-range}
 use Rattle.answers.specs.Answers.{foundIn}
 use Rattle.ways.specs.declared.Way.{Way}
-use Rattle.ways.specs.Ways.{goesOn, found, refusedAt, begun, stepped, wayOf}
+use Rattle.ways.specs.Ways.{isSplit, goesOn, found, refusedAt, begun, stepped, wayOf}
 
 -- ---- a step
 -- the record's own fields are in range
@@ -39,12 +39,12 @@ childOf m ps = towards ps (m .prop) (m .val) (m .gt) (m .le)
 -- from a node at fault, from a leaf, and from a split
 data Step (m : MaNode) (i count : ℕ) (ps : List ℤ) : Type 0 where
   faulty : inOrder m i count ≡ false → Step m i count ps
-  ends : inOrder m i count ≡ true → m .split ≡ false → Step m i count ps
-  leads : inOrder m i count ≡ true → m .split ≡ true → i < childOf m ps → childOf m ps < count → Step m i count ps
+  ends : inOrder m i count ≡ true → isSplit m ≡ false → Step m i count ps
+  leads : inOrder m i count ≡ true → isSplit m ≡ true → i < childOf m ps → childOf m ps < count → Step m i count ps
 
 module _ (m : MaNode) (i count : ℕ) (ps : List ℤ) where
   -- an orderly split: its property is one of 24, and its child stands behind it and below the count
-  pub split-in-order : inOrder m i count ≡ true → m .split ≡ true → (m .prop < propsPerRow) × (i < childOf m ps) × (childOf m ps < count)
+  pub split-in-order : inOrder m i count ≡ true → isSplit m ≡ true → (m .prop < propsPerRow) × (i < childOf m ps) × (childOf m ps < count)
   split-in-order o s =
       let all = and-eq-true-iff (ltb (m .prop) propsPerRow) _ .0 (rw s at o) in
       let sides = and-eq-true-iff _ _ .0 (all .1) in
@@ -54,9 +54,9 @@ module _ (m : MaNode) (i count : ℕ) (ps : List ℤ) where
       (ltb-true _ _ (all .0), child .0, child .1)
 
   step-of : Step m i count ps
-  step-of = go (inOrder m i count) (m .split) refl refl
+  step-of = go (inOrder m i count) (isSplit m) refl refl
     where
-      go : (o s : Bool) → inOrder m i count ≡ o → m .split ≡ s → Step m i count ps
+      go : (o s : Bool) → inOrder m i count ≡ o → isSplit m ≡ s → Step m i count ps
       go false s eo es = faulty eo
       go true false eo es = ends eo es
       go true true eo es = let a = split-in-order eo es in leads eo es (a .1) (a .2)
@@ -64,10 +64,10 @@ module _ (m : MaNode) (i count : ℕ) (ps : List ℤ) where
   pub stepped-fault : inOrder m i count ≡ false → stepped m i count ps ≡ refusedAt 8 i
   stepped-fault o = rw o
 
-  stepped-end : inOrder m i count ≡ true → m .split ≡ false → stepped m i count ps ≡ found i (m .info .pred)
+  stepped-end : inOrder m i count ≡ true → isSplit m ≡ false → stepped m i count ps ≡ found i (m .info .pred)
   stepped-end o s = rw (o, s)
 
-  pub stepped-on : inOrder m i count ≡ true → m .split ≡ true → stepped m i count ps ≡ goesOn (childOf m ps)
+  pub stepped-on : inOrder m i count ≡ true → isSplit m ≡ true → stepped m i count ps ≡ goesOn (childOf m ps)
   stepped-on o s = rw (o, s)
 
   -- a step that does not end the way leads to a node behind it, below the count
@@ -123,11 +123,11 @@ module _ (ns : List MaNode) (count : ℕ) (held : count ≤ length ns) (ps : Lis
     unfolding answerFrom faultOnWay
     answer-fault o = rw (record-at ns count held i h, tree-length ns count held, o)
 
-    answer-end : inOrder (at i) i count ≡ true → at i .split ≡ false → answerFrom (suc fuel) i ≡ accepted (record { leaf = i; pred = at i .info .pred })
+    answer-end : inOrder (at i) i count ≡ true → isSplit (at i) ≡ false → answerFrom (suc fuel) i ≡ accepted (record { leaf = i; pred = at i .info .pred })
     unfolding answerFrom faultOnWay reach
     answer-end o s = rw (node-at ns count held i h, record-at ns count held i h, tree-length ns count held, o, s, record-at ns count held i h)
 
-    answer-on : inOrder (at i) i count ≡ true → at i .split ≡ true → answerFrom (suc fuel) i ≡ answerFrom fuel (childOf (at i) ps)
+    answer-on : inOrder (at i) i count ≡ true → isSplit (at i) ≡ true → answerFrom (suc fuel) i ≡ answerFrom fuel (childOf (at i) ps)
     unfolding answerFrom faultOnWay reach
     answer-on o s = rw (node-at ns count held i h, record-at ns count held i h, tree-length ns count held, o, s)
 

@@ -1,7 +1,7 @@
 -- A lookup on records, one node at a time (document 01, "Lookup"): where it stands, a step, and some steps. Assumes nothing.
 use mathlib.Core.Path.{_≡_}
 use Prim.Native.Nat.{ℕ, zero, suc}
-use mathlib.Core.Bool.{true, false, cond, not, _||_}
+use mathlib.Core.Bool.{Bool, true, false, cond, not, _||_}
 use mathlib.Core.List.{List}
 use lib.ListN.{length, getD}
 use lib.IntN.{ℤ}
@@ -12,6 +12,10 @@ use Rattle.model.specs.Lent.{recordIn}
 use Rattle.records.specs.Records.{storedOf, noRecord}
 use Rattle.records.specs.declared.MaNode.{MaNode}
 use Rattle.ways.specs.declared.Way.{Way}
+
+-- kind 1 is a split, and any other number a leaf
+abbrev pub isSplit : MaNode → Bool
+isSplit m = eqb (m .kind) 1
 
 -- the way goes on at a node, or has ended with an answer
 abbrev pub goesOn : ℕ → Way
@@ -31,7 +35,7 @@ begun room count ps = cond (not (eqb (length ps) propsPerRow)) (refusedAt 9 0) (
 abbrev pub stepped : MaNode → ℕ → ℕ → List ℤ → Way
 stepped m i count ps =
     cond (isOrderly count i (m .info .pred) (recordIn (storedOf m) .node))
-    (cond (m .split) (goesOn (towards ps (m .prop) (m .val) (m .gt) (m .le))) (found i (m .info .pred)))
+    (cond (isSplit m) (goesOn (towards ps (m .prop) (m .val) (m .gt) (m .le))) (found i (m .info .pred)))
     (refusedAt 8 i)
 
 -- at most so many steps

@@ -4,7 +4,7 @@ ghost use Prim.Native.Nat.{ℕ};
 ghost use mathlib.Core.Bool.{true, false};
 ghost use mathlib.Core.List.{List};
 ghost use lib.IntN.{ℤ};
-ghost use Rattle.ways.specs.Ways.{goesOn, refusedAt, begun, stepped, OneRow};
+ghost use Rattle.ways.specs.Ways.{isSplit, goesOn, refusedAt, begun, stepped, OneRow};
 use answers::Leaf;
 use records::MaNode;
 
@@ -12,6 +12,9 @@ use records::MaNode;
 const NUM_MA_PROPS: usize = 24;
 
 const NUM_MA_PREDS: u32 = 14;
+
+// A split's kind. Any other is a leaf's.
+const SPLIT: u32 = 1;
 
 // A lookup goes on at a node, or has ended.
 pub struct Way {
@@ -65,7 +68,7 @@ pub fn begin(room: usize, count: u32, props: &[i32]) -> Way
 
 // From a leaf: the way ends, with an answer if the predictor is one.
 fn end_at(m: MaNode, node: u32) -> Way
-    requires { ⌜ m .split ≡ false ⌝ }
+    requires { ⌜ isSplit m ≡ false ⌝ }
     ensures { λ r. ⌜ ((count : ℕ) (ps : List ℤ) → r ≡ stepped m node count ps) ⌝ }
 {
     let info = m.info;
@@ -84,9 +87,10 @@ fn end_at(m: MaNode, node: u32) -> Way
     }
 }
 
-// From a split: a property above the value leads to gt, else to le. Both children must stand behind it and below the count.
+// From a split: a property above the value leads to gt, else to le. Both children must stand behind it and below the
+// count.
 fn follow(m: MaNode, node: u32, count: u32, props: &[i32]) -> Way
-    requires { ⌜ m .split ≡ true ⌝ }
+    requires { ⌜ isSplit m ≡ true ⌝ }
     requires { ⌜ OneRow (now props) ⌝ }
     ensures { λ r. ⌜ r ≡ stepped m node count (now (props .entry)) ⌝ }
 {
@@ -107,8 +111,7 @@ pub fn step<'a>(m: MaNode, node: u32, count: u32, props: &'a [i32]) -> Way
     requires { ⌜ OneRow (now props) ⌝ }
     ensures { λ r. ⌜ r ≡ stepped m node count (now (props .entry)) ⌝ }
 {
-    let split = m.split;
-    if split {
+    if m.kind == SPLIT {
         return follow(m, node, count, props);
     }
     end_at(m, node)

@@ -9,9 +9,6 @@ use Rattle.records.proofs.put_node.Tie as tie
 mul-at : tie.Need-mul-at
 mul-at c = search needs
 
-kind-of-requires : tie.Need-kind-of-requires
-kind-of-requires c κs = search needs
-
 mul-words : tie.Need-mul-words
 mul-words c = search needs
 
@@ -88,14 +85,13 @@ same-length-3 : tie.Need-same-length-3
 same-length-3 c = search needs
 
 returns : tie.Need-returns
-returns c = (rw (c .before .before .before .kind-of .ensures) refl, (search needs, refl))
+returns c = (refl, (search needs, refl))
 
 pub put-node-spec : {M : Type 1} → statement M
 put-node-spec =
     tie.close
     (tie.spec
     mul-at
-    kind-of-requires
     mul-words
     slice-write-words
     add-words
