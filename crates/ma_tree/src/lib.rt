@@ -226,7 +226,7 @@ pub extern "C" fn ostrovuc_lookup<'n, 'a>(nodes: &'n [MaNode], count: u32, props
 {
     let mut way = ways::begin(nodes.len(), count, props);
     while way.on {
-        let m = nodes[way.node as usize];
+        let m = nodes[way.node.0 as usize];
         way = ways::step(m, way.node, count, props);
     }
     way.end

@@ -71,10 +71,10 @@ module _ (m : MaNode) (i count : ℕ) (ps : List ℤ) where
   stepped-on o s = rw (o, s)
 
   -- a step that does not end the way leads to a node behind it, below the count
-  step-ahead : stepped m i count ps .on ≡ true → (i < stepped m i count ps .node) × (stepped m i count ps .node < count)
+  step-ahead : stepped m i count ps .on ≡ true → (i < stepped m i count ps .node .0) × (stepped m i count ps .node .0 < count)
   step-ahead on = go step-of
     where
-      go : Step m i count ps → (i < stepped m i count ps .node) × (stepped m i count ps .node < count)
+      go : Step m i count ps → (i < stepped m i count ps .node .0) × (stepped m i count ps .node .0 < count)
       go (faulty o) = absurd (true≢false (sym on ∙ ap (λ (w : Way). w .on) (stepped-fault o)))
       go (ends o s) = absurd (true≢false (sym on ∙ ap (λ (w : Way). w .on) (stepped-end o s)))
       go (leads o s a b) = rw (stepped-on o s) (a, b)
@@ -169,7 +169,7 @@ module _ (ns : List MaNode) (count : ℕ) (ps : List ℤ) where
   -- the count, and may meet every node behind that.
   pub record Going (fuel : ℕ) (w : Way) : Type 0 where
     pub ends-well : wayOf ns count ps fuel w .end ≡ foundIn (lookup (map storedOf ns) count ps)
-    pub inside : w .on ≡ true → (w .node < count) × (count ≤ length ns) × (count ≤ w .node + fuel) × (length ps ≡ propsPerRow)
+    pub inside : w .on ≡ true → (w .node .0 < count) × (count ≤ length ns) × (count ≤ w .node .0 + fuel) × (length ps ≡ propsPerRow)
 
   pub going-first : Going count (begun (length ns) count ps)
   going-first = go (eqb (length ps) propsPerRow) (eqb count 0 || ltb (length ns) count) refl refl
@@ -186,12 +186,12 @@ module _ (ns : List MaNode) (count : ℕ) (ps : List ℤ) where
           })
 
   -- a step
-  pub going-on : (fuel : ℕ) (w : Way) → Going (suc fuel) w → w .on ≡ true → Going fuel (stepped (getD ns (w .node) noRecord) (w .node) count ps)
+  pub going-on : (fuel : ℕ) (w : Way) → Going (suc fuel) w → w .on ≡ true → Going fuel (stepped (getD ns (w .node .0) noRecord) (w .node .0) count ps)
   going-on fuel w g on =
       let here = g .inside on in
       record {
         ends-well = rw on at (g .ends-well);
-        inside = λ next. let a = step-ahead (getD ns (w .node) noRecord) (w .node) count ps next in (a .1, here .1, omega arith, here .3);
+        inside = λ next. let a = step-ahead (getD ns (w .node .0) noRecord) (w .node .0) count ps next in (a .1, here .1, omega arith, here .3);
       }
 
   -- with no step left it is not on

@@ -19,13 +19,13 @@ isSplit m = eqb (m .kind) 1
 
 -- the way goes on at a node, or has ended with an answer
 abbrev pub goesOn : ℕ → Way
-goesOn i = record { on = true; node = i; end = record { number = 0; place = 0; leaf = 0; pred = 0 } }
+goesOn i = record { on = true; node = record { 0 = i }; end = record { number = 0; place = 0; leaf = 0; pred = 0 } }
 
 abbrev pub found : ℕ → ℕ → Way
-found i pred = record { on = false; node = i; end = record { number = 0; place = 0; leaf = i; pred = pred } }
+found i pred = record { on = false; node = record { 0 = i }; end = record { number = 0; place = 0; leaf = i; pred = pred } }
 
 abbrev pub refusedAt : ℕ → ℕ → Way
-refusedAt number place = record { on = false; node = place; end = record { number = number; place = place; leaf = 0; pred = 0 } }
+refusedAt number place = record { on = false; node = record { 0 = place }; end = record { number = number; place = place; leaf = 0; pred = 0 } }
 
 -- before the first node: 9, then 8 for the count
 abbrev pub begun : ℕ → ℕ → List ℤ → Way
@@ -41,7 +41,7 @@ stepped m i count ps =
 -- at most so many steps
 abbrev pub wayOf : List MaNode → ℕ → List ℤ → ℕ → Way → Way
 wayOf ns count ps zero w = w
-wayOf ns count ps (suc fuel) w = cond (w .on) (wayOf ns count ps fuel (stepped (getD ns (w .node) noRecord) (w .node) count ps)) w
+wayOf ns count ps (suc fuel) w = cond (w .on) (wayOf ns count ps fuel (stepped (getD ns (w .node .0) noRecord) (w .node .0) count ps)) w
 
 -- what a step asks for: a split's property is one of those handed in
 pub record OneRow (ps : List ℤ) : Type 0 where

@@ -7,6 +7,7 @@ ghost use lib.IntN.{ℤ};
 ghost use Rattle.ways.specs.Ways.{isSplit, goesOn, refusedAt, begun, stepped, OneRow};
 use answers::Leaf;
 use records::MaNode;
+use tree::answers::NodeNumber;
 
 // Properties of a row, and predictors.
 const NUM_MA_PROPS: usize = 24;
@@ -19,12 +20,12 @@ const SPLIT: u32 = 1;
 // A lookup goes on at a node, or has ended.
 pub struct Way {
     pub on: bool,
-    pub node: u32,
+    pub node: NodeNumber,
     pub end: Leaf,
 }
 
-fn go_on(node: u32) -> Way
-    ensures { λ r. ⌜ r ≡ goesOn node ⌝ }
+fn go_on(node: NodeNumber) -> Way
+    ensures { λ r. ⌜ r ≡ goesOn (node .0) ⌝ }
 {
     Way {
         on: true,
@@ -38,15 +39,16 @@ fn go_on(node: u32) -> Way
     }
 }
 
-fn refuse(number: u32, place: u32) -> Way
-    ensures { λ r. ⌜ r ≡ refusedAt number place ⌝ }
+// The node is what the refusal names, or 0.
+fn refuse(number: u32, node: NodeNumber) -> Way
+    ensures { λ r. ⌜ r ≡ refusedAt number (node .0) ⌝ }
 {
     Way {
         on: false,
-        node: place,
+        node,
         end: Leaf {
             number,
-            place,
+            place: node.0,
             leaf: 0,
             pred: 0,
         },
@@ -58,18 +60,18 @@ pub fn begin(room: usize, count: u32, props: &[i32]) -> Way
     ensures { λ r. ⌜ r ≡ begun room count (now (props .entry)) ⌝ }
 {
     if props.len() != NUM_MA_PROPS {
-        return refuse(9, 0);
+        return refuse(9, NodeNumber(0));
     }
     if (count == 0) | (room < count as usize) {
-        return refuse(8, 0);
+        return refuse(8, NodeNumber(0));
     }
-    go_on(0)
+    go_on(NodeNumber(0))
 }
 
 // From a leaf: the way ends, with an answer if the predictor is one.
-fn end_at(m: MaNode, node: u32) -> Way
+fn end_at(m: MaNode, node: NodeNumber) -> Way
     requires { ⌜ isSplit m ≡ false ⌝ }
-    ensures { λ r. ⌜ ((count : ℕ) (ps : List ℤ) → r ≡ stepped m node count ps) ⌝ }
+    ensures { λ r. ⌜ ((count : ℕ) (ps : List ℤ) → r ≡ stepped m (node .0) count ps) ⌝ }
 {
     let info = m.info;
     if NUM_MA_PREDS <= info.pred {
@@ -81,7 +83,7 @@ fn end_at(m: MaNode, node: u32) -> Way
         end: Leaf {
             number: 0,
             place: 0,
-            leaf: node,
+            leaf: node.0,
             pred: info.pred,
         },
     }
@@ -89,27 +91,28 @@ fn end_at(m: MaNode, node: u32) -> Way
 
 // From a split: a property above the value leads to gt, else to le. Both children must stand behind it and below the
 // count.
-fn follow(m: MaNode, node: u32, count: u32, props: &[i32]) -> Way
+fn follow(m: MaNode, node: NodeNumber, count: u32, props: &[i32]) -> Way
     requires { ⌜ isSplit m ≡ true ⌝ }
     requires { ⌜ OneRow (now props) ⌝ }
-    ensures { λ r. ⌜ r ≡ stepped m node count (now (props .entry)) ⌝ }
+    ensures { λ r. ⌜ r ≡ stepped m (node .0) count (now (props .entry)) ⌝ }
 {
+    let i = node.0;
     let prop = m.prop as usize;
     let gt = m.gt;
     let le = m.le;
-    if !((prop < NUM_MA_PROPS) & (((node < gt) & (node < le)) & ((gt < count) & (le < count)))) {
+    if !((prop < NUM_MA_PROPS) & (((i < gt) & (i < le)) & ((gt < count) & (le < count)))) {
         return refuse(8, node);
     }
     if m.val < props[prop] {
-        return go_on(gt);
+        return go_on(NodeNumber(gt));
     }
-    go_on(le)
+    go_on(NodeNumber(le))
 }
 
 // One node further.
-pub fn step<'a>(m: MaNode, node: u32, count: u32, props: &'a [i32]) -> Way
+pub fn step<'a>(m: MaNode, node: NodeNumber, count: u32, props: &'a [i32]) -> Way
     requires { ⌜ OneRow (now props) ⌝ }
-    ensures { λ r. ⌜ r ≡ stepped m node count (now (props .entry)) ⌝ }
+    ensures { λ r. ⌜ r ≡ stepped m (node .0) count (now (props .entry)) ⌝ }
 {
     if m.kind == SPLIT {
         return follow(m, node, count, props);

@@ -60,10 +60,13 @@ use Rattle.records.proofs.MaNode as N
 use Rattle.records.proofs.MaNode.Laws as N′
 use Rattle.answers.specs.Answers.{foundIn}
 use Rattle.ways.specs.Ways.{begun, stepped}
+use Rattle.tree.specs.declared.answers.NodeNumber.{NodeNumber}
 use Rattle.answers.specs.declared.Leaf.{Leaf}
 use Rattle.ways.specs.declared.Way.{Way}
 use Rattle.records.proofs.Locals.{Blocks, block, env, States, cells, enters, leaves, local-at, to-local, gives, start-of, count-of}
 use Rattle.ways.proofs.Looking.{Going, going-first, going-on, going-none, going-end}
+use Rattle.tree.proofs.answers.NodeNumber as I
+use Rattle.tree.proofs.answers.NodeNumber.Laws as I′
 use Rattle.answers.proofs.Leaf as L
 use Rattle.answers.proofs.Leaf.Laws as L′
 use Rattle.ways.proofs.Way as Y
@@ -93,9 +96,12 @@ module _ {M : Type 1} (𝓤 : URA M) (H : Heap 𝓤) (A : Atoms 𝓤) (mem : Mem
   abbrev Step : Contract 𝓤
   Step = tripleOf 𝓤 H A step.signature (step.spec 𝓤 H A mem run)
 
--- the machine values of a node, of a way and of an answer
+-- the machine values of a node, of its number, of a way and of an answer
 abbrev mval : MaNode → Val
 mval = LL.val N.the-type N′.the-laws
+
+abbrev ival : NodeNumber → Val
+ival = LL.val I.the-type I′.the-laws
 
 abbrev wval : Way → Val
 wval = LL.val Y.the-type Y′.the-laws
@@ -166,27 +172,27 @@ module _ {M : Type 1} (𝓤 : URA M) (H : Heap 𝓤) (A : Atoms 𝓤) (W : Given
   begin-says : (w : Way) → ent 𝓤 (begin-ensures w) (fact 𝓤 (w ≡ begun (length ns) count (ps .now)))
   begin-says w = exE 𝓤 _ (λ ws. snd∗ 𝓤 (sem 𝓤 H A (lasts begin.ended (κ′, tt) (length ns, (count, (ps, tt))) ws)) (fact 𝓤 (w ≡ begun (length ns) count (ps .now))))
 
-  module _ (i : ℕ) where
+  module _ (i : NodeNumber) where
     abbrev node : MaNode
-    node = getD ns i noRecord
+    node = getD ns (i .0) noRecord
 
     node-typed : Is N.the-row node (mval node ∷ []) → T (hasTy N′.mir (mval node)) × WT (mval node)
     node-typed is = LL.lawful N.the-type N′.the-laws 𝓤 H A W .typed node _ is .0
 
     abbrev to-step : Step 𝓤 H A mem run .Ghost
-    to-step = (((κ′, tt), (q′, tt), tt, (node, (i, (count, (ps, tt)))), (mval node ∷ [], (vint w32 i ∷ [], (vint w32 count ∷ [], (p ∷ [], tt))))), tt)
+    to-step = (((κ′, tt), (q′, tt), tt, (node, (i, (count, (ps, tt)))), (mval node ∷ [], (ival i ∷ [], (vint w32 count ∷ [], (p ∷ [], tt))))), tt)
 
-    step-asks : Is N.the-row node (mval node ∷ []) → i < 2 ^ 32 → length (ps .now) ≡ propsPerRow → ent 𝓤 (⋆ 𝓤 H A (token ∷ Own ∷ [])) (Step 𝓤 H A mem run .pre to-step)
-    step-asks is fits one-row =
+    step-asks : Is N.the-row node (mval node ∷ []) → Is I.the-row i (ival i ∷ []) → length (ps .now) ≡ propsPerRow → ent 𝓤 (⋆ 𝓤 H A (token ∷ Own ∷ [])) (Step 𝓤 H A mem run .pre to-step)
+    step-asks is number-is one-row =
         qed W (token ∷ Own ∷ []) ∵ says ! (record { one = one-row }) $ frame ! $ owned ! u32 (Is u32) (uint-makes 𝓤 H A W w32) count _ (refl, count-fits) $ fjoin ! $
-        owned ! u32 (Is u32) (uint-makes 𝓤 H A W w32) i _ (refl, fits) $ fjoin ! $
+        owned ! I.the-row (Is I.the-row) (LL.makes I.the-type I′.the-plain 𝓤 H A) i _ number-is $ fjoin ! $
         owned ! N.the-row (Is N.the-row) (LL.makes N.the-type N′.the-plain 𝓤 H A) node _ is $ fjoin ! $ done !
 
     abbrev step-ensures : Way → SProp 𝓤
     step-ensures = ensured 𝓤 H A step.ended (step.clauses 𝓤 H A mem run) (κ′, tt) (node, (i, (count, (ps, tt)))) tt
 
-    step-says : (w : Way) → ent 𝓤 (step-ensures w) (fact 𝓤 (w ≡ stepped node i count (ps .now)))
-    step-says w = exE 𝓤 _ (λ ws. snd∗ 𝓤 (sem 𝓤 H A (lasts step.ended (κ′, tt) (node, (i, (count, (ps, tt)))) ws)) (fact 𝓤 (w ≡ stepped node i count (ps .now))))
+    step-says : (w : Way) → ent 𝓤 (step-ensures w) (fact 𝓤 (w ≡ stepped node (i .0) count (ps .now)))
+    step-says w = exE 𝓤 _ (λ ws. snd∗ 𝓤 (sem 𝓤 H A (lasts step.ended (κ′, tt) (node, (i, (count, (ps, tt)))) ws)) (fact 𝓤 (w ≡ stepped node (i .0) count (ps .now))))
 
   -- what either call leaves: the token, a way whose machine value is v, and what is said of it
   abbrev Answer : Val → (Way → SProp 𝓤) → Item 𝓤
@@ -245,42 +251,45 @@ module _ {M : Type 1} (𝓤 : URA M) (H : Heap 𝓤) (A : Atoms 𝓤) (W : Given
         qed W (At w) ∵ exec ! (𝓣 .C) (𝓣 .Λ) En piece.turn-1 (anyQ (afterTurn 𝓤 H (Below 𝓤 H A Less Inv (w, suc k, g, w-is)) Then)) $
         to-local ! 13 (gives ! (of-opd ! (load ! (from ! (fld ! refl (stop !))) (look-in ! 19 (sub ! 0 refl (whole !))))) (ap vbool on)) refl (tt, tt) $ stays ! (local-at ! 13 refl) $
         -- the record is read
-        to-local ! 11 (un ! (load ! (from ! (fld ! refl (stop !))) (look-in ! 19 (sub ! 1 refl (whole !)))) (record { fits = as-usize })) refl (tt, record { fits = as-usize }) $
+        to-local ! 11 (un ! (load ! (from ! (fld ! refl (fld ! refl (stop !)))) (look-in ! 19 (sub ! 0 refl (sub ! 1 refl (whole !))))) (record { fits = as-usize })) refl (tt, record { fits = as-usize }) $
         to-local ! 9 (bin ! (local-at ! 11 refl) (lit ! tt) (record { fits = bytes-fit })) refl (tt, record { fits = bytes-fit }) $
-        to-local ! 7 (gives ! (bin ! (start-of ! 25 refl refl) (local-at ! 9 refl) tt) (ap (vptr b) (sym (place-is 32 o i)))) refl (tt, tt) $ move ! (3 ∷ 2 ∷ []) $
+        to-local ! 7 (gives ! (bin ! (start-of ! 25 refl refl) (local-at ! 9 refl) tt) (ap (vptr b) (sym (place-is 32 o at)))) refl (tt, tt) $ move ! (3 ∷ 2 ∷ []) $
         looks-slice ! tt N.the-row (Is N.the-row) (shows 𝓤 H A N.the-row) (LL.vals N.the-type N′.the-laws) (LL.tells N.the-type N′.the-laws)
         (LL.copy N.the-type N′.the-copy 𝓤 H A W) ns b o (λ t.
-        elem-out ! N.the-row (Is N.the-row) (shows 𝓤 H A N.the-row) (LL.vals N.the-type N′.the-laws) (LL.tells N.the-type N′.the-laws) t ns i noRecord b o within (λ is.
+        elem-out ! N.the-row (Is N.the-row) (shows 𝓤 H A N.the-row) (LL.vals N.the-type N′.the-laws) (LL.tells N.the-type N′.the-laws) t ns at noRecord b o within (λ is.
         -- [nodes[i]; what it owns; the others; what shuts; the fractured borrow; the token; what the properties own; res; _11; …; _0; …]
         to-local ! 8 (of-opd ! (load ! (from ! (hop ! (look ! 10 refl) (stop !))) (look-raw ! 0 refl))) refl (node-typed i is) $
         to-local ! 20 (of-opd ! (local-at ! 8 refl)) refl (node-typed i is) $
-        elem-back ! N.the-row t ns i noRecord (mval (node i) ∷ []) b o within $ shuts-slice ! tt N.the-row t ns b o $
+        elem-back ! N.the-row t ns at noRecord (mval (node i) ∷ []) b o within $ shuts-slice ! tt N.the-row t ns b o $
         -- [the records' token; the fractured borrow; the token; what the properties own; res; _11; …; _0; …]
-        move ! (3 ∷ []) $ use1 W (Own ⊛ Own) twice $ split ! $ move ! (4 ∷ 0 ∷ []) $ use2 W (raw (Step 𝓤 H A mem run .pre (to-step i))) (step-asks i is in-range (here .3)) $
+        move ! (3 ∷ []) $ use1 W (Own ⊛ Own) twice $ split ! $ move ! (4 ∷ 0 ∷ []) $ use2 W (raw (Step 𝓤 H A mem run .pre (to-step i))) (step-asks i is number-is (here .3)) $
         calls-at-last ! (fmOf 𝓤 H (W .laws) 𝓣) (Step 𝓤 H A mem run) steps (to-step i) (and-then ! (local-at ! 17 refl)
         (and-then ! (load ! (from ! (fld ! refl (stop !))) (look-in ! 19 (sub ! 1 refl (whole !)))) (and-then ! (local-at ! 23 refl) (and-then ! (local-at ! 21 refl) (no-more !))))) (λ v.
-        use1 W (Answer v (step-ensures i)) (id⊢ 𝓤 _) $ answered ! tt v (step-ensures i) (stepped (node i) i count (ps .now)) (step-says i) (λ w′ e is′.
+        use1 W (Answer v (step-ensures i)) (id⊢ 𝓤 _) $ answered ! tt v (step-ensures i) (stepped (node i) at count (ps .now)) (step-says i) (λ w′ e is′.
         land-last ! (from ! (stop !)) (store ! 19 refl (typed w′ v is′)) $ rewrite ! 19 (λ (u : Val). ‵ (fat fullShare Y′.mir (block piece.locals bs 4) 0 u)) (told w′ v is′) refl $
         forget ! 5 refl $ forget ! 7 refl $ forget ! 9 refl $ forget ! 11 refl $ forget ! 13 refl $ forget ! 17 refl $
         again ! Less Inv (w, suc k, g, w-is)
         (w′, k, subst (Going ns count (ps .now) k) (sym e) (going-on ns count (ps .now) k w g on), subst (λ (u : Val). Is Y.the-row w′ (u ∷ [])) (told w′ v is′) is′) (lt-suc-self k)))))
       where
-        i : ℕ
+        i : NodeNumber
         i = w .node
 
-        here : (i < count) × (count ≤ length ns) × (count ≤ i + suc k) × (length (ps .now) ≡ propsPerRow)
+        at : ℕ
+        at = i .0
+
+        number-is : Is I.the-row i (ival i ∷ [])
+        number-is = LL.owed Y.the-type Y′.the-laws w _ w-is .1 .0
+
+        here : (at < count) × (count ≤ length ns) × (count ≤ at + suc k) × (length (ps .now) ≡ propsPerRow)
         here = g .inside on
 
-        within : i < length ns
+        within : at < length ns
         within = lt-of-lt-of-le (here .0) (here .1)
 
-        in-range : i < 2 ^ 32
-        in-range = omega (arith, here .0, count-fits)
+        as-usize : at < 2 ^ 64
+        as-usize = omega (arith, here .0, count-fits)
 
-        as-usize : i < 2 ^ 64
-        as-usize = omega (arith, in-range)
-
-        bytes-fit : i * 32 < 2 ^ 64
+        bytes-fit : at * 32 < 2 ^ 64
         bytes-fit = omega (arith, room .1, within)
 
     ends : (u : Turn) → u .0 .on ≡ false → Turns u

@@ -17,19 +17,19 @@ use Rattle.ways.proofs.follow.Statement.{statement}
 use Rattle.ways.proofs.follow.Tie as tie
 
 -- whether the split is in order
-orderly : (c : tie.Else1) → let start = c .before .before .args in inOrder (start .m) (start .node) (start .count) ≡ true
+orderly : (c : tie.Else1) → let start = c .before .before .args in inOrder (start .m) (start .node .0) (start .count) ≡ true
 orderly c = rw (c .before .before .pre .0) (not-false _ (c .if1 .left))
 
-disorderly : (c : tie.Then1) → let start = c .before .before .args in inOrder (start .m) (start .node) (start .count) ≡ false
+disorderly : (c : tie.Then1) → let start = c .before .before .args in inOrder (start .m) (start .node .0) (start .count) ≡ false
 disorderly c = rw (c .before .before .pre .0) (not-true _ (c .if1 .taken))
 
 -- a split in order leads on
 leads : (c : tie.After-struct-told) →
     let start = c .before .before .before .before .before .args in
-    stepped (start .m) (start .node) (start .count) (start .props .now) ≡ goesOn (childOf (start .m) (start .props .now))
+    stepped (start .m) (start .node .0) (start .count) (start .props .now) ≡ goesOn (childOf (start .m) (start .props .now))
 leads c =
     let start = c .before .before .before .before .before in
-    stepped-on (start .args .m) (start .args .node) (start .args .count) (start .args .props .now) (orderly (c .before .before .before)) (start .pre .0)
+    stepped-on (start .args .m) (start .args .node .0) (start .args .count) (start .args .props .now) (orderly (c .before .before .before)) (start .pre .0)
 
 -- the value and the property
 numbers : (c : tie.After-struct-told) →
@@ -50,7 +50,7 @@ refuse-requires : tie.Need-refuse-requires
 refuse-requires c κs = search needs
 
 returns : tie.Need-returns
-returns c = let start = c .before .before .before .args in c .refuse .ensures ∙ sym (stepped-fault (start .m) (start .node) (start .count) (start .props .now) (disorderly (c .before)))
+returns c = let start = c .before .before .before .args in c .refuse .ensures ∙ sym (stepped-fault (start .m) (start .node .0) (start .count) (start .props .now) (disorderly (c .before)))
 
 mul-if2 : tie.Need-mul-if2
 mul-if2 c = search needs
@@ -58,7 +58,7 @@ mul-if2 c = search needs
 shared-slice-copy-out-if2 : tie.Need-shared-slice-copy-out-if2
 shared-slice-copy-out-if2 c =
     let start = c .before .before in
-    let low = split-in-order (start .args .m) (start .args .node) (start .args .count) (start .args .props .now) (orderly c) (start .pre .0) .0 in
+    let low = split-in-order (start .args .m) (start .args .node .0) (start .args .count) (start .args .props .now) (orderly c) (start .pre .0) .0 in
     omega (arith, start .pre .1 .one)
 
 go-on-requires : tie.Need-go-on-requires
