@@ -1,6 +1,6 @@
 -- The contexts of a sound tree number its leaves: each leaf has one of the numbers below the leaf count, and no two the same. Assumes nothing.
 use mathlib.Core.Path.{_≡_, refl, sym, ap, _∙_, subst}
-use mathlib.Core.Logic.{_≢_, inl, inr}
+use mathlib.Core.Logic.{inl, inr}
 use Prim.Native.Nat.{ℕ, zero, suc, _+_, _*_, _≤_, _<_}
 use native.Mathlib.Nat.{lt-irrefl}
 use native.Mathlib.Omega.{arith}
@@ -142,7 +142,7 @@ module _ (nodes : List Node) (t : Rooted nodes) (rooted : 0 < length nodes) wher
   ]
 
   -- ---- the walk: `done` were visited, in this order, and `queue` waits
-  record Walk (done queue : List ℕ) (next : ℕ) (contexts : List ℕ) : Type 0 where
+  pub record Walk (done queue : List ℕ) (next : ℕ) (contexts : List ℕ) : Type 0 where
     listed : done ++ queue ≡ 0 ∷ childrenIn done
     no-repeat : NoRepeat (done ++ queue)
     number : next ≡ length (keep leafAt done)
@@ -151,7 +151,7 @@ module _ (nodes : List Node) (t : Rooted nodes) (rooted : 0 < length nodes) wher
     -- a leaf's context is its place among the leaves visited
     placed : (c : ℕ) → c < length (keep leafAt done) → getD contexts (getD (keep leafAt done) c 0) 0 ≡ c
 
-  module _ (done queue : List ℕ) (next : ℕ) (contexts : List ℕ) (w : Walk done queue next contexts) where
+  module _ {done queue : List ℕ} {next : ℕ} {contexts : List ℕ} (w : Walk done queue next contexts) where
     inside : (x : ℕ) → List·Memᴰ x (done ++ queue) → x < length nodes
     inside x m = elim (List·Memᴰ·cases-cons (subst (λ (l : List ℕ). List·Memᴰ x l) (w .listed) m)) [
       | inl e ↦ rw e rooted
@@ -159,7 +159,7 @@ module _ (nodes : List Node) (t : Rooted nodes) (rooted : 0 < length nodes) wher
     ]
 
   -- nothing waits: each node was visited
-  module _ (done : List ℕ) (next : ℕ) (contexts : List ℕ) (w : Walk done [] next contexts) where
+  module _ {done : List ℕ} {next : ℕ} {contexts : List ℕ} (w : Walk done [] next contexts) where
     whole : done ≡ 0 ∷ childrenIn done
     whole = sym (append-nil done) ∙ w .listed
 
@@ -176,7 +176,7 @@ module _ (nodes : List Node) (t : Rooted nodes) (rooted : 0 < length nodes) wher
 
     leaves-counted : length (keep leafAt done) ≡ leafCount nodes
     leaves-counted =
-        let few = short (length nodes) done (subst NoRepeat (append-nil done) (w .no-repeat)) (λ x m. inside done [] next contexts w x (Memᴰ·append-left [] m)) in
+        let few = short (length nodes) done (subst NoRepeat (append-nil done) (w .no-repeat)) (λ x m. inside w x (Memᴰ·append-left [] m)) in
         let many = covers (length nodes) done visited in
         omega (arith, length-keep leafAt done, ap length whole, length-children done, tree-count nodes t rooted)
 
@@ -195,13 +195,26 @@ module _ (nodes : List Node) (t : Rooted nodes) (rooted : 0 < length nodes) wher
       each = λ c h.
           let in-order : c < length (keep leafAt done) = rw leaves-counted h in
           let m = keep-mem leafAt (getD (keep leafAt done) c 0) done (mem-getD (keep leafAt done) c in-order) in
-          (getD (keep leafAt done) c 0, inside done [] next contexts w (getD (keep leafAt done) c 0) (Memᴰ·append-left [] (m .0)), m .1, w .placed c in-order);
+          (getD (keep leafAt done) c 0, inside w (getD (keep leafAt done) c 0) (Memᴰ·append-left [] (m .0)), m .1, w .placed c in-order);
     }
 
   -- ---- one visit
-  module _ (done : List ℕ) (i : ℕ) (queue : List ℕ) (next : ℕ) (contexts : List ℕ) (w : Walk done (i ∷ queue) next contexts) where
+  module _ {done : List ℕ} {i : ℕ} {queue : List ℕ} {next : ℕ} {contexts : List ℕ} (w : Walk done (i ∷ queue) next contexts) where
     not-yet : List·Memᴰ i done → ⊥
     not-yet = not-before i done queue (w .no-repeat)
+
+    -- a node that waits is one of the list, which is longer than what was visited
+    pub waits : (i < length nodes) × (length done < length nodes)
+    waits =
+        let few = short (length nodes) (done ++ (i ∷ queue)) (w .no-repeat) (inside w) in
+        (inside w i (Memᴰ·append-right done (List·Memᴰ·head refl)), omega (arith, length-append done (i ∷ queue)))
+
+    -- what a leaf is given, and that those before it keep theirs
+    pub given : getD (set contexts i next) i 0 ≡ next
+    given = getD-set-same contexts i next 0 (omega (arith, w .sized, waits .0))
+
+    pub kept : (k : ℕ) → List·Memᴰ k done → getD (set contexts i next) k 0 ≡ getD contexts k 0
+    kept k m = getD-set-other contexts i k next 0 (λ (same : k ≡ i). not-yet (rw same at m))
 
     regrouped : (ch : List ℕ) → (done ++ (i ∷ [])) ++ (queue ++ ch) ≡ (done ++ (i ∷ queue)) ++ ch
     regrouped ch = sym (append-assoc (done ++ (i ∷ [])) queue ch) ∙ ap (λ (l : List ℕ). l ++ ch) (append-snoc done i queue)
@@ -223,8 +236,8 @@ module _ (nodes : List Node) (t : Rooted nodes) (rooted : 0 < length nodes) wher
       no-repeat-on = subst NoRepeat (sym (regrouped (childrenOf m))) (no-repeat-append (done ++ (i ∷ queue)) (childrenOf m) (w .no-repeat) (two-apart m (rw here at (t .family .two-children i))) apart)
 
     -- a split gives its children to the queue
-    visit-split : (p : ℕ) (v : ℤ) (g l : ℕ) → getD nodes i leaf ≡ split p v g l → Walk (done ++ (i ∷ [])) (queue ++ (g ∷ l ∷ [])) next contexts
-    visit-split p v g l here = record {
+    pub visit-split : {p : ℕ} {v : ℤ} {g l : ℕ} → getD nodes i leaf ≡ split p v g l → Walk (done ++ (i ∷ [])) (queue ++ (g ∷ l ∷ [])) next contexts
+    visit-split {p} {v} {g} {l} here = record {
       listed = listed-on (split p v g l) here;
       no-repeat = no-repeat-on (split p v g l) here;
       number = w .number ∙ sym (ap length same);
@@ -237,7 +250,7 @@ module _ (nodes : List Node) (t : Rooted nodes) (rooted : 0 < length nodes) wher
         same = keep-last leafAt done i ∙ rw here (append-nil (keep leafAt done))
 
     -- a leaf takes the next number
-    visit-leaf : getD nodes i leaf ≡ leaf → Walk (done ++ (i ∷ [])) queue (suc next) (set contexts i next)
+    pub visit-leaf : getD nodes i leaf ≡ leaf → Walk (done ++ (i ∷ [])) queue (suc next) (set contexts i next)
     visit-leaf here = record {
       listed = subst (λ (q : List ℕ). (done ++ (i ∷ [])) ++ q ≡ 0 ∷ childrenIn (done ++ (i ∷ []))) (append-nil queue) (listed-on leaf here);
       no-repeat = subst (λ (q : List ℕ). NoRepeat ((done ++ (i ∷ [])) ++ q)) (append-nil queue) (no-repeat-on leaf here);
@@ -252,37 +265,36 @@ module _ (nodes : List Node) (t : Rooted nodes) (rooted : 0 < length nodes) wher
 
         before : (c : ℕ) → c < length (keep leafAt done) → getD (set contexts i next) (getD (keep leafAt done ++ (i ∷ [])) c 0) 0 ≡ c
         before c l =
-            let other : getD (keep leafAt done) c 0 ≢ i = λ e. not-yet (subst (λ (x : ℕ). List·Memᴰ x done) e (keep-mem leafAt (getD (keep leafAt done) c 0) done (mem-getD (keep leafAt done) c l) .0)) in
-            rw (List·getD-append (keep leafAt done) (i ∷ []) 0 c l, getD-set-other contexts i (getD (keep leafAt done) c 0) next 0 other) (w .placed c l)
+            let k = getD (keep leafAt done) c 0 in
+            rw (List·getD-append (keep leafAt done) (i ∷ []) 0 c l, kept k (keep-mem leafAt k done (mem-getD (keep leafAt done) c l) .0)) (w .placed c l)
 
         last : (c : ℕ) → c ≡ length (keep leafAt done) → getD (set contexts i next) (getD (keep leafAt done ++ (i ∷ [])) c 0) 0 ≡ c
-        last c e =
-            let there = inside done (i ∷ queue) next contexts w i (Memᴰ·append-right done (List·Memᴰ·head refl)) in
-            rw (e, getD-append-seam (keep leafAt done) i [] 0, getD-set-same contexts i next 0 (omega (arith, w .sized))) (w .number)
+        last c e = rw (e, getD-append-seam (keep leafAt done) i [] 0, given) (w .number)
 
   -- ---- all visits
   walked : (fuel : ℕ) (done queue : List ℕ) (next : ℕ) (contexts : List ℕ) → Walk done queue next contexts → fuel + length done ≡ length nodes → Numbers nodes (contextsFrom fuel nodes queue next contexts)
   unfolding contextsFrom
-  walked zero done [] next contexts w e = numbers done next contexts w
-  walked zero done (i ∷ queue) next contexts w e =
-      let few = short (length nodes) (done ++ (i ∷ queue)) (w .no-repeat) (inside done (i ∷ queue) next contexts w) in
-      absurd (lt-irrefl (length done) (omega (arith, length-append done (i ∷ queue))))
-  walked (suc fuel) done [] next contexts w e = numbers done next contexts w
+  walked zero done [] next contexts w e = numbers w
+  walked zero done (i ∷ queue) next contexts w e = absurd (lt-irrefl (length done) (omega (arith, waits w .1)))
+  walked (suc fuel) done [] next contexts w e = numbers w
   walked (suc fuel) done (i ∷ queue) next contexts w e = go (getD nodes i leaf) refl (walked fuel (done ++ (i ∷ [])))
     where
       go : (m : Node) → getD nodes i leaf ≡ m
           → ((queue : List ℕ) (next : ℕ) (contexts : List ℕ) → Walk (done ++ (i ∷ [])) queue next contexts → fuel + length (done ++ (i ∷ [])) ≡ length nodes → Numbers nodes (contextsFrom fuel nodes queue next contexts))
           → Numbers nodes (elim m [ split prop val gt le ↦ contextsFrom fuel nodes (queue ++ (gt ∷ le ∷ [])) next contexts | leaf ↦ contextsFrom fuel nodes queue (suc next) (set contexts i next) ])
-      go (split p v g l) here ih = ih (queue ++ (g ∷ l ∷ [])) next contexts (visit-split done i queue next contexts w p v g l here) (omega (arith, length-append done (i ∷ [])))
-      go leaf here ih = ih queue (suc next) (set contexts i next) (visit-leaf done i queue next contexts w here) (omega (arith, length-append done (i ∷ [])))
+      go (split p v g l) here ih = ih (queue ++ (g ∷ l ∷ [])) next contexts (visit-split w here) (omega (arith, length-append done (i ∷ [])))
+      go leaf here ih = ih queue (suc next) (set contexts i next) (visit-leaf w here) (omega (arith, length-append done (i ∷ [])))
 
-  pub contexts-number : Numbers nodes (contextsOf nodes)
-  unfolding contextsOf
-  contexts-number = walked (length nodes) [] (0 ∷ []) 0 (replicate (length nodes) noContext) (record {
+  pub start : Walk [] (0 ∷ []) 0 (replicate (length nodes) noContext)
+  start = record {
     listed = refl;
     no-repeat = ((λ k. List·Memᴰ·not-nil k), tt);
     number = refl;
     sized = length-replicate (length nodes) noContext;
     plain = λ i h s. getD-replicate (length nodes) i noContext 0 h;
     placed = λ c h. absurd (omega arith);
-  }) (omega arith)
+  }
+
+  pub contexts-number : Numbers nodes (contextsOf nodes)
+  unfolding contextsOf
+  contexts-number = walked (length nodes) [] (0 ∷ []) 0 (replicate (length nodes) noContext) start (omega arith)
