@@ -29,7 +29,7 @@ use Rattle.model.proofs.NodeEntries.{length-tree, entry-written, record
 use Rattle.model.proofs.AtExit.{AsLong, Fits, tree-at, as-long}
 use Rattle.model.proofs.Vacated.{EntriesOf, learned-entries, deepened-entries}
 use Rattle.model.proofs.Tally.{tree-count}
-use Rattle.model.proofs.Sound.{same-length, sound, sound-count}
+use Rattle.model.proofs.Sound.{same-length, has-root, sound}
 use Rattle.model.proofs.ContextNumbers.{Numbers, contexts-number}
 use Rattle.model.proofs.Demand3.{learned-fits, deepened-fits}
 
@@ -59,7 +59,7 @@ after-of : (P : Profile) (t : Settings (P .meter)) (logs : List (P .meter .Cost)
 unfolding lentAfter
 after-of P t logs x {r = r} f e =
     let tree = take (r .count) (r .records) in
-    let nodes = tree-count (nodesOf tree) (sound tree (f .kept .sound) .rooted) (rw (same-length tree) (sound-count tree (f .kept .sound) .0)) in
+    let nodes = tree-count (nodesOf tree) (sound tree (f .kept .sound) .rooted) (has-root tree (f .kept .sound)) in
     let entry = entry-written (r .records) (x .nodes) in
     let n = length-map (r .records) stored in
     record {
@@ -106,7 +106,7 @@ contexts-accepted nodes count x y leaves e =
     let c = simp (passed, named, neither, not-below) at (h .0) in
     let faultless = c .1 .0 in
     let room : count ≤ length (x .contexts) = c .1 .1 .0 .0 in
-    let numbers = contexts-number (nodesOf tree) (sound tree faultless .rooted) (rw (same-length tree) (sound-count tree faultless .0)) in
+    let numbers = contexts-number (nodesOf tree) (sound tree faultless .rooted) (has-root tree faultless) in
     let n : length contexts ≡ count = numbers .as-long ∙ same-length tree ∙ length-tree count nodes (c .0) in
     rw (h .2) (record {
       answer = h .1;

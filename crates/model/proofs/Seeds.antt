@@ -27,7 +27,7 @@ use Rattle.model.proofs.Paths.{T→true, meets-leaf, reached-leaf}
 use Rattle.model.proofs.Family.{Child, leaf-no-child}
 use Rattle.model.proofs.Fresh.{fresh-key, fresh-twice, fresh-none, length-fresh}
 use Rattle.model.proofs.Invariant.{Invariant, passes, entryAt, node-at, none-is-no-some}
-use Rattle.model.proofs.Sound.{FieldsFit, Sound, sound, sound-count}
+use Rattle.model.proofs.Sound.{FieldsFit, Sound, sound, sound-count, has-root}
 use Rattle.model.proofs.Health.{EntryFits, Covered, Healthy, leafOver-fits, leafOver-small}
 
 T→not-false : (b : Bool) → T b → not b ≡ false
@@ -53,7 +53,7 @@ module _ {M : Meter} (B : Bounds M) (j : Job M) (seed : List (Record M)) (rows :
   seedSplits k = not (isLeaf (getD nodes k leaf))
 
   is-leaf : (ps : List ℤ) → T (isLeaf (getD nodes (leafReached nodes ps) leaf))
-  is-leaf ps = reached-leaf nodes (good .rooted .family .forward) (rw (length-map seed (λ (r : Record M). r .node)) (sound-count seed faultless .0)) ps .0
+  is-leaf ps = reached-leaf nodes (good .rooted .family .forward) (has-root seed faultless) ps .0
 
   -- ---- the state after the first i nodes of the seed
   record Seeding (i : ℕ) (s : State M) : Type 0 where
@@ -326,7 +326,7 @@ module _ {M : Meter} (B : Bounds M) (j : Job M) (seed : List (Record M)) (rows :
   }
     where
       low : (r : Row) → reached r < length nodes
-      low r = reached-leaf nodes (good .rooted .family .forward) (rw count-seed (sound-count seed faultless .0)) (r .props) .1
+      low r = reached-leaf nodes (good .rooted .family .forward) (has-root seed faultless) (r .props) .1
 
       no-child : (a c : ℕ) → Child (treeNodes (s₀ .tree)) a c → seedSplits a ≡ false → ⊥
       no-child a c h q = leaf-no-child (getD nodes a leaf) c (not-false→T (isLeaf (getD nodes a leaf)) q) (rw seed-nodes at h)

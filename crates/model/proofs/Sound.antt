@@ -149,6 +149,9 @@ module _ {M : Meter} (rs : List (Record M)) where
         go false true q w z = absurd (none-is-no-some 0 (sym z))
         go false false q w z = (let ne = some-node q in omega arith, (let ne = few w in omega arith), z)
 
+    pub has-root : 0 < length nodes
+    has-root = rw same-length (sound-count .0)
+
     fine : (i : ℕ) → i < length nodes → T (isFine nodes i (predAt i) (getD nodes i leaf))
     fine i h = rw (node-at i) (rw zero-add at (fine-from 0 rs (sound-count .2) i (rw same-length at h)))
 
