@@ -6,17 +6,18 @@ use native.Mathlib.Omega.{arith}
 use mathlib.Core.Bool.{Bool, true, false, not, _&&_}
 use mathlib.Core.List.{List, [], _∷_, _++_}
 use mathlib.Core.Option.{Option, none, some}
-use lib.ListN.{length, take, drop, take-append-drop, length-drop}
+use lib.ListN.{length, take, drop, replicate, take-append-drop, length-drop}
 use lib.Dec.{T, ltb, leb→le, lt→ltb, eqb→eq}
 use lib.IntN.{ℤ}
-use Rattle.model.specs.Lists.{all, isEmpty}
+use Rattle.model.specs.Lists.{all, isEmpty, writtenOver}
 use Rattle.model.specs.Meter.{Meter}
 use Rattle.model.specs.Settings.{Settings, propsPerRow, toksPerRow, maxRows, maxLeaves}
 use Rattle.model.specs.Cost.{usable}
 use Rattle.model.specs.Profile.{Profile, jobOf}
-use Rattle.model.specs.Learn.{Result, learned}
+use Rattle.model.specs.Learn.{Result, leafCount, learned}
 use Rattle.model.specs.Deepen.{deepened}
-use Rattle.model.specs.Tree.{faultOf}
+use Rattle.model.specs.Tree.{nodesOf, faultOf}
+use Rattle.model.specs.Contexts.{contextsOf}
 use Rattle.model.specs.Operations.{Outcome, refused, accepted, After, unless, Tree, treeOf, learn, deepen, ContextLists, leafContexts, sample}
 use Rattle.model.specs.Refuse.{Refusal, refuseAt, isOutside, hasNoPredictor, isUneven, badRowFrom, isShortAlphabet, isBadLogs, countsWanted, isShortOfRoom, isShortOfSeedRoom, refusedBefore, learnRefusal, deepenRefusal, contextsRefusal, sampleRefusal}
 use Rattle.model.specs.Lent.{Stored, Lent, rowCount, rowsIn, usesModes, treeIn, lentAfter}
@@ -208,6 +209,17 @@ pub contexts-refused : {M : Meter} (nodes : List (Stored M)) (count : ℕ) (x y 
     → leafContexts nodes count x ≡ record { outcome = refused r; lent = y } → (contextsRefusal nodes count (x .contexts) (x .queue) ≡ some r) × (y ≡ x)
 unfolding leafContexts
 contexts-refused nodes count x y r e = refused-by x _ _ y (contextsRefusal nodes count (x .contexts) (x .queue)) r e
+
+-- the tree is sound, the lists have room, and this is written into them
+pub contexts-passed : {M : Meter} (nodes : List (Stored M)) (count : ℕ) (x y : ContextLists) (leaves : ℕ)
+    → leafContexts nodes count x ≡ record { outcome = accepted leaves; lent = y }
+    → (count ≤ length nodes) × (faultOf (treeIn count nodes) ≡ none) × (count ≤ length (x .contexts)) × (leaves ≡ leafCount (nodesOf (treeIn count nodes)))
+    × (y ≡ record { contexts = writtenOver (contextsOf (nodesOf (treeIn count nodes))) (x .contexts); queue = replicate (length (x .queue)) 0 })
+unfolding leafContexts contextsRefusal
+contexts-passed nodes count x y leaves e =
+    let h = accepted-by x _ _ y (contextsRefusal nodes count (x .contexts) (x .queue)) leaves e in
+    let c = simp (passed, named, neither, not-below) at (h .0) in
+    (c .0, c .1 .0, c .1 .1 .0 .0, h .1, h .2)
 
 pub sample-refused : (rows target : ℕ) (out y : List ℕ) (r : Refusal)
     → sample rows target out ≡ record { outcome = refused r; lent = y } → (sampleRefusal rows target out ≡ some r) × (y ≡ out)

@@ -16,14 +16,14 @@ use Rattle.model.specs.Contexts.{contextsOf}
 use Rattle.model.specs.Sampling.{evenSample}
 use Rattle.model.specs.Profile.{Profile, jobOf}
 use Rattle.model.specs.Lent.{Stored, stored, Lent, noWaiting, rowsIn, usesModes, treeIn, lentAfter}
-use Rattle.model.specs.Refuse.{contextsRefusal, sampleRefusal}
+use Rattle.model.specs.Refuse.{sampleRefusal}
 use Rattle.model.specs.Operations.{accepted, Tree, treeOf, learn, deepen, ContextLists, leafContexts, sample}
 use Rattle.model.specs.Promise.{spanAt, recordAt, Unpruned}
 use Rattle.model.proofs.Lawful.{Lawful}
 use Rattle.model.proofs.Places.{length-each, each-at}
 use Rattle.model.proofs.Results.{ResultLaws}
-use Rattle.model.proofs.Tests.{passed, named, neither, not-below}
-use Rattle.model.proofs.Accepted.{accepted-by, learn-accepted, deepen-accepted}
+use Rattle.model.proofs.Tests.{passed, not-below}
+use Rattle.model.proofs.Accepted.{accepted-by, learn-accepted, deepen-accepted, contexts-passed}
 use Rattle.model.proofs.Written.{length-written, getD-written, getD-unwritten}
 use Rattle.model.proofs.NodeEntries.{length-tree, entry-written, record-written}
 use Rattle.model.proofs.AtExit.{AsLong, Fits, tree-at, as-long}
@@ -98,18 +98,14 @@ pub record ContextsWritten {M : Meter} (nodes : List (Stored M)) (count : ℕ) (
 
 pub contexts-accepted : {M : Meter} (nodes : List (Stored M)) (count : ℕ) (x y : ContextLists) (leaves : ℕ)
     → leafContexts nodes count x ≡ record { outcome = accepted leaves; lent = y } → ContextsWritten nodes count x leaves y
-unfolding leafContexts contextsRefusal
 contexts-accepted nodes count x y leaves e =
     let tree = treeIn count nodes in
     let contexts = contextsOf (nodesOf tree) in
-    let h = accepted-by x (leafCount (nodesOf tree)) (record { contexts = writtenOver contexts (x .contexts); queue = replicate (length (x .queue)) 0 }) y (contextsRefusal nodes count (x .contexts) (x .queue)) leaves e in
-    let c = simp (passed, named, neither, not-below) at (h .0) in
-    let faultless = c .1 .0 in
-    let room : count ≤ length (x .contexts) = c .1 .1 .0 .0 in
+    let (inside, faultless, room, answer, exit) = contexts-passed nodes count x y leaves e in
     let numbers = contexts-number (nodesOf tree) (sound tree faultless .rooted) (has-root tree faultless) in
-    let n : length contexts ≡ count = numbers .as-long ∙ same-length tree ∙ length-tree count nodes (c .0) in
-    rw (h .2) (record {
-      answer = h .1;
+    let n : length contexts ≡ count = numbers .as-long ∙ same-length tree ∙ length-tree count nodes inside in
+    rw exit (record {
+      answer = answer;
       numbers = rw (take-at contexts (drop (length contexts) (x .contexts)) count n) numbers;
       past = λ i l. getD-unwritten contexts (x .contexts) 0 i (omega arith);
       as-long = length-written contexts (x .contexts) (omega arith);
