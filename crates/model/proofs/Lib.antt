@@ -45,6 +45,7 @@ pub mod Listed
 pub mod Written
 pub mod NodeEntries
 pub mod Lookups
+pub mod StandardLookup
 pub mod AtExit
 pub mod OneMoreAtExit
 pub mod SameJob

@@ -26,5 +26,6 @@ pub mod Profile
 pub mod Lent
 pub mod Refuse
 pub mod Operations
+pub mod Decoder
 pub mod Promise
 pub mod Bench
