@@ -53,6 +53,7 @@ pub mod Demand3
 pub mod Vacated
 pub mod ContextNumbers
 pub mod OperationLaws
+pub mod StandardContexts
 pub mod Promises
 pub mod Packing
 pub mod Tokens
