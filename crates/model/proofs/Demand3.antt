@@ -51,7 +51,7 @@ module _ (P : Profile) (law : Lawful P) (laws : ResultLaws (law .bounds)) (t : S
   -- the limit one higher
   learned-next : Unpruned P t → EqualOrOneMore uses (learnedFrom P t logs x) (learnedFrom P (withLimit (suc (t .limit)) t) logs x)
   learned-next un = subst (λ (j : Job (P .meter)). EqualOrOneMore uses (learned job (t .limit) (rowsIn x)) (learned j (suc (t .limit)) (rowsIn x)))
-      (sym (same-job P t logs uses (suc (t .limit)))) (laws .learned-more job (t .limit) (rowsIn x) un (p .settings .limit .0))
+      (sym (same-job P t logs uses (suc (t .limit)) (t .settling))) (laws .learned-more job (t .limit) (rowsIn x) un (p .settings .limit .0))
 
   module _ (count : ℕ) (s : SeedRooms count x) (sound : faultOf (treeIn count (x .nodes)) ≡ none) where
     abbrev seed : List (Record (P .meter))
@@ -71,7 +71,7 @@ module _ (P : Profile) (law : Lawful P) (laws : ResultLaws (law .bounds)) (t : S
 
     deepened-next : Unpruned P t → EqualOrOneMore uses (deepenedFrom P t logs count x) (deepenedFrom P (withLimit (suc (t .limit)) t) logs count x)
     deepened-next un = subst (λ (j : Job (P .meter)). EqualOrOneMore uses (deepened job (t .limit) seed (rowsIn x)) (deepened j (suc (t .limit)) seed (rowsIn x)))
-        (sym (same-job P t logs uses (suc (t .limit)))) (laws .deepened-more job (t .limit) seed (rowsIn x) job-fits un sound)
+        (sym (same-job P t logs uses (suc (t .limit)) (t .settling))) (laws .deepened-more job (t .limit) seed (rowsIn x) job-fits un sound)
 
 -- what is kept, of a result that fits
 kept-of : (P : Profile) (t : Settings (P .meter)) (x : Lent (P .meter)) {most : ℕ} {r : Result (P .meter)} → Fits (usesModes t x) x most r → (T (usesModes t x) → T (t .settling) ⊎ Unpruned P t → ResultFresh r)

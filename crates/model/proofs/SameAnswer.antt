@@ -33,16 +33,16 @@ use Rattle.model.proofs.Keeping.{length-keep-le}
 use Rattle.model.proofs.Growing.{Sized, steps-sized, root-sized, seed-sized, length-sides, length-within}
 
 module _ {M : Meter} where
-  -- the job with other evaluations
-  abbrev revalued : Job M → (ℤ → List Row → Info M) → (ℕ → M .Cost → List Row → Option (Offer M)) → (List Row → M .Total) → Job M
-  revalued j info offered flat = record { uses = j .uses; info = info; offered = offered; ahead = j .ahead; flat = flat; price = j .price; settling = j .settling }
+  -- the job with other evaluations, and settling on or off
+  abbrev revalued : Job M → (ℤ → List Row → Info M) → (ℕ → M .Cost → List Row → Option (Offer M)) → (List Row → M .Total) → Bool → Job M
+  revalued j info offered flat settling = record { uses = j .uses; info = info; offered = offered; ahead = j .ahead; flat = flat; price = j .price; settling = settling }
 
-  module _ (n : ℕ) (j : Job M) (info : ℤ → List Row → Info M) (offered : ℕ → M .Cost → List Row → Option (Offer M)) (flat : List Row → M .Total)
+  -- growth does not look at settling
+  module _ (n : ℕ) (j : Job M) (info : ℤ → List Row → Info M) (offered : ℕ → M .Cost → List Row → Option (Offer M)) (flat : List Row → M .Total) (settling : Bool)
       (same-info : (mode : ℤ) (rows : List Row) → length rows ≤ n → j .info mode rows ≡ info mode rows)
-      (same-offer : (depth : ℕ) (cost : M .Cost) (rows : List Row) → length rows ≤ n → j .offered depth cost rows ≡ offered depth cost rows)
-      (same-flat : (rows : List Row) → length rows ≤ n → j .flat rows ≡ flat rows) where
+      (same-offer : (depth : ℕ) (cost : M .Cost) (rows : List Row) → length rows ≤ n → j .offered depth cost rows ≡ offered depth cost rows) where
     abbrev other : Job M
-    other = revalued j info offered flat
+    other = revalued j info offered flat settling
 
     leaf-same : (rows : List Row) (mode : ℤ) (s : Span) (depth : ℕ) → length rows ≤ n → leafOver j rows mode s depth ≡ leafOver other rows mode s depth
     unfolding leafOver
@@ -95,10 +95,6 @@ module _ {M : Meter} where
     steps-same zero s z = refl
     steps-same (suc k) s z = ap (step j) (steps-same k s z) ∙ step-same (steps other k s) (steps-sized anyCost n other tt (λ mode rows h. tt) k s z .rows)
 
-    finished-same : (s : State M) (total : M .Total) → finished j s total ≡ finished other s total
-    unfolding finished settledState pruned
-    finished-same s total = refl
-
     root-same : (rows : List Row) → length rows ≤ n → rootState j rows ≡ rootState other rows
     unfolding rootState
     root-same rows h =
@@ -107,11 +103,8 @@ module _ {M : Meter} where
         let root = leaf-same fr (spanMode (j .uses) rows) (record { first = 0; end = length rows }) 0 (omega arith) in
         λ k. record { rows = fr; tree = root k ∷ []; bits = M .total (root k .info .cost) }
 
-    learned-same : (limit : ℕ) (rows : List Row) → length rows ≤ n → learned j limit rows ≡ learned other limit rows
-    unfolding learned
-    learned-same limit rows h =
-        let grown = ap (steps j (limit - 1)) (root-same rows h) ∙ steps-same (limit - 1) (rootState other rows) (root-sized anyCost n other tt (λ mode rs k. tt) rows h) in
-        (λ k. finished j (grown k) (same-flat rows h k)) ∙ finished-same (steps other (limit - 1) (rootState other rows)) (flat rows)
+    pub grown-same : (k : ℕ) (rows : List Row) → length rows ≤ n → steps j k (rootState j rows) ≡ steps other k (rootState other rows)
+    grown-same k rows h = ap (steps j k) (root-same rows h) ∙ steps-same k (rootState other rows) (root-sized anyCost n other tt (λ mode rs k. tt) rows h)
 
     seed-leaf-same : (i : Info M) (depth first : ℕ) (mine : List Row) → length mine ≤ n → seedLeaf j i depth first mine ≡ seedLeaf other i depth first mine
     seed-leaf-same i depth first [] h = refl
@@ -134,28 +127,34 @@ module _ {M : Meter} where
         let few : length mine ≤ n = le-trans (length-keep-le (λ (r : Row). eqb (leafReached nodes (r .props)) i) rows) h in
         ap (seedFrom j nodes depths rows (suc i) rs) (node-same (r .node) (r .info) d mine s few) ∙ seed-from-same nodes depths rows h (suc i) rs (withSeedNode other (r .node) (r .info) d mine s)
 
-    deepened-same : (limit : ℕ) (seed : List (Record M)) (rows : List Row) → length rows ≤ n → deepened j limit seed rows ≡ deepened other limit seed rows
-    unfolding deepened seedState
-    deepened-same limit seed rows h =
-        let nodes = nodesOf seed in
-        let m = limit - leafCount nodes in
+    pub deeper-same : (k : ℕ) (seed : List (Record M)) (rows : List Row) → length rows ≤ n → steps j k (seedState j seed rows) ≡ steps other k (seedState other seed rows)
+    unfolding seedState
+    deeper-same k seed rows h =
         let start : State M = record { rows = []; tree = []; bits = M .noTotal } in
-        let grown = ap (steps j m) (seed-from-same nodes (depthsOf nodes) rows h 0 seed start) ∙ steps-same m (seedState other seed rows) (seed-sized anyCost n other tt (λ mode rs k. tt) tt seed rows h) in
-        (λ k. finished j (grown k) (same-flat rows h k)) ∙ finished-same (steps other m (seedState other seed rows)) (flat rows)
+        ap (steps j k) (seed-from-same (nodesOf seed) (depthsOf (nodesOf seed)) rows h 0 seed start)
+        ∙ steps-same k (seedState other seed rows) (seed-sized anyCost n other tt (λ mode rs k. tt) tt seed rows h)
 
 -- ---- the operations
 module _ (P : Profile) (t : Settings (P .meter)) (logs logs' : List (P .meter .Cost)) (uses : Bool) where
   pub learned-alike : (limit : ℕ) (rows : List Row) → Alike (P .meter) (length rows) logs logs' → learned (jobOf P t logs uses) limit rows ≡ learned (jobOf P t logs' uses) limit rows
+  unfolding learned finished settledState pruned
   learned-alike limit rows a =
       let n = length rows in
-      learned-same n (jobOf P t logs uses) (infoOf t logs') (offered t logs') (flatBits t logs')
-      (info-alike (P .meter) n logs logs' a t) (offered-alike (P .meter) n logs logs' a t) (flat-alike (P .meter) n logs logs' a t) limit rows (le-refl n)
+      let j = jobOf P t logs uses in
+      let info = info-alike (P .meter) n logs logs' a t in
+      let offer = offered-alike (P .meter) n logs logs' a t in
+      let grown = grown-same n j (infoOf t logs') (offered t logs') (flatBits t logs') (t .settling) info offer (limit - 1) rows (le-refl n) in
+      λ i. finished j (grown i) (flat-alike (P .meter) n logs logs' a t rows (le-refl n) i)
 
   pub deepened-alike : (limit : ℕ) (seed : List (Record (P .meter))) (rows : List Row) → Alike (P .meter) (length rows) logs logs' → deepened (jobOf P t logs uses) limit seed rows ≡ deepened (jobOf P t logs' uses) limit seed rows
+  unfolding deepened finished settledState pruned
   deepened-alike limit seed rows a =
       let n = length rows in
-      deepened-same n (jobOf P t logs uses) (infoOf t logs') (offered t logs') (flatBits t logs')
-      (info-alike (P .meter) n logs logs' a t) (offered-alike (P .meter) n logs logs' a t) (flat-alike (P .meter) n logs logs' a t) limit seed rows (le-refl n)
+      let j = jobOf P t logs uses in
+      let info = info-alike (P .meter) n logs logs' a t in
+      let offer = offered-alike (P .meter) n logs logs' a t in
+      let grown = deeper-same n j (infoOf t logs') (offered t logs') (flatBits t logs') (t .settling) info offer (limit - leafCount (nodesOf seed)) seed rows (le-refl n) in
+      λ i. finished j (grown i) (flat-alike (P .meter) n logs logs' a t rows (le-refl n) i)
 
 module _ (P : Profile) (t : Settings (P .meter)) (logs logs' : List (P .meter .Cost)) (x : Lent (P .meter))
     (reach : rowCount x < length logs) (reach' : rowCount x < length logs') (same : take (rowCount x) (drop 1 logs) ≡ take (rowCount x) (drop 1 logs')) where

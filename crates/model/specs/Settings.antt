@@ -34,6 +34,23 @@ withLimit k t =
       settling = t .settling;
     }
 
+-- the same settings with settling on or off
+abbrev pub withSettling : {M : Meter} → Bool → Settings M → Settings M
+withSettling b t =
+    record {
+      alphabet = t .alphabet;
+      limit = t .limit;
+      splitCost = t .splitCost;
+      price = t .price;
+      smallest = t .smallest;
+      sides = t .sides;
+      candidates = t .candidates;
+      weighted = t .weighted;
+      allowed = t .allowed;
+      modal = t .modal;
+      settling = b;
+    }
+
 -- properties and tokens of a row
 abbrev pub propsPerRow : ℕ
 propsPerRow = 24
