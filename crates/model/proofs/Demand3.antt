@@ -34,7 +34,7 @@ module _ (P : Profile) (law : Lawful P) (laws : ResultLaws (law .bounds)) (t : S
   abbrev job : Job (P .meter)
   job = jobOf P t logs uses
 
-  job-fits : JobFits (law .bounds) job (length (rowsIn x))
+  pub job-fits : JobFits (law .bounds) job (length (rowsIn x))
   job-fits = rw (length-rowsIn x) (law .fits t logs uses (rowCount x) (p .settings .price) (p .settings .alphabet .1) (p .lists .rows) (p .logs-enough) (p .logs-fit))
 
   pub learned-fits : Fits uses x (2 * t .limit - 1) (learnedFrom P t logs x)

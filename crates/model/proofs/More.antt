@@ -51,10 +51,11 @@ module _ {M : Meter} where
 
   -- ---- what is not pruned shows the grown tree as it is
   -- a state with no entry vacated
-  plain : State M → M .Total → Result M
+  pub plain : State M → M .Total → Result M
   plain s flat = resultOf s (length (s .tree)) flat
 
-  finished-plain : (j : Job M) → prunes j ≡ false → (seeds : ℕ → Bool) (given : List Row) (s : State M) (flat : M .Total) → Invariant (j .uses) seeds given s → finished j s flat ≡ plain s flat
+  pub finished-plain : (j : Job M) → prunes j ≡ false → (seeds : ℕ → Bool) (given : List Row) (s : State M) (flat : M .Total) → Invariant (j .uses) seeds given s
+      → finished j s flat ≡ plain s flat
   unfolding finished settledState pruned plain
   finished-plain j unpruned seeds given s flat inv =
       ap (λ (b : Bool). resultOf (cond (j .settling) (after (cond b cut s)) (cond b cut s)) (length (s .tree)) flat) unpruned

@@ -28,4 +28,5 @@ pub mod Refuse
 pub mod Operations
 pub mod Decoder
 pub mod Promise
+pub mod SettledPlain
 pub mod Bench

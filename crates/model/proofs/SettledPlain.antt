@@ -1,0 +1,112 @@
+-- Settling an unpruned tree changes nothing, in learning and in deepening: refusals and growth do not look at it, and a grown tree's tokens are fresh.
+-- Assumes nothing.
+use mathlib.Core.Path.{_≡_, refl, sym, ap, _∙_}
+use Prim.Native.Nat.{ℕ, _-_}
+use native.Mathlib.Nat.{le-refl}
+use mathlib.Core.Bool.{Bool, false}
+use mathlib.Core.List.{List}
+use mathlib.Core.Option.{Option, none, some}
+use lib.ListN.{length}
+use Rattle.model.specs.Meter.{Meter}
+use Rattle.model.specs.Settings.{Settings, withSettling}
+use Rattle.model.specs.Rows.{Row}
+use Rattle.model.specs.Cost.{usable}
+use Rattle.model.specs.Tree.{Record, nodesOf, faultOf}
+use Rattle.model.specs.Job.{Job, prunes}
+use Rattle.model.specs.Grow.{State, steps}
+use Rattle.model.specs.Learn.{Result, leafCount, finished, rootState, learned}
+use Rattle.model.specs.Deepen.{seedState, deepened}
+use Rattle.model.specs.Profile.{Profile, jobOf}
+use Rattle.model.specs.Lent.{Lent, rowsIn, usesModes, treeIn, lentAfter}
+use Rattle.model.specs.Refuse.{Refusal, refuseAt, isOutside, hasNoPredictor, isShortAlphabet, isShortOfRoom, isShortOfSeedRoom, refusedBefore, learnRefusal, deepenRefusal}
+use Rattle.model.specs.Operations.{unless, treeOf, learn, deepen}
+use Rattle.model.specs.Promise.{Unpruned}
+use Rattle.model.specs.SettledPlain.{SettledPlain}
+use Rattle.model.proofs.Lawful.{Bounds, JobFits, Lawful}
+use Rattle.model.proofs.Invariant.{Invariant}
+use Rattle.model.proofs.Steps.{steps-keep}
+use Rattle.model.proofs.Root.{noSeeds, root-keeps}
+use Rattle.model.proofs.Seeds.{seedSplits, seed-keeps}
+use Rattle.model.proofs.More.{finished-plain}
+use Rattle.model.proofs.Learned.{result-laws}
+use Rattle.model.proofs.SameJob.{settlingAs, same-job}
+use Rattle.model.proofs.SameAnswer.{grown-same, deeper-same}
+use Rattle.model.proofs.Accepted.{deepen-accepted}
+use Rattle.model.proofs.Demand3.{job-fits}
+
+-- ---- results
+module _ {M : Meter} (j : Job M) (unpruned : prunes j ≡ false) (b : Bool) where
+  abbrev other : Job M
+  other = settlingAs b j
+
+  finished-settling : (seeds : ℕ → Bool) (given : List Row) (s : State M) (flat : M .Total) → Invariant (j .uses) seeds given s
+      → finished other s flat ≡ finished j s flat
+  finished-settling seeds given s flat inv = finished-plain other unpruned seeds given s flat inv ∙ sym (finished-plain j unpruned seeds given s flat inv)
+
+  learned-settling : (limit : ℕ) (rows : List Row) → learned other limit rows ≡ learned j limit rows
+  unfolding learned
+  learned-settling limit rows =
+      let s = rootState j rows in
+      let grown = grown-same (length rows) j (j .info) (j .offered) (j .flat) b (λ mode rs h. refl) (λ depth cost rs h. refl) (limit - 1) rows (le-refl (length rows)) in
+      ap (λ (s : State M). finished other s (j .flat rows)) (sym grown)
+      ∙ finished-settling noSeeds rows (steps j (limit - 1) s) (j .flat rows) (steps-keep j noSeeds rows (limit - 1) s (root-keeps j rows))
+
+  deepened-settling : (B : Bounds M) (limit : ℕ) (seed : List (Record M)) (rows : List Row) → JobFits B j (length rows) → faultOf seed ≡ none
+      → deepened other limit seed rows ≡ deepened j limit seed rows
+  unfolding deepened
+  deepened-settling B limit seed rows fit faultless =
+      let n = limit - leafCount (nodesOf seed) in
+      let s = seedState j seed rows in
+      let seeds = seedSplits B j seed rows fit faultless in
+      let grown = deeper-same (length rows) j (j .info) (j .offered) (j .flat) b (λ mode rs h. refl) (λ depth cost rs h. refl) n seed rows (le-refl (length rows)) in
+      ap (λ (s : State M). finished other s (j .flat rows)) (sym grown)
+      ∙ finished-settling seeds rows (steps j n s) (j .flat rows) (steps-keep j seeds rows n s (seed-keeps B j seed rows fit faultless))
+
+-- ---- the operations
+-- results need be the same only where nothing is refused
+unless-same : {M : Meter} (o : Option Refusal) (x : Lent M) (r q : Result M) → (o ≡ none → r ≡ q)
+    → unless o x (treeOf r) (lentAfter r x) ≡ unless o x (treeOf q) (lentAfter q x)
+unless-same (some z) x r q h = refl
+unless-same none x r q h = rw (h refl)
+
+module _ (P : Profile) (t : Settings (P .meter)) (logs : List (P .meter .Cost)) (x : Lent (P .meter)) (b : Bool) (unpruned : Unpruned P t) where
+  abbrev job : Job (P .meter)
+  job = jobOf P t logs (usesModes t x)
+
+  job-settling : jobOf P (withSettling b t) logs (usesModes t x) ≡ settlingAs b job
+  job-settling = same-job P t logs (usesModes t x) (t .limit) b
+
+  refusal-settling : (short : Bool) (last : Option Refusal) → refusedBefore P (withSettling b t) logs x short last ≡ refusedBefore P t logs x short last
+  unfolding refusedBefore isOutside hasNoPredictor usable isShortAlphabet isShortOfRoom
+  refusal-settling short last = refl
+
+  learn-settling : learn P (withSettling b t) logs x ≡ learn P t logs x
+  unfolding learn learnRefusal
+  learn-settling =
+      let r = ap (λ (j : Job (P .meter)). learned j (t .limit) (rowsIn x)) job-settling ∙ learned-settling job unpruned b (t .limit) (rowsIn x) in
+      λ i. unless (refusal-settling false none i) x (treeOf (r i)) (lentAfter (r i) x)
+
+  -- the seed is sound, or refused
+  deepen-settling : Lawful P → (count : ℕ) → deepen P (withSettling b t) logs count x ≡ deepen P t logs count x
+  unfolding deepen deepenRefusal
+  deepen-settling law count =
+      (λ i. unless (refusal-settling (isShortOfSeedRoom count x) (refuseAt (faultOf seed) 8 none) i) x (treeOf (of (job-settling i))) (lentAfter (of (job-settling i)) x))
+      ∙ unless-same (deepenRefusal P t logs count x) x (of (settlingAs b job)) (of job) same
+    where
+      seed : List (Record (P .meter))
+      seed = treeIn count (x .nodes)
+
+      of : Job (P .meter) → Result (P .meter)
+      of j = deepened j (t .limit) seed (rowsIn x)
+
+      same : deepenRefusal P t logs count x ≡ none → of (settlingAs b job) ≡ of job
+      same e =
+          let accepted = ap (λ (o : Option Refusal). unless o x (treeOf (of job)) (lentAfter (of job) x)) e in
+          let (p, _, faultless, _, _) = deepen-accepted P t logs x (lentAfter (of job) x) count (treeOf (of job)) accepted in
+          deepened-settling job unpruned b (law .bounds) (t .limit) seed (rowsIn x) (job-fits P law (result-laws (law .bounds)) t logs x p) faultless
+
+pub settled-plain-of : (P : Profile) → Lawful P → SettledPlain P
+settled-plain-of P law = record {
+  learn-plain = λ t logs x b unpruned. learn-settling P t logs x b unpruned;
+  deepen-plain = λ t logs count x b unpruned. deepen-settling P t logs x b unpruned law count;
+}
