@@ -20,7 +20,7 @@ use Rattle.model.proofs.Counting.{length-keep, count-at-most}
 use Rattle.model.proofs.Paths.{T→true, eqb-same, eqb-other}
 use Rattle.model.proofs.Family.{ChildOf, Child, Twins, child-forward}
 use Rattle.model.proofs.Preorder.{NoRepeat, no-repeat-append, mem-getD, place-at}
-use Rattle.model.proofs.Sound.{Rooted}
+use Rattle.model.proofs.Sound.{Rooted, from-root}
 use Rattle.model.proofs.Tally.{short, tree-count}
 
 -- ---- lists of numbers
@@ -163,16 +163,8 @@ module _ (nodes : List Node) (t : Rooted nodes) (rooted : 0 < length nodes) wher
     whole : done ≡ 0 ∷ childrenIn done
     whole = sym (append-nil done) ∙ w .listed
 
-    visited-to : (n k : ℕ) → k < n → k < length nodes → List·Memᴰ k done
-    visited-to zero k h l = absurd (lt-irrefl k (omega arith))
-    visited-to (suc n) zero h l = subst (λ (l : List ℕ). List·Memᴰ 0 l) (sym whole) (List·Memᴰ·head refl)
-    visited-to (suc n) (suc k) h l =
-        let (a, child) = t .parents (suc k) (omega arith) l in
-        let f = child-forward nodes (t .family .forward) a (suc k) child in
-        subst (λ (l : List ℕ). List·Memᴰ (suc k) l) (sym whole) (List·Memᴰ·tail (child-in done a (suc k) (visited-to n a (omega arith) (omega arith)) child))
-
     visited : (k : ℕ) → k < length nodes → List·Memᴰ k done
-    visited k h = visited-to (suc k) k (omega arith) h
+    visited = from-root nodes t (λ (k : ℕ). List·Memᴰ k done) (rw whole (List·Memᴰ·head refl)) (λ a c child m. rw whole (List·Memᴰ·tail (child-in done a c m child)))
 
     leaves-counted : length (keep leafAt done) ≡ leafCount nodes
     leaves-counted =

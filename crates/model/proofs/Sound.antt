@@ -106,6 +106,18 @@ once nodes t k pos h =
     let high = one-at-most (hasChild k) leaf nodes (λ a b ha hb ta tb. t .family .one-parent a b k (has-child (getD nodes a leaf) k ta) (has-child (getD nodes b leaf) k tb)) in
     omega arith
 
+-- what holds of the root, and with a node of its children, holds of every node
+pub from-root : (nodes : List Node) → Rooted nodes → (Q : ℕ → Type 0) → Q 0 → ((a c : ℕ) → Child nodes a c → Q a → Q c) → (k : ℕ) → k < length nodes → Q k
+from-root nodes tree Q first next k h = go (suc k) k (omega arith) h
+  where
+    go : (bound k : ℕ) → k < bound → k < length nodes → Q k
+    go zero k b h = absurd (omega arith)
+    go (suc bound) zero b h = first
+    go (suc bound) (suc k) b h =
+        let (a, c) = tree .parents (suc k) (omega arith) h in
+        let w = child-forward nodes (tree .family .forward) a (suc k) c in
+        next a (suc k) c (go bound a (omega arith) (omega arith))
+
 module _ {M : Meter} (rs : List (Record M)) where
   abbrev nodes : List Node
   nodes = nodesOf rs
