@@ -70,16 +70,16 @@ module _ {M : Meter} (B : Bounds M) where
     abbrev more : ℕ
     more = limit - leafCount (nodesOf seed)
 
-    abbrev deeper : State M
+    abbrev pub deeper : State M
     deeper = steps j more (seedState j seed rows)
 
     seeded : Invariant (j .uses) seeds rows (seedState j seed rows)
     seeded = seed-keeps B j seed rows fit faultless
 
-    deeper-keeps : Invariant (j .uses) seeds rows deeper
+    pub deeper-keeps : Invariant (j .uses) seeds rows deeper
     deeper-keeps = steps-keep j seeds rows more (seedState j seed rows) seeded
 
-    deeper-healthy : Healthy B seeds rows deeper × (length (deeper .tree) ≤ length (seedState j seed rows .tree) + 2 * more)
+    pub deeper-healthy : Healthy B seeds rows deeper × (length (deeper .tree) ≤ length (seedState j seed rows .tree) + 2 * more)
     deeper-healthy = steps-healthy B j rows fit seeds more (seedState j seed rows) seeded (seed-healthy B j seed rows fit faultless)
 
     -- nodes + 1 = 2 × leaves
@@ -93,7 +93,7 @@ module _ {M : Meter} (B : Bounds M) where
     deeper-few = omega (arith, deeper-healthy .1, seed-length B j seed rows fit faultless, seed-count)
 
     module _ (high : limit ≤ maxLeaves) where
-      in-range : length (deeper .tree) ≤ maxNodes
+      pub in-range : length (deeper .tree) ≤ maxNodes
       in-range = omega (arith, deeper-few, sound-count seed faultless .1)
 
       deepened-kept : ResultKept (j .uses) rows (max (2 * limit - 1) (length seed)) (deepened j limit seed rows)

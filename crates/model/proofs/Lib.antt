@@ -54,6 +54,7 @@ pub mod Vacated
 pub mod ContextNumbers
 pub mod OperationLaws
 pub mod StandardContexts
+pub mod SeedSplits
 pub mod SettledPlain
 pub mod Promises
 pub mod Packing

@@ -4,7 +4,7 @@ use Prim.Native.Nat.{ℕ, zero, suc, _≤_, _<_}
 use native.Mathlib.Omega.{arith}
 use mathlib.Core.List.{List, [], _∷_, map}
 use lib.ListN.{length, getD, take, length-map, List·getD-map}
-use lib.Seq.{length-take-le}
+use lib.Seq.{length-take-le, getD-take}
 use Rattle.model.specs.Lists.{writtenOver}
 use Rattle.model.specs.Meter.{Meter}
 use Rattle.model.specs.Tree.{Node, split, leaf, Record, blankRecord}
@@ -31,6 +31,9 @@ module _ {M : Meter} where
   -- ---- the tree at the front of a node list
   pub length-tree : (count : ℕ) (nodes : List (Stored M)) → count ≤ length nodes → length (treeIn count nodes) ≡ count
   length-tree count nodes h = length-map (take count nodes) recordIn ∙ length-take-le count nodes h
+
+  pub read-tree : (count : ℕ) (nodes : List (Stored M)) (k : ℕ) → k < count → getD (treeIn count nodes) k blankRecord ≡ recordIn (getD nodes k (stored blankRecord))
+  read-tree count nodes k h = List·getD-map recordIn (take count nodes) k (stored blankRecord) ∙ ap recordIn (getD-take count nodes k (stored blankRecord) h)
 
   -- ---- records that were written over the front of the list
   module _ (rs : List (Record M)) (nodes : List (Stored M)) where

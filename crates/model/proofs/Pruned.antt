@@ -229,7 +229,7 @@ module _ {M : Meter} where
         go leaf z = tt
         go (split p v g l) z = let a = child g (rw z (inl refl)) in let b = child l (rw z (inr refl)) in (a .0, b .0, a .1, b .1)
 
-    root-first : placeOf 0 order ≡ 0
+    pub root-first : placeOf 0 order ≡ 0
     root-first = ap (λ (x : ℕ). placeOf x order) (sym (head-is pn n 0 in-n)) ∙ place-of order no-repeat 0 (omega (arith, place-at 0 order root-there .0))
 
     reached-new : (ps : List ℤ) → leafReached new ps ≡ placeOf (reach n pn ps 0) order
@@ -318,7 +318,7 @@ module _ {M : Meter} where
         go i (split p v g l) z (inl e) = let w = subst (λ (m : Node). ChildOf m g) (sym z) (inl refl) in (g, w, closed (getD order q 0) g (mem-getD order q i) w, e)
         go i (split p v g l) z (inr e) = let w = subst (λ (m : Node). ChildOf m l) (sym z) (inr refl) in (l, w, closed (getD order q 0) l (mem-getD order q i) w, e)
 
-    same-place : (c d : ℕ) → List·Memᴰ c order → List·Memᴰ d order → placeOf c order ≡ placeOf d order → c ≡ d
+    pub same-place : (c d : ℕ) → List·Memᴰ c order → List·Memᴰ d order → placeOf c order ≡ placeOf d order → c ≡ d
     same-place c d mc md e = sym (place-at c order mc .1) ∙ ap (λ (k : ℕ). getD order k 0) e ∙ place-at d order md .1
 
     new-one-parent : (a b d : ℕ) → Child new a d → Child new b d → a ≡ b

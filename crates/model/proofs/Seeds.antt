@@ -10,7 +10,7 @@ use mathlib.Core.List.{List, [], _∷_, _++_, map, append-nil}
 use mathlib.Core.Option.{none, some}
 use lib.ListN.{length, getD, drop, length-append, length-map, List·getD-append, List·getD-eq-default, List·getD-map}
 use lib.Seq.{take-append-le, take-all, drop-at, getD-append-seam, ext-getD}
-use lib.IntN.{ℤ}
+use lib.IntN.{ℤ, pos}
 use lib.Dec.{T, eqb, eqb→eq, ltb, ltb→lt, lt→ltb}
 use Rattle.model.specs.Lists.{countIf, keep}
 use Rattle.model.specs.Meter.{Meter}
@@ -38,6 +38,13 @@ not-false→T : (b : Bool) → not b ≡ false → T b
 not-false→T true e = tt
 not-false→T false e = absurd (true≢false e)
 
+-- what stands beside a seed's split
+abbrev pub splitInfo : {M : Meter} → Info M
+splitInfo {M} = record { cost = M .endless; pred = 0; offset = pos 0 }
+
+abbrev pub BesideSplit : {M : Meter} → Entry M → Type 0
+BesideSplit e = (e .info ≡ splitInfo) × (e .span ≡ noSpan)
+
 module _ {M : Meter} (B : Bounds M) (j : Job M) (seed : List (Record M)) (rows : List Row) (fit : JobFits B j (length rows)) (faultless : faultOf seed ≡ none) where
   abbrev nodes : List Node
   nodes = nodesOf seed
@@ -62,7 +69,7 @@ module _ {M : Meter} (B : Bounds M) (j : Job M) (seed : List (Record M)) (rows :
     bounds : (k : ℕ) → k < i → (entryAt (s .tree) k .span .first ≤ entryAt (s .tree) k .span .end) × (entryAt (s .tree) k .span .end ≤ length (s .rows))
     leaf-rows : (k : ℕ) → k < i → T (isLeaf (getD nodes k leaf)) → within (entryAt (s .tree) k .span) (s .rows) ≡ fresh (j .uses) (rowsAt nodes k rows)
     apart : (x k : ℕ) → x < i → k < i → x ≢ k → (entryAt (s .tree) x .span .end ≤ entryAt (s .tree) k .span .first) ⊎ (entryAt (s .tree) k .span .end ≤ entryAt (s .tree) x .span .first)
-    endless : (k : ℕ) → k < i → seedSplits k ≡ true → entryAt (s .tree) k .info .cost ≡ M .endless
+    beside : (k : ℕ) → k < i → seedSplits k ≡ true → BesideSplit (entryAt (s .tree) k)
     offers : (k : ℕ) → k < i → (o : Offer M) → entryAt (s .tree) k .offer ≡ some o → T (isLeaf (entryAt (s .tree) k .node))
     fits : (k : ℕ) → k < i → EntryFits (entryAt (s .tree) k)
     small : (k : ℕ) → k < i → seedSplits k ≡ false → B .Small 1 (M .total (entryAt (s .tree) k .info .cost))
@@ -74,7 +81,7 @@ module _ {M : Meter} (B : Bounds M) (j : Job M) (seed : List (Record M)) (rows :
     same : x .node ≡ getD nodes i leaf
     span : ((x .span ≡ noSpan) × (length more ≡ 0)) ⊎ (T (isLeaf (x .node)) × (x .span .first ≡ length (s .rows)) × (x .span .end ≡ length (s .rows) + length more))
     mine : T (isLeaf (getD nodes i leaf)) → within (x .span) (s .rows ++ more) ≡ fresh (j .uses) (rowsAt nodes i rows)
-    endless : seedSplits i ≡ true → x .info .cost ≡ M .endless
+    beside : seedSplits i ≡ true → BesideSplit x
     offer : (o : Offer M) → x .offer ≡ some o → T (isLeaf (x .node))
     fits : EntryFits x
     small : seedSplits i ≡ false → B .Small 1 (M .total (x .info .cost))
@@ -137,7 +144,7 @@ module _ {M : Meter} (B : Bounds M) (j : Job M) (seed : List (Record M)) (rows :
       apart = λ y k hy hk. all {P = λ (y : ℕ). Apart y k}
           (λ y hy. all {P = λ (k : ℕ). Apart y k} (λ k hk ne. rw (at-old y hy, at-old k hk) (sg .apart y k hy hk ne)) (λ ne. rw (at-old y hy, at-new) (new-apart y hy)) k hk)
           (all {P = λ (k : ℕ). Apart i k} (λ k hk ne. rw (at-new, at-old k hk) (flip (new-apart k hk))) (λ ne. absurd (ne refl)) k hk) y hy;
-      endless = all {P = λ (k : ℕ). seedSplits k ≡ true → entryAt tree' k .info .cost ≡ M .endless} (λ k h. rw (at-old k h) (sg .endless k h)) (rw at-new (add .endless));
+      beside = all {P = λ (k : ℕ). seedSplits k ≡ true → BesideSplit (entryAt tree' k)} (λ k h. rw (at-old k h) (sg .beside k h)) (rw at-new (add .beside));
       offers = all {P = λ (k : ℕ). (o : Offer M) → entryAt tree' k .offer ≡ some o → T (isLeaf (entryAt tree' k .node))} (λ k h. rw (at-old k h) (sg .offers k h)) (rw at-new (add .offer));
       fits = all {P = λ (k : ℕ). EntryFits (entryAt tree' k)} (λ k h. rw (at-old k h) (sg .fits k h)) (rw at-new (add .fits));
       small = all {P = λ (k : ℕ). seedSplits k ≡ false → B .Small 1 (M .total (entryAt tree' k .info .cost))} (λ k h. rw (at-old k h) (sg .small k h)) (rw at-new (add .small));
@@ -170,7 +177,7 @@ module _ {M : Meter} (B : Bounds M) (j : Job M) (seed : List (Record M)) (rows :
         same = sym e;
         span = inl (refl, refl);
         mine = rw e (λ t. absurd t);
-        endless = λ q. refl;
+        beside = λ q. (refl, refl);
         offer = λ o q. absurd (none-is-no-some o q);
         fits = record { node-fits = f; pred-fits = tt; offer-fits = tt };
         small = λ q. absurd (true≢false (sym is-split ∙ q));
@@ -192,7 +199,7 @@ module _ {M : Meter} (B : Bounds M) (j : Job M) (seed : List (Record M)) (rows :
         same = sym e;
         span = inl (refl, ap length (fresh-none (j .uses)));
         mine = λ t. sym (ap (fresh (j .uses)) q ∙ fresh-none (j .uses));
-        endless = λ z. absurd (true≢false (sym z ∙ is-no-split));
+        beside = λ z. absurd (true≢false (sym z ∙ is-no-split));
         offer = λ o z. absurd (none-is-no-some o z);
         fits = record { node-fits = f; pred-fits = f; offer-fits = tt };
         small = λ z. B .small-nought;
@@ -203,7 +210,7 @@ module _ {M : Meter} (B : Bounds M) (j : Job M) (seed : List (Record M)) (rows :
         span = inr (tt, refl, rw (length-fresh (j .uses) (r ∷ rs)));
         mine = λ t. ap (drop (length (s .rows))) (take-all (length (s .rows) + length (r ∷ rs)) (s .rows ++ fr) (omega (arith, length-append (s .rows) fr, length-fresh (j .uses) (r ∷ rs))))
             ∙ drop-at (s .rows) fr (length (s .rows)) refl ∙ ap (fresh (j .uses)) (sym q);
-        endless = λ z. absurd (true≢false (sym z ∙ is-no-split));
+        beside = λ z. absurd (true≢false (sym z ∙ is-no-split));
         offer = λ o z. tt;
         fits = leafOver-fits B j (length rows) fit fr md sp depth;
         small = λ z. leafOver-small B j (length rows) fit fr md sp depth few;
@@ -246,7 +253,7 @@ module _ {M : Meter} (B : Bounds M) (j : Job M) (seed : List (Record M)) (rows :
     bounds = λ k h. absurd (below k h);
     leaf-rows = λ k h. absurd (below k h);
     apart = λ x k h. absurd (below x h);
-    endless = λ k h. absurd (below k h);
+    beside = λ k h. absurd (below k h);
     offers = λ k h. absurd (below k h);
     fits = λ k h. absurd (below k h);
     small = λ k h. absurd (below k h);
@@ -288,6 +295,12 @@ module _ {M : Meter} (B : Bounds M) (j : Job M) (seed : List (Record M)) (rows :
   inside : {k : ℕ} → k < length (s₀ .tree) → k < length seed
   inside h = rw (seeding .counted) at h
 
+  pub split-beside : (k : ℕ) → seedSplits k ≡ true → BesideSplit (entryAt (s₀ .tree) k)
+  split-beside k q = elim (decLt k (length seed)) [ yes h ↦ seeding .beside k h q | no h ↦ absurd (beyond (omega arith)) ]
+    where
+      beyond : length seed ≤ k → ⊥
+      beyond h = true≢false (sym q ∙ ap (λ (m : Node). not (isLeaf m)) (List·getD-eq-default nodes leaf (rw count-seed h)))
+
   passes-is : (k : ℕ) → T (isLeaf (getD nodes k leaf)) → (r : Row) → passes (treeNodes (s₀ .tree)) k r ≡ eqb (reached r) k
   unfolding leafReached
   passes-is k t r = rw seed-nodes (meets-leaf nodes (r .props) k t (length nodes) 0)
@@ -298,7 +311,7 @@ module _ {M : Meter} (B : Bounds M) (j : Job M) (seed : List (Record M)) (rows :
     family = rw seed-nodes (good .rooted .family);
     rooted = rw (seeding .counted) (sound-count seed faultless .0);
     bounds = λ k h. seeding .bounds k (inside h);
-    endless = λ k q. elim (decLt k (length seed)) [ yes h ↦ seeding .endless k h q | no h ↦ absurd (beyond k q (omega arith)) ];
+    endless = λ k q. ap (λ (i : Info M). i .cost) (split-beside k q .0);
     own = λ k t. T→not-false (isLeaf (getD nodes k leaf)) (leaf-too k t);
     laid = λ i k hi hk ne. elim (seeding .apart i k (inside hi) (inside hk) ne) [ inl c ↦ inl c | inr c ↦ inr (inl c) ];
     holds = λ k h o p. let t = not-false→T (isLeaf (getD nodes k leaf)) o in
@@ -310,15 +323,12 @@ module _ {M : Meter} (B : Bounds M) (j : Job M) (seed : List (Record M)) (rows :
     fresh-tokens = λ k h t. let q = seeding .leaf-rows k (inside h) (leaf-too k t) in ap (fresh (j .uses)) q ∙ fresh-twice (j .uses) (rowsAt nodes k rows) ∙ sym q;
     offers = λ k h. seeding .offers k (inside h);
   }
-    where
-      beyond : (k : ℕ) → seedSplits k ≡ true → length seed ≤ k → ⊥
-      beyond k q h = true≢false (sym q ∙ ap (λ (m : Node). not (isLeaf m)) (List·getD-eq-default nodes leaf (rw count-seed h)))
 
   pub seed-healthy : Healthy B seedSplits rows s₀
   seed-healthy = record {
     entries = λ k h. seeding .fits k (inside h);
     costs = λ k h. seeding .small k (inside h);
-    parents = λ k pos h. rw seed-nodes (good .rooted .parents k pos (rw count-seed (inside h)));
+    parents = λ k later h. rw seed-nodes (good .rooted .parents k later (rw count-seed (inside h)));
     counted = seeding .total ∙ count-all (λ (r : Row). ltb (reached r) (length seed)) rows (λ r. T→true (ltb (reached r) (length seed)) (lt→ltb (reached r) (length seed) (rw count-seed at (low r))));
     covered = seeding .covered;
     nested = λ a c h q. absurd (no-child a c h q);

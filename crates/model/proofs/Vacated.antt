@@ -28,14 +28,19 @@ module _ {M : Meter} where
     pub blank : (k : ℕ) → r .count ≤ k → (recordOfResult r k ≡ blankRecord) × (spanOfResult r k ≡ noSpan)
     pub unpruned : prunes j ≡ false → length (r .records) ≡ r .count
 
-  -- settling and an unpruned job leave the tree
-  uncut : (j : Job M) (s : State M) → prunes j ≡ false → settledState j (pruned j s) .tree ≡ s .tree
-  unfolding settledState pruned
-  uncut j s e = rw e (go (j .settling))
+  -- settling leaves the tree
+  pub settled-tree : (j : Job M) (s : State M) → settledState j s .tree ≡ s .tree
+  unfolding settledState
+  settled-tree j s = go (j .settling)
     where
       go : (b : Bool) → cond b (record { rows = settled (j .uses) (s .tree) (s .rows); tree = s .tree; bits = s .bits }) s .tree ≡ s .tree
       go true = refl
       go false = refl
+
+  -- and so does an unpruned job
+  uncut : (j : Job M) (s : State M) → prunes j ≡ false → settledState j (pruned j s) .tree ≡ s .tree
+  unfolding pruned
+  uncut j s e = settled-tree j (pruned j s) ∙ rw e
 
   finished-entries : (j : Job M) (s : State M) (flat : M .Total) → EntriesOf j (finished j s flat)
   unfolding finished resultOf

@@ -28,5 +28,6 @@ pub mod Refuse
 pub mod Operations
 pub mod Decoder
 pub mod Promise
+pub mod SeedKept
 pub mod SettledPlain
 pub mod Bench
