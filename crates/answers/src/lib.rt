@@ -11,14 +11,6 @@ use lent::Learned;
 use model::TokenValue;
 use sampling::Sampled;
 
-// A value's token, how many extra bits follow it, and those bits.
-#[repr(C)]
-pub struct Encoding {
-    pub token: u32,
-    pub extra_count: u32,
-    pub extra_bits: u32,
-}
-
 // The value of a token and its extra bits.
 #[repr(C)]
 pub struct Read {

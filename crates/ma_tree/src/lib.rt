@@ -7,20 +7,18 @@ ghost use mathlib.Core.Path.{_≡_};
 ghost use mathlib.Core.List.{map};
 ghost use Rattle.model.specs.Pack.{packed};
 ghost use Rattle.model.specs.Token.{encodedOf};
-ghost use Rattle.model.specs.Operations.{learn, deepen, lookup, leafContexts, sample, tokenAnswer};
-ghost use Rattle.model.specs.Profile.{single};
-ghost use Rattle.rows.specs.Flat.{flat};
+ghost use Rattle.model.specs.Operations.{lookup, tokenAnswer};
 ghost use Rattle.checks.specs.Given.{settingsOf};
-ghost use Rattle.layout.specs.Waiting.{queueLists};
 ghost use Rattle.records.specs.Records.{storedOf};
-ghost use Rattle.answers.specs.Answers.{valueIn, foundIn, countIn, treeIn};
-ghost use Rattle.numbers.specs.Lists.{lists, lentIn, learnRecords, deepenRecords, Worked};
+ghost use Rattle.answers.specs.Answers.{valueIn, foundIn};
+ghost use Rattle.numbers.specs.Lists.{Worked};
+ghost use Rattle.ma_tree.specs.Runs.{listsNow, contextsNow, Learning, Deepening, Numbering, Sampling};
 use answers::Count;
-use answers::Encoding;
 use answers::Leaf;
 use answers::LearnedTree;
 use answers::Read;
 use checks::Settings;
+use model::Encoded;
 use records::MaNode;
 
 // ---- packing, tokens, even sampling
@@ -33,17 +31,10 @@ pub extern "C" fn ostrovuc_pack_signed(value: i32) -> u32
 }
 
 #[no_mangle]
-pub extern "C" fn ostrovuc_uint_encode(value: u32) -> Encoding
-    ensures { λ r. ⌜ r .token ≡ encodedOf value .token ⌝ }
-    ensures { λ r. ⌜ r .«extra_count» ≡ encodedOf value .nbits ⌝ }
-    ensures { λ r. ⌜ r .«extra_bits» ≡ encodedOf value .bits ⌝ }
+pub extern "C" fn ostrovuc_uint_encode(value: u32) -> Encoded
+    ensures { λ r. ⌜ r ≡ encodedOf value ⌝ }
 {
-    let e = entropy::uint_encode(value);
-    Encoding {
-        token: e.token,
-        extra_count: e.nbits,
-        extra_bits: e.bits,
-    }
+    entropy::uint_encode(value)
 }
 
 #[no_mangle]
@@ -59,8 +50,7 @@ pub extern "C" fn ostrovuc_evenly_sampled_indices(
     target: usize,
     out: &mut [u32],
 ) -> Count
-    ensures { λ r. ⌜ r ≡ countIn (sample rows target (now (out .entry)) .outcome) ⌝ }
-    ensures { λ r. ⌜ now (out .exit) ≡ sample rows target (now (out .entry)) .lent ⌝ }
+    ensures { λ r. ⌜ Sampling rows target (now (out .entry)) r (now (out .exit)) ⌝ }
 {
     answers::sampled_answer(sampling::evenly_sampled_indices(rows, target, out))
 }
@@ -84,10 +74,10 @@ fn work<'n, 'a>(
     counts: &'a mut [u32],
 ) -> LearnedTree
     ensures { λ r. ⌜ Worked (settingsOf s) (now (logs .entry)) seeded count
-        (lists (flat (now (props .entry)) (now (tok .entry)) (now (res .entry))) (now (nodes .entry)) (now (spans .entry))
-        (queueLists (now («queue_words» .entry)) (now («queue_values» .entry)) (now («queue_gains» .entry))) (now (counts .entry)))
-        (lists (flat (now (props .exit)) (now (tok .exit)) (now (res .exit))) (now (nodes .exit)) (now (spans .exit))
-        (queueLists (now («queue_words» .exit)) (now («queue_values» .exit)) (now («queue_gains» .exit))) (now (counts .exit))) r ⌝ }
+        (listsNow (nodes .entry) (props .entry) (tok .entry) (res .entry) (spans .entry)
+        («queue_words» .entry) («queue_values» .entry) («queue_gains» .entry) (counts .entry))
+        (listsNow (nodes .exit) (props .exit) (tok .exit) (res .exit) (spans .exit)
+        («queue_words» .exit) («queue_values» .exit) («queue_gains» .exit) (counts .exit)) r ⌝ }
 {
     let mut words = [0u32; 40955];
     let mut values = [0i32; 16382];
@@ -133,22 +123,11 @@ pub extern "C" fn ostrovuc_learn<'n, 'a>(
     queue_gains: &'a mut [f32],
     counts: &'a mut [u32],
 ) -> LearnedTree
-    ensures { λ r. ⌜ r ≡ treeIn (learnRecords (settingsOf s) (now (logs .entry))
-        (lists (flat (now (props .entry)) (now (tok .entry)) (now (res .entry))) (now (nodes .entry)) (now (spans .entry))
-        (queueLists (now («queue_words» .entry)) (now («queue_values» .entry)) (now («queue_gains» .entry))) (now (counts .entry))) .outcome) ⌝ }
-    ensures { λ _. ⌜ (lists (flat (now (props .exit)) (now (tok .exit)) (now (res .exit))) (now (nodes .exit)) (now (spans .exit))
-        (queueLists (now («queue_words» .exit)) (now («queue_values» .exit)) (now («queue_gains» .exit))) (now (counts .exit)))
-        ≡ learnRecords (settingsOf s) (now (logs .entry))
-        (lists (flat (now (props .entry)) (now (tok .entry)) (now (res .entry))) (now (nodes .entry)) (now (spans .entry))
-        (queueLists (now («queue_words» .entry)) (now («queue_values» .entry)) (now («queue_gains» .entry))) (now (counts .entry))) .lent ⌝ }
-    ensures { λ r. ⌜ r ≡ treeIn (learn single (settingsOf s) (now (logs .entry))
-        (lentIn (lists (flat (now (props .entry)) (now (tok .entry)) (now (res .entry))) (now (nodes .entry)) (now (spans .entry))
-        (queueLists (now («queue_words» .entry)) (now («queue_values» .entry)) (now («queue_gains» .entry))) (now (counts .entry)))) .outcome) ⌝ }
-    ensures { λ _. ⌜ lentIn (lists (flat (now (props .exit)) (now (tok .exit)) (now (res .exit))) (now (nodes .exit)) (now (spans .exit))
-        (queueLists (now («queue_words» .exit)) (now («queue_values» .exit)) (now («queue_gains» .exit))) (now (counts .exit)))
-        ≡ learn single (settingsOf s) (now (logs .entry))
-        (lentIn (lists (flat (now (props .entry)) (now (tok .entry)) (now (res .entry))) (now (nodes .entry)) (now (spans .entry))
-        (queueLists (now («queue_words» .entry)) (now («queue_values» .entry)) (now («queue_gains» .entry))) (now (counts .entry)))) .lent ⌝ }
+    ensures { λ r. ⌜ Learning s (now (logs .entry))
+        (listsNow (nodes .entry) (props .entry) (tok .entry) (res .entry) (spans .entry)
+        («queue_words» .entry) («queue_values» .entry) («queue_gains» .entry) (counts .entry)) r
+        (listsNow (nodes .exit) (props .exit) (tok .exit) (res .exit) (spans .exit)
+        («queue_words» .exit) («queue_values» .exit) («queue_gains» .exit) (counts .exit)) ⌝ }
 {
     work(
         nodes,
@@ -183,22 +162,11 @@ pub extern "C" fn ostrovuc_deepen<'n, 'a>(
     queue_gains: &'a mut [f32],
     counts: &'a mut [u32],
 ) -> LearnedTree
-    ensures { λ r. ⌜ r ≡ treeIn (deepenRecords (settingsOf s) (now (logs .entry)) count
-        (lists (flat (now (props .entry)) (now (tok .entry)) (now (res .entry))) (now (nodes .entry)) (now (spans .entry))
-        (queueLists (now («queue_words» .entry)) (now («queue_values» .entry)) (now («queue_gains» .entry))) (now (counts .entry))) .outcome) ⌝ }
-    ensures { λ _. ⌜ (lists (flat (now (props .exit)) (now (tok .exit)) (now (res .exit))) (now (nodes .exit)) (now (spans .exit))
-        (queueLists (now («queue_words» .exit)) (now («queue_values» .exit)) (now («queue_gains» .exit))) (now (counts .exit)))
-        ≡ deepenRecords (settingsOf s) (now (logs .entry)) count
-        (lists (flat (now (props .entry)) (now (tok .entry)) (now (res .entry))) (now (nodes .entry)) (now (spans .entry))
-        (queueLists (now («queue_words» .entry)) (now («queue_values» .entry)) (now («queue_gains» .entry))) (now (counts .entry))) .lent ⌝ }
-    ensures { λ r. ⌜ r ≡ treeIn (deepen single (settingsOf s) (now (logs .entry)) count
-        (lentIn (lists (flat (now (props .entry)) (now (tok .entry)) (now (res .entry))) (now (nodes .entry)) (now (spans .entry))
-        (queueLists (now («queue_words» .entry)) (now («queue_values» .entry)) (now («queue_gains» .entry))) (now (counts .entry)))) .outcome) ⌝ }
-    ensures { λ _. ⌜ lentIn (lists (flat (now (props .exit)) (now (tok .exit)) (now (res .exit))) (now (nodes .exit)) (now (spans .exit))
-        (queueLists (now («queue_words» .exit)) (now («queue_values» .exit)) (now («queue_gains» .exit))) (now (counts .exit)))
-        ≡ deepen single (settingsOf s) (now (logs .entry)) count
-        (lentIn (lists (flat (now (props .entry)) (now (tok .entry)) (now (res .entry))) (now (nodes .entry)) (now (spans .entry))
-        (queueLists (now («queue_words» .entry)) (now («queue_values» .entry)) (now («queue_gains» .entry))) (now (counts .entry)))) .lent ⌝ }
+    ensures { λ r. ⌜ Deepening s (now (logs .entry)) count
+        (listsNow (nodes .entry) (props .entry) (tok .entry) (res .entry) (spans .entry)
+        («queue_words» .entry) («queue_values» .entry) («queue_gains» .entry) (counts .entry)) r
+        (listsNow (nodes .exit) (props .exit) (tok .exit) (res .exit) (spans .exit)
+        («queue_words» .exit) («queue_values» .exit) («queue_gains» .exit) (counts .exit)) ⌝ }
 {
     work(
         nodes,
@@ -240,9 +208,8 @@ pub extern "C" fn ostrovuc_leaf_contexts<'n, 'a>(
     contexts: &'a mut [u32],
     queue: &'a mut [u32],
 ) -> Count
-    ensures { λ r. ⌜ r ≡ countIn (leafContexts (map storedOf (now (nodes .entry))) count (record { contexts = now (contexts .entry); queue = now (queue .entry) }) .outcome) ⌝ }
-    ensures { λ _. ⌜ record { contexts = now (contexts .exit); queue = now (queue .exit) }
-        ≡ leafContexts (map storedOf (now (nodes .entry))) count (record { contexts = now (contexts .entry); queue = now (queue .entry) }) .lent ⌝ }
+    ensures { λ r. ⌜ Numbering (now (nodes .entry)) count
+        (contextsNow (contexts .entry) (queue .entry)) r (contextsNow (contexts .exit) (queue .exit)) ⌝ }
 {
     let mut words = [0u32; 40955];
     let mut values = [0i32; 16382];

@@ -1,6 +1,7 @@
 // The answers that the definitions of specs/ and the code share.
 
-// What a value is coded as: its token, how many extra bits follow, and those bits.
+// What a value is coded as: its token, how many extra bits follow, and those bits. It crosses over to C.
+#[repr(C)]
 pub struct Encoded {
     pub token: u32,
     pub nbits: u32,

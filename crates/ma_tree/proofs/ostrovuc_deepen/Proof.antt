@@ -33,7 +33,7 @@ use denote.Triple.Spec.{tripleOf}
 use denote.Triple.Statement.{Triple}
 use denote.Triple.Call.{calls-at}
 use denote.Triple.Table.{entered, cited}
-use denote.Triple.Walked.{walked}
+use denote.Triple.Walked.{says, walked}
 use Rattle.checks.specs.declared.Settings.{Settings}
 use Rattle.checks.proofs.Settings as S
 use Rattle.checks.proofs.Settings.Laws as S′
@@ -43,7 +43,7 @@ use Rattle.records.proofs.Locals.{States, enters, leaves}
 use Rattle.records.proofs.Rows.{Each, Lists, Spots, Names, Rooms, Mutss, refs, valued, same}
 use Rattle.answers.specs.declared.LearnedTree.{LearnedTree}
 use Rattle.ma_tree.proofs.Passing.{Es, Work, Last, last, Done, to-work, asks-work, comes-work}
-use Rattle.ma_tree.proofs.Said.{all-said, SaidPost, SaidWalks, said-ends, said-meets, unasked, says-four}
+use Rattle.ma_tree.proofs.Said.{all-said, SaidPost, SaidWalks, said-ends, said-meets, unasked}
 use Rattle.ma_tree.proofs.Slices.{pass-slice, also, again, slices, again-all, spots, names, nows, spells, tells, roomy}
 use Rattle.answers.proofs.LearnedTree as L
 use Rattle.ma_tree.proofs.work.Symbol as work-def
@@ -89,7 +89,7 @@ module _ {M : Type 1} (𝓤 : URA M) (H : Heap 𝓤) (A : Atoms 𝓤) (W : Given
   exits w r ws e =
       qed W (Left w r ws) ∵
       suffices ! _ (said-ends 𝓤 H A f.ended (f.clauses 𝓤 H A mem run) W (((κ, (κ′, tt)), (q, (q′, tt)), tt, a, vals), tt) w r (ws .0, (tt, (tt, (tt, ws .1 .1 .1 .1 .1))))) $
-      says-four ! (e .answer) (e .lent) (e .answer-read) (e .lent-read) $ move ! (1 ∷ []) $ frame ! $
+      says ! (record { answers = e .answer-read; leaves = e .lent-read; leaves-whole = e .lent }) $ move ! (1 ∷ []) $ frame ! $
       move ! (1 ∷ []) $ fsplit ! $ move ! (1 ∷ []) $ fsplit ! $ drop ! $ move ! (1 ∷ 0 ∷ []) $ fjoin ! $ done !
 
   module _ (𝓣 : Tables 𝓤 H) (known : Triple 𝓤 (𝓣 .C #work) (Work 𝓤 H A mem run)) where

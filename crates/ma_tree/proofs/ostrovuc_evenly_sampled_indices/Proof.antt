@@ -16,7 +16,7 @@ same-length c = search needs
 
 returns : tie.Need-returns
 returns c = let sampled = c .before .before .before .evenly-sampled-indices .ensures in
-    (c .sampled-answer .ensures ∙ ap (λ x. countIn (x .outcome)) sampled, ap (λ x. x .lent) sampled)
+    record { answers = c .sampled-answer .ensures ∙ ap (λ x. countIn (x .outcome)) sampled; leaves = ap (λ x. x .lent) sampled }
 
 pub ostrovuc-evenly-sampled-indices-spec : {M : Type 1} → statement M
 ostrovuc-evenly-sampled-indices-spec =

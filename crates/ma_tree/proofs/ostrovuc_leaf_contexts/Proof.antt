@@ -40,7 +40,7 @@ use denote.Triple.Statement.{Contract, Triple}
 use denote.Triple.Call.{calls-at}
 use denote.Triple.Clauses.{ensured, Lasts, lasts}
 use denote.Triple.Table.{entered, cited}
-use denote.Triple.Walked.{walked}
+use denote.Triple.Walked.{says, walked}
 use Rattle.model.specs.Settings.{maxNodes}
 use Rattle.model.specs.Operations.{leafContexts}
 use Rattle.records.specs.declared.MaNode.{MaNode}
@@ -165,7 +165,7 @@ module _ {M : Type 1} (𝓤 : URA M) (H : Heap 𝓤) (A : Atoms 𝓤) (W : Given
     exits w r ws e₁ e₂ =
         let held : Numbered (x .now) (zs .0) (zs .1 .0) (holding (x .now) .1 .1 .0) = numbered zeros-long (x .now) in
         qed W (Left w r ws) ∵ suffices ! _ (said-ends 𝓤 H A f.ended (f.clauses 𝓤 H A mem run) W (((κ, (κ′, tt)), (q, (q′, tt)), tt, a, vals), tt) w r (tt, (tt, ws .1 .1 .1 .1))) $
-        says-two ! (e₁ (x .now) (holding (x .now) .1 .1 .0) held refl) (e₂ (x .now) (holding (x .now) .1 .1 .0) held refl) $
+        says ! (record { answers = e₁ (x .now) (holding (x .now) .1 .1 .0) held refl; leaves = e₂ (x .now) (holding (x .now) .1 .1 .0) held refl }) $
         nothing ! $ move ! (2 ∷ 0 ∷ []) $ join ! $ move ! (3 ∷ 0 ∷ []) $ join ! $ frame ! $ move ! (1 ∷ []) $ fsplit ! $ drop ! $ fsplit ! $ drop ! $ done !
 
   module _ (𝓣 : Tables 𝓤 H) (counted-known : Triple 𝓤 (𝓣 .C #to-copy) (ToCopy 𝓤 H A mem run)) (copied-known : Triple 𝓤 (𝓣 .C #from-records) (FromRecords 𝓤 H A mem run))

@@ -1,5 +1,4 @@
--- What the call says, field by field. Assumes nothing.
-use mathlib.Core.Path.{ap}
+-- What the call says. Assumes nothing.
 use borrow.Author.Needs.{needs}
 use Rattle.ma_tree.proofs.ostrovuc_uint_encode.Statement.{statement}
 use Rattle.ma_tree.proofs.ostrovuc_uint_encode.Tie as tie
@@ -8,8 +7,7 @@ uint-encode-requires : tie.Need-uint-encode-requires
 uint-encode-requires c κs = search needs
 
 returns : tie.Need-returns
-returns c = let e = c .uint-encode .ensures in
-    (ap (λ x. x .token) e, (ap (λ x. x .nbits) e, ap (λ x. x .bits) e))
+returns c = c .uint-encode .ensures
 
 pub ostrovuc-uint-encode-spec : {M : Type 1} → statement M
 ostrovuc-uint-encode-spec = tie.close (tie.spec uint-encode-requires returns)

@@ -1,0 +1,2 @@
+-- `Runs`: what each public operation ensures of a run.
+pub mod Runs
