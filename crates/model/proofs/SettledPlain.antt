@@ -31,7 +31,7 @@ use Rattle.model.proofs.More.{finished-plain}
 use Rattle.model.proofs.Learned.{result-laws}
 use Rattle.model.proofs.SameJob.{settlingAs, same-job}
 use Rattle.model.proofs.SameAnswer.{grown-same, deeper-same}
-use Rattle.model.proofs.Accepted.{deepen-accepted}
+use Rattle.model.proofs.Accepted.{learnedFrom, deepenedFrom, deepen-accepted}
 use Rattle.model.proofs.Demand3.{job-fits}
 
 -- ---- results
@@ -62,51 +62,58 @@ module _ {M : Meter} (j : Job M) (unpruned : prunes j ≡ false) (b : Bool) wher
       ap (λ (s : State M). finished other s (j .flat rows)) (sym grown)
       ∙ finished-settling seeds rows (steps j n s) (j .flat rows) (steps-keep j seeds rows n s (seed-keeps B j seed rows fit faultless))
 
--- ---- the operations
--- results need be the same only where nothing is refused
-unless-same : {M : Meter} (o : Option Refusal) (x : Lent M) (r q : Result M) → (o ≡ none → r ≡ q)
-    → unless o x (treeOf r) (lentAfter r x) ≡ unless o x (treeOf q) (lentAfter q x)
-unless-same (some z) x r q h = refl
-unless-same none x r q h = rw (h refl)
-
-module _ (P : Profile) (t : Settings (P .meter)) (logs : List (P .meter .Cost)) (x : Lent (P .meter)) (b : Bool) (unpruned : Unpruned P t) where
+-- ---- what the operations are made of
+module _ (P : Profile) (t : Settings (P .meter)) (logs : List (P .meter .Cost)) (x : Lent (P .meter)) (b : Bool) where
   abbrev job : Job (P .meter)
   job = jobOf P t logs (usesModes t x)
 
   job-settling : jobOf P (withSettling b t) logs (usesModes t x) ≡ settlingAs b job
   job-settling = same-job P t logs (usesModes t x) (t .limit) b
 
-  refusal-settling : (short : Bool) (last : Option Refusal) → refusedBefore P (withSettling b t) logs x short last ≡ refusedBefore P t logs x short last
-  unfolding refusedBefore isOutside hasNoPredictor usable isShortAlphabet isShortOfRoom
-  refusal-settling short last = refl
+  pub learn-refusal-plain : learnRefusal P (withSettling b t) logs x ≡ learnRefusal P t logs x
+  unfolding learnRefusal refusedBefore isOutside hasNoPredictor usable isShortAlphabet isShortOfRoom
+  learn-refusal-plain = refl
 
-  learn-settling : learn P (withSettling b t) logs x ≡ learn P t logs x
-  unfolding learn learnRefusal
-  learn-settling =
-      let r = ap (λ (j : Job (P .meter)). learned j (t .limit) (rowsIn x)) job-settling ∙ learned-settling job unpruned b (t .limit) (rowsIn x) in
-      λ i. unless (refusal-settling false none i) x (treeOf (r i)) (lentAfter (r i) x)
+  pub deepen-refusal-plain : (count : ℕ) → deepenRefusal P (withSettling b t) logs count x ≡ deepenRefusal P t logs count x
+  unfolding deepenRefusal refusedBefore isOutside hasNoPredictor usable isShortAlphabet isShortOfRoom
+  deepen-refusal-plain count = refl
 
-  -- the seed is sound, or refused
-  deepen-settling : Lawful P → (count : ℕ) → deepen P (withSettling b t) logs count x ≡ deepen P t logs count x
-  unfolding deepen deepenRefusal
-  deepen-settling law count =
-      (λ i. unless (refusal-settling (isShortOfSeedRoom count x) (refuseAt (faultOf seed) 8 none) i) x (treeOf (of (job-settling i))) (lentAfter (of (job-settling i)) x))
-      ∙ unless-same (deepenRefusal P t logs count x) x (of (settlingAs b job)) (of job) same
-    where
-      seed : List (Record (P .meter))
-      seed = treeIn count (x .nodes)
+  module _ (unpruned : Unpruned P t) where
+    pub learned-plain : learnedFrom P (withSettling b t) logs x ≡ learnedFrom P t logs x
+    learned-plain = ap (λ (j : Job (P .meter)). learned j (t .limit) (rowsIn x)) job-settling ∙ learned-settling job unpruned b (t .limit) (rowsIn x)
 
-      of : Job (P .meter) → Result (P .meter)
-      of j = deepened j (t .limit) seed (rowsIn x)
+    -- the seed is sound, or refused
+    pub deepened-plain : Lawful P → (count : ℕ) → deepenRefusal P t logs count x ≡ none → deepenedFrom P (withSettling b t) logs count x ≡ deepenedFrom P t logs count x
+    unfolding deepen
+    deepened-plain law count e =
+        let seed = treeIn count (x .nodes) in
+        let r = deepenedFrom P t logs count x in
+        let accepted = ap (λ (o : Option Refusal). unless o x (treeOf r) (lentAfter r x)) e in
+        let (p, _, faultless, _, _) = deepen-accepted P t logs x (lentAfter r x) count (treeOf r) accepted in
+        ap (λ (j : Job (P .meter)). deepened j (t .limit) seed (rowsIn x)) job-settling
+        ∙ deepened-settling job unpruned b (law .bounds) (t .limit) seed (rowsIn x) (job-fits P law (result-laws (law .bounds)) t logs x p) faultless
 
-      same : deepenRefusal P t logs count x ≡ none → of (settlingAs b job) ≡ of job
-      same e =
-          let accepted = ap (λ (o : Option Refusal). unless o x (treeOf (of job)) (lentAfter (of job) x)) e in
-          let (p, _, faultless, _, _) = deepen-accepted P t logs x (lentAfter (of job) x) count (treeOf (of job)) accepted in
-          deepened-settling job unpruned b (law .bounds) (t .limit) seed (rowsIn x) (job-fits P law (result-laws (law .bounds)) t logs x p) faultless
+-- ---- the operations
+-- the same refusal, and results that are the same where nothing is refused: then the same outcome and the same lists, whatever a result leaves in them
+pub unless-same : {M : Meter} {L : Type 0} (exit : Result M → L) (x : L) {o u : Option Refusal} {r q : Result M} → u ≡ o → (o ≡ none → q ≡ r)
+    → unless u x (treeOf q) (exit q) ≡ unless o x (treeOf r) (exit r)
+unless-same {M} {L} exit x {o} {u} {r} {q} e h = ap (λ (w : Option Refusal). unless w x (treeOf q) (exit q)) e ∙ go o h
+  where
+    go : (w : Option Refusal) → (w ≡ none → q ≡ r) → unless w x (treeOf q) (exit q) ≡ unless w x (treeOf r) (exit r)
+    go (some z) h = refl
+    go none h = rw (h refl)
 
-pub settled-plain-of : (P : Profile) → Lawful P → SettledPlain P
-settled-plain-of P law = record {
-  learn-plain = λ t logs x b unpruned. learn-settling P t logs x b unpruned;
-  deepen-plain = λ t logs count x b unpruned. deepen-settling P t logs x b unpruned law count;
-}
+module _ (P : Profile) (law : Lawful P) where
+  learn-plain : (t : Settings (P .meter)) (logs : List (P .meter .Cost)) (x : Lent (P .meter)) (b : Bool) → Unpruned P t → learn P (withSettling b t) logs x ≡ learn P t logs x
+  unfolding learn
+  learn-plain t logs x b unpruned =
+      unless-same (λ (r : Result (P .meter)). lentAfter r x) x (learn-refusal-plain P t logs x b) (λ e. learned-plain P t logs x b unpruned)
+
+  deepen-plain : (t : Settings (P .meter)) (logs : List (P .meter .Cost)) (count : ℕ) (x : Lent (P .meter)) (b : Bool) → Unpruned P t
+      → deepen P (withSettling b t) logs count x ≡ deepen P t logs count x
+  unfolding deepen
+  deepen-plain t logs count x b unpruned =
+      unless-same (λ (r : Result (P .meter)). lentAfter r x) x (deepen-refusal-plain P t logs x b count) (deepened-plain P t logs x b unpruned law count)
+
+  pub settled-plain-of : SettledPlain P
+  settled-plain-of = record { learn-plain = learn-plain; deepen-plain = deepen-plain }
