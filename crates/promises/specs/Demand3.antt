@@ -1,8 +1,9 @@
 -- Demand 3, whole, about runs of the public operations (00-demands; document 01, "Demand 3's words"). `Kept`, `OneMore`, `SpansHold` and `TokensFresh` are the model's
 -- (Promise), field by field; they speak of what the operations answer and of what they leave in the lent lists. Assumes nothing.
-use Prim.Native.Nat.{ℕ, suc}
+use Prim.Native.Nat.{ℕ, suc, _*_, _≤_}
 use mathlib.Core.Path.{_≡_}
 use mathlib.Core.List.{List}
+use lib.ListN.{length, getD}
 use lib.IntN.{ℤ}
 use lib.Ieee.{Float}
 use Rattle.model.specs.Settings as model
@@ -15,7 +16,7 @@ use Rattle.checks.specs.declared.Settings.{Settings}
 use Rattle.answers.specs.Answers.{treeIn, foundIn}
 use Rattle.numbers.specs.Lists.{Lists, lentIn}
 use Rattle.answers.specs.declared.LearnedTree.{LearnedTree}
-use Rattle.promises.specs.Runs.{Learning, Deepening, LookingUp}
+use Rattle.ma_tree.specs.Runs.{Learning, Deepening, LookingUp}
 
 -- an accepted answer: number 0, then node count, leaf count, estimated bits, flat bits
 abbrev pub answered : Tree singles → LearnedTree
@@ -25,15 +26,28 @@ answered a = treeIn (accepted a)
 abbrev pub OneLeafMore : Settings → Settings → Type 0
 OneLeafMore s t = settingsOf t ≡ model.withLimit (suc (s .«max_leaves»)) (settingsOf s)
 
-pub record Promised : Type 0 where
+-- What belongs to no whole entry is alike too: the model reads the span list by pairs and the queue by the shortest of its three lists, so the numbers past them are compared here.
+-- Of rows, node records and count space the model reads every number
+pub record RestAlike (x y z : Lists) : Type 0 where
+  pub queue : z .queue ≡ y .queue
+  pub spans-long : length (z .spans) ≡ length (y .spans)
+  pub spans : (i : ℕ) → length (lentIn x .spans) * 2 ≤ i → getD (z .spans) i 0 ≡ getD (y .spans) i 0
+
+-- of two accepted unpruned runs over the same lists x that differ only in the limit: answers a and b, and every number of the lists y and z that they leave
+pub record AtMostOneMore (s : Settings) (x : Lists) (a : Tree singles) (y : Lists) (b : Tree singles) (z : Lists) : Type 0 where
+  pub entries : OneMoreOrAlike single (settingsOf s) (lentIn x) a (lentIn y) b (lentIn z)
+  pub rest : RestAlike x y z
+
+pub record Demand3 : Type 0 where
   -- of two accepted unpruned learnings that differ only in the limit: alike in everything, or in everything but one more split
   pub learn-more : (s t : Settings) (logs : List Float) (x y z : Lists) (a b : Tree singles) → Unpruned single (settingsOf s) → OneLeafMore s t
-      → Learning s logs x (answered a) y → Learning t logs x (answered b) z → OneMoreOrAlike single (settingsOf s) (lentIn x) a (lentIn y) b (lentIn z)
+      → Learning s logs x (answered a) y → Learning t logs x (answered b) z → AtMostOneMore s x a y b z
   -- of two accepted unpruned deepenings of one seed likewise
   pub deepen-more : (s t : Settings) (logs : List Float) (count : ℕ) (x y z : Lists) (a b : Tree singles) → Unpruned single (settingsOf s) → OneLeafMore s t
-      → Deepening s logs count x (answered a) y → Deepening t logs count x (answered b) z → OneMoreOrAlike single (settingsOf s) (lentIn x) a (lentIn y) b (lentIn z)
+      → Deepening s logs count x (answered a) y → Deepening t logs count x (answered b) z → AtMostOneMore s x a y b z
   -- every leaf's span holds the rows handed in whose lookup reaches it, each as often; every zero-predictor token is the one worked afresh
   pub learn-kept : (s : Settings) (logs : List Float) (x y : Lists) (a : Tree singles) → Learning s logs x (answered a) y → Kept single (settingsOf s) (lentIn x) a (lentIn y)
-  pub deepen-kept : (s : Settings) (logs : List Float) (count : ℕ) (x y : Lists) (a : Tree singles) → Deepening s logs count x (answered a) y → Kept single (settingsOf s) (lentIn x) a (lentIn y)
+  pub deepen-kept : (s : Settings) (logs : List Float) (count : ℕ) (x y : Lists) (a : Tree singles) → Deepening s logs count x (answered a) y
+      → Kept single (settingsOf s) (lentIn x) a (lentIn y)
   -- the lookup that these speak of is the one that the operation answers
   pub looked-up : (x : Lists) (count : ℕ) (ps : List ℤ) (f : Found) → LookingUp (x .nodes) count ps (foundIn (accepted f)) → lookup (lentIn x .nodes) count ps ≡ accepted f
