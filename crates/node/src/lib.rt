@@ -234,7 +234,8 @@ fn offer_split(
     offer_of(best, cost, s)
 }
 
-// Whether the properties are scored: enough rows, not too deep, and a cost above the split cost, since no split gains more than the difference.
+// Whether the properties are scored: enough rows, not too deep, and a cost above the split cost. The last is document 01's rule and no shortcut: with lent
+// logarithms that fall a split may gain more than the node costs.
 fn is_scored(rows: usize, depth: u32, cost: f32, s: Settings) -> bool
     ensures { λ r. ⌜ r ≡ scoredAt (settingsOf s) depth cost rows ⌝ }
 {

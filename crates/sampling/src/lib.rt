@@ -20,7 +20,7 @@ fn smaller(a: usize, b: usize) -> usize
     if a < b { a } else { b }
 }
 
-// Row numbers spread evenly. The product reaches 2^32, so it is formed in 64 bits; where none is picked nothing is divided.
+// Row numbers spread evenly. The product stays below 2^32 (65,535 * 65,536) and is formed in 64 bits, as sizes are; where none is picked nothing is divided.
 fn pick_rows(rows: usize, picked: usize, out: &mut [u32])
     requires { ⌜ Picks rows picked (now out) ⌝ }
     ensures { λ _. ⌜ now (out .exit) ≡ writtenOver (evenSample rows picked) (now (out .entry)) ⌝ }
