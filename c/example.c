@@ -86,7 +86,7 @@ static void print_tree(ostrovuc_learned_tree tree, const struct room *room) {
     for (uint32_t n = 0; n < tree.nodes; n++) {
         const ostrovuc_ma_node *node = &room->nodes[n];
         printf("node %u, %u rows: ", n, room->spans[2 * n + 1] - room->spans[2 * n]);
-        if (node->split)
+        if (node->kind == OSTROVUC_SPLIT)
             printf("property %u > %d leads to %u, else to %u\n", node->prop, node->val, node->gt, node->le);
         else
             printf("leaf, predictor %u, offset %d, %.2f bits\n", node->info.pred, node->info.offset, node->info.cost);
@@ -129,7 +129,8 @@ int main(void) {
 
     rows.tok[5 * OSTROVUC_PREDICTORS + 13] = 128;
     tree = learn(&s, &rows, &room);
-    printf("token 128 in row 5: refusal %u, place %u; node 0 is still a %s\n", tree.number, tree.place, room.nodes[0].split ? "split" : "leaf");
+    const char *kind = room.nodes[0].kind == OSTROVUC_SPLIT ? "split" : "leaf";
+    printf("token 128 in row 5: refusal %u, place %u; node 0 is still a %s\n", tree.number, tree.place, kind);
     drop_room(&room);
     return 0;
 }

@@ -20,7 +20,7 @@ static uint32_t *filled(size_t length, uint32_t fill) {
 
 static ostrovuc_ma_node read_node(struct reader *from) {
     ostrovuc_ma_node node;
-    node.split = read_up_to(from, 1);
+    node.kind = read_word(from);
     node.prop = read_word(from);
     node.val = (int32_t)read_word(from);
     node.gt = read_word(from);
@@ -32,7 +32,7 @@ static ostrovuc_ma_node read_node(struct reader *from) {
 }
 
 static void write_node(struct writer *to, const ostrovuc_ma_node *node) {
-    write_word(to, node->split);
+    write_word(to, node->kind);
     write_word(to, node->prop);
     write_word(to, (uint32_t)node->val);
     write_word(to, node->gt);
@@ -44,7 +44,7 @@ static void write_node(struct writer *to, const ostrovuc_ma_node *node) {
 
 /* What an entry holds beforehand where the job gives none. */
 static ostrovuc_ma_node pattern(uint32_t v) {
-    ostrovuc_ma_node node = {.split = v % 2 == 1, .prop = v % 24, .val = (int32_t)v, .gt = v, .le = v};
+    ostrovuc_ma_node node = {.kind = v % 2, .prop = v % 24, .val = (int32_t)v, .gt = v, .le = v};
     uint32_t cost = v & UINT32_C(0x3fffffff);
     memcpy(&node.info.cost, &cost, sizeof cost);
     node.info.pred = v % 14;

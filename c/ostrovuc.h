@@ -36,6 +36,10 @@ extern "C" {
 #define OSTROVUC_MAX_LEAVES 4096
 #define OSTROVUC_MAX_NODES 8191
 
+/* A node's kind. Whatever is not OSTROVUC_SPLIT is read as a leaf; learning and deepening write these two. */
+#define OSTROVUC_LEAF UINT32_C(0)
+#define OSTROVUC_SPLIT UINT32_C(1)
+
 /* What ostrovuc_leaf_contexts writes for a split. */
 #define OSTROVUC_NO_CONTEXT UINT32_C(4294967295)
 
@@ -61,9 +65,13 @@ typedef struct ostrovuc_node_info {
     int32_t offset;
 } ostrovuc_node_info;
 
-/* A node. A split sends a row whose property is above `val` to `gt`, else to `le`; in a leaf prop, val, gt and le are 0. */
+/*
+ * A node. A split sends a row whose property is above `val` to `gt`, else to `le`. A leaf has no use for prop, val, gt
+ * and le: they are written as 0 and never read. Any bit pattern may stand in any field, and a record that a call does
+ * not write keeps it.
+ */
 typedef struct ostrovuc_ma_node {
-    bool split;
+    uint32_t kind;
     uint32_t prop;
     int32_t val;
     uint32_t gt;

@@ -5,7 +5,7 @@ use crate::operations::{OTHER, runs, told};
 use driver::port::Tree;
 use driver::records;
 use ostrovuc::Room;
-use stream::{Kind, Learned, Learning, PruneJob, Pruned, Record, Span};
+use stream::{Learned, Learning, PruneJob, Pruned, Record, Span};
 
 /// Words of a node in number lists, and of a waiting leaf.
 const NODE_WORDS: usize = 5;
@@ -81,7 +81,7 @@ fn waiting(room: &Room, fill: u32) -> impl Iterator<Item = u32> {
 
 pub fn prune(job: &PruneJob) -> Pruned {
     assert!(is_prunable(job), "no tree to prune");
-    let words = |r: &Record| [u32::from(r.kind == Kind::Split), r.prop, r.gt, r.le, r.pred];
+    let words = |r: &Record| [r.kind, r.prop, r.gt, r.le, r.pred];
     let mut tree = Tree {
         words: job.nodes.iter().flat_map(words).collect(),
         values: job.nodes.iter().flat_map(|r| [r.val, r.offset]).collect(),
@@ -105,7 +105,7 @@ fn is_prunable(job: &PruneJob) -> bool {
     let nodes = records::nodes(&job.nodes);
     let numbered = ostrovuc::leaf_contexts(&nodes, count as u32, &mut contexts, &mut queue);
     let is_plain =
-        |r: &Record| r.kind == Kind::Split || [r.prop, r.gt, r.le, r.val as u32] == [0; 4];
+        |r: &Record| r.is_split() || [r.kind, r.prop, r.gt, r.le, r.val as u32] == [0; 5];
     numbered.is_ok()
         && job.nodes.iter().all(is_plain)
         && !job.price.is_nan()
@@ -118,11 +118,7 @@ fn records_of(tree: &Tree) -> Vec<Record> {
     let record = |((words, values), cost): ((&[u32; NODE_WORDS], &[i32; 2]), &f32)| {
         let (&[kind, prop, gt, le, pred], &[val, offset]) = (words, values);
         Record {
-            kind: match kind {
-                0 => Kind::Leaf,
-                1 => Kind::Split,
-                other => panic!("a node of kind {other}"),
-            },
+            kind,
             prop,
             val,
             gt,

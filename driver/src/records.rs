@@ -1,7 +1,7 @@
 //! The stream's nodes and settings, to and from the port's.
 
 use ostrovuc::{MaNode, NodeInfo, Settings};
-use stream::{Kind, Record};
+use stream::Record;
 
 pub fn settings(s: &stream::Settings) -> Settings {
     Settings {
@@ -30,7 +30,7 @@ fn node(r: &Record) -> MaNode {
         offset: r.offset,
     };
     MaNode {
-        split: r.kind == Kind::Split,
+        kind: r.kind,
         prop: r.prop,
         val: r.val,
         gt: r.gt,
@@ -45,7 +45,7 @@ pub fn records(nodes: &[MaNode]) -> Vec<Record> {
 
 fn record(node: &MaNode) -> Record {
     Record {
-        kind: if node.split { Kind::Split } else { Kind::Leaf },
+        kind: node.kind,
         prop: node.prop,
         val: node.val,
         gt: node.gt,

@@ -2,7 +2,7 @@
 
 use crate::rules::{Checked, Violation, ensure, is_unpruned, places, uses_modes};
 use crate::runs::{rows_of, tree};
-use stream::{Answer, Job, Kind, Learned, Learning, Record, Span};
+use stream::{Answer, Job, Learned, Learning, Record, Span};
 
 pub fn is_pair(first: &Learning, second: &Learning) -> bool {
     if !is_unpruned(first) || first.settings.limit.checked_add(1) != Some(second.settings.limit) {
@@ -67,12 +67,12 @@ fn the_split(first: &Learned, second: &Learned, count: usize) -> Checked<usize> 
         )));
     };
     let (was, is) = (first.nodes[parent], second.nodes[parent]);
-    ensure(parent < count && was.kind == Kind::Leaf, || {
+    ensure(parent < count && !was.is_split(), || {
         format!("entry {parent}, which changed, was no leaf")
     })?;
     // What stands beside the node stays: its cost, predictor and offset.
     let due = Record {
-        kind: Kind::Split,
+        kind: Record::SPLIT,
         prop: is.prop,
         val: is.val,
         gt: count as u32,

@@ -1,7 +1,7 @@
 //! Rows, lookup, mode and token, by the rules alone.
 
 use std::collections::BTreeMap;
-use stream::{Kind, Learning, PREDICTORS, PROPERTIES, Record, Span};
+use stream::{Learning, PREDICTORS, PROPERTIES, Record, Span};
 
 /// What of the demand an answer breaks.
 pub struct Violation(pub String);
@@ -83,7 +83,7 @@ pub fn lookup(tree: &[Record], properties: &[i32; PROPERTIES]) -> Checked<usize>
     loop {
         let broken = || Violation(format!("lookup is refused at node {at}"));
         let node = tree.get(at).ok_or_else(broken)?;
-        if node.kind == Kind::Leaf {
+        if !node.is_split() {
             return if node.pred <= 13 {
                 Ok(at)
             } else {

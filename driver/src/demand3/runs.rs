@@ -4,7 +4,7 @@ use crate::rules::{
     Checked, Rows, Violation, ensure, lookup, mode, places, uses_modes, zero_token,
 };
 use std::ops::Range;
-use stream::{Kind, Learned, Learning, PREDICTORS, Record};
+use stream::{Learned, Learning, PREDICTORS, Record};
 
 /// The answer's tree.
 pub fn tree(answer: &Learned) -> Checked<&[Record]> {
@@ -27,7 +27,7 @@ pub fn rows_of(answer: &Learned) -> Rows<'_> {
 /// Each leaf and the places of its span.
 fn leaves(answer: &Learned) -> Checked<Vec<(usize, Range<usize>)>> {
     let rows = rows_of(answer).count();
-    let is_leaf = |node: &(usize, &Record)| node.1.kind == Kind::Leaf;
+    let is_leaf = |node: &(usize, &Record)| !node.1.is_split();
     let nodes = tree(answer)?.iter().enumerate().filter(is_leaf);
     nodes
         .map(|(leaf, _)| match places(answer.spans[leaf], rows) {

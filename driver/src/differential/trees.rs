@@ -2,7 +2,7 @@
 
 use crate::Result;
 use crate::shrink::Shrinker;
-use stream::{ContextsJob, Kind, Learning, LookupJob, PruneJob, Record};
+use stream::{ContextsJob, Learning, LookupJob, PruneJob, Record};
 
 /// A job with a tree in it.
 pub trait Tree: Clone {
@@ -68,7 +68,7 @@ pub fn tree<J: Tree>(s: &mut Shrinker<'_, J>) -> Result<()> {
 /// Makes a node a leaf, and drops what then has no way to it.
 fn fold<J: Tree>(job: &mut J, at: usize) {
     let nodes = job.nodes();
-    if nodes[at].kind == Kind::Split {
+    if nodes[at].is_split() {
         let Record {
             cost, pred, offset, ..
         } = nodes[at];
@@ -92,7 +92,7 @@ fn reached_from(nodes: &[Record], root: usize) -> Vec<bool> {
     let mut reached = vec![false; nodes.len()];
     reached[root] = true;
     for (node, record) in nodes.iter().enumerate() {
-        if reached[node] && record.kind == Kind::Split {
+        if reached[node] && record.is_split() {
             for child in [record.gt, record.le].map(|child| child as usize) {
                 if child > node && child < nodes.len() {
                     reached[child] = true;
@@ -114,7 +114,7 @@ fn keep_only<J: Tree>(job: &mut J, is_kept: impl Fn(usize) -> bool) {
     };
     let nodes = job.nodes();
     *nodes = left.iter().map(|&node| nodes[node]).collect();
-    for record in nodes.iter_mut().filter(|record| record.kind == Kind::Split) {
+    for record in nodes.iter_mut().filter(|record| record.is_split()) {
         record.gt = renumbered(record.gt);
         record.le = renumbered(record.le);
     }
@@ -122,13 +122,14 @@ fn keep_only<J: Tree>(job: &mut J, is_kept: impl Fn(usize) -> bool) {
 
 /// Brings what the nodes hold to 0, each field on as many nodes as goes, then nearer to 0.
 fn fields<J: Tree>(s: &mut Shrinker<'_, J>) -> Result<()> {
-    const CLEAR: [fn(&mut Record); 6] = [
+    const CLEAR: [fn(&mut Record); 7] = [
         |node| node.prop = 0,
         |node| node.val = 0,
         |node| node.cost = 0,
         |node| node.pred = 0,
         |node| node.offset = 0,
-        clear_unused,
+        clear_children,
+        plain_kind,
     ];
     for clear in CLEAR {
         s.pieces(
@@ -147,9 +148,16 @@ fn fields<J: Tree>(s: &mut Shrinker<'_, J>) -> Result<()> {
 }
 
 /// A leaf has no children.
-fn clear_unused(node: &mut Record) {
-    if node.kind == Kind::Leaf {
+fn clear_children(node: &mut Record) {
+    if !node.is_split() {
         (node.gt, node.le) = (0, 0);
+    }
+}
+
+/// Any other number but a split's is a leaf too.
+fn plain_kind(node: &mut Record) {
+    if !node.is_split() {
+        node.kind = Record::LEAF;
     }
 }
 

@@ -6,7 +6,7 @@ use crate::draft::{Draft, plain_settings};
 use crate::logs;
 use crate::rows::Rows;
 use crate::trees::{Shape, Tests, tree};
-use stream::{Job, Kind, Record};
+use stream::{Job, Record};
 
 const JOBS: [fn() -> Job; 14] = [
     equal_gains,
@@ -180,11 +180,7 @@ fn chain(splits: usize) -> Job {
     let mut draft = draft(4, 1, rows_of(&[(0, 0, 1), (0, 1, 2)]));
     let mut rng = crate::rng::Rng::new("chain", 0, 0);
     draft.seed = tree(&mut rng, splits + 1, Shape::LeChain, &Tests { rows: None });
-    for node in draft
-        .seed
-        .iter_mut()
-        .filter(|node| node.kind == Kind::Split)
-    {
+    for node in draft.seed.iter_mut().filter(|node| node.is_split()) {
         (node.prop, node.val) = (2, 0);
     }
     draft.settings.limit = splits as u32 + 2;

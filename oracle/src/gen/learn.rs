@@ -143,10 +143,7 @@ fn copies_apart(rng: &mut Rng, copies: usize) -> Vec<stream::Record> {
     let shape = rng.pick(&[Shape::GtChain, Shape::LeChain]);
     let mut seed = tree(rng, copies, shape, &Tests { rows: None });
     let mut values = 0..copies as i32 - 1;
-    for node in seed
-        .iter_mut()
-        .filter(|node| node.kind == stream::Kind::Split)
-    {
+    for node in seed.iter_mut().filter(|node| node.is_split()) {
         let value = values.next().expect("a tree has a split less than leaves");
         node.prop = 2;
         node.val = match shape {
@@ -336,7 +333,7 @@ fn deep_by_le(rng: &mut Rng) -> Job {
 fn deep_seed(rng: &mut Rng, shape: Shape) -> Job {
     let splits = 22 + rng.below(9);
     let mut seed = tree(rng, splits + 1, shape, &Tests { rows: None });
-    for (depth, node) in (0..).zip(seed.iter_mut().filter(|n| n.kind == stream::Kind::Split)) {
+    for (depth, node) in (0..).zip(seed.iter_mut().filter(|node| node.is_split())) {
         node.prop = 5;
         node.val = match shape {
             Shape::GtChain => depth,

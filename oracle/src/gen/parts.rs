@@ -6,7 +6,7 @@ use crate::draft::{any_fill, any_slack};
 use crate::rng::Rng;
 use crate::rows::{self, EXTREMES};
 use crate::trees::{Shape, Tests, renumbered, tree, with_junk};
-use stream::{ContextsJob, Job, Kind, LookupJob, NodeList, PruneJob, Record, SampleJob, Span};
+use stream::{ContextsJob, Job, LookupJob, NodeList, PruneJob, Record, SampleJob, Span};
 
 fn any_tree(rng: &mut Rng, leaves: usize, tests: &Tests) -> Vec<Record> {
     let shape = rng.pick(&[
@@ -306,14 +306,12 @@ fn price_nodes(rng: &mut Rng, nodes: &mut [Record], price: f32) {
     let mut priced = vec![0.0; nodes.len()];
     for i in (0..nodes.len()).rev() {
         let node = nodes[i];
-        let kept = match node.kind {
-            Kind::Leaf => {
-                priced[i] = rng.within(-80..=800) as f32 / 8.0;
-                nodes[i] = node.with_cost(priced[i]);
-                continue;
-            }
-            Kind::Split => priced[node.gt as usize] + priced[node.le as usize] + price,
-        };
+        if !node.is_split() {
+            priced[i] = rng.within(-80..=800) as f32 / 8.0;
+            nodes[i] = node.with_cost(priced[i]);
+            continue;
+        }
+        let kept = priced[node.gt as usize] + priced[node.le as usize] + price;
         let own = match rng.below(6) {
             0 => f32::INFINITY,
             1 | 2 => kept,

@@ -6,7 +6,7 @@ use crate::rng::Rng;
 use crate::rows;
 use crate::trees::{Shape, Tests, renumbered, tree, with_junk};
 use crate::{At, alone_then_two};
-use stream::{ContextsJob, Job, Kind, NodeList, Record};
+use stream::{ContextsJob, Job, NodeList, Record};
 
 fn any_shape(rng: &mut Rng) -> Shape {
     rng.pick(&[
@@ -114,30 +114,29 @@ const FAULTS: [Fault; 19] = [
     },
 ];
 
-fn any_of<'a>(rng: &mut Rng, seed: &'a mut [Record], kind: Kind) -> &'a mut Record {
-    let of_kind: Vec<usize> = (0..seed.len()).filter(|&i| seed[i].kind == kind).collect();
-    let at = if of_kind.is_empty() {
+fn any_of<'a>(rng: &mut Rng, seed: &'a mut [Record], splits: bool) -> &'a mut Record {
+    let wanted = |&i: &usize| seed[i].is_split() == splits;
+    let wanted: Vec<usize> = (0..seed.len()).filter(wanted).collect();
+    let at = if wanted.is_empty() {
         0
     } else {
-        rng.pick(&of_kind)
+        rng.pick(&wanted)
     };
     &mut seed[at]
 }
 
 fn any_split<'a>(rng: &mut Rng, seed: &'a mut [Record]) -> &'a mut Record {
-    any_of(rng, seed, Kind::Split)
+    any_of(rng, seed, true)
 }
 
 fn any_leaf<'a>(rng: &mut Rng, seed: &'a mut [Record]) -> &'a mut Record {
-    any_of(rng, seed, Kind::Leaf)
+    any_of(rng, seed, false)
 }
 
 /// Points one side of a split elsewhere: by the split's number and the count.
 fn set_child(rng: &mut Rng, seed: &mut [Record], child: fn(u32, u32) -> u32) {
     let count = seed.len() as u32;
-    let splits: Vec<usize> = (0..seed.len())
-        .filter(|&i| seed[i].kind == Kind::Split)
-        .collect();
+    let splits: Vec<usize> = (0..seed.len()).filter(|&i| seed[i].is_split()).collect();
     if splits.is_empty() {
         return;
     }

@@ -2,7 +2,7 @@
 
 use crate::rng::Rng;
 use crate::rows::Rows;
-use stream::{Kind, PROPERTIES, Record};
+use stream::{PROPERTIES, Record};
 
 /// How a tree is shaped.
 #[derive(Clone, Copy)]
@@ -72,7 +72,7 @@ pub fn renumbered(rng: &mut Rng, nodes: &[Record]) -> Vec<Record> {
     while !open.is_empty() {
         let node: usize = open.swap_remove(rng.below(open.len()));
         order.push(node);
-        if nodes[node].kind == Kind::Split {
+        if nodes[node].is_split() {
             open.extend([nodes[node].gt as usize, nodes[node].le as usize]);
         }
     }
@@ -81,7 +81,7 @@ pub fn renumbered(rng: &mut Rng, nodes: &[Record]) -> Vec<Record> {
         number[old] = new as u32;
     }
     let moved = |&old: &usize| match nodes[old] {
-        leaf if leaf.kind == Kind::Leaf => leaf,
+        leaf if !leaf.is_split() => leaf,
         split => Record {
             gt: number[split.gt as usize],
             le: number[split.le as usize],
@@ -104,19 +104,20 @@ pub fn with_junk(rng: &mut Rng, nodes: &mut [Record]) {
             pred: rng.below(30) as u32,
             offset: rng.word() as i32,
         };
-        *node = match node.kind {
-            Kind::Leaf => Record {
-                pred: node.pred,
-                offset: node.offset,
-                ..junk
-            },
-            Kind::Split => Record {
+        *node = if node.is_split() {
+            Record {
                 prop: node.prop,
                 val: node.val,
                 gt: node.gt,
                 le: node.le,
                 ..junk
-            },
+            }
+        } else {
+            Record {
+                pred: node.pred,
+                offset: node.offset,
+                ..junk
+            }
         };
     }
 }

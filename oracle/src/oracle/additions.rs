@@ -4,7 +4,7 @@
 use crate::coder_scratch::CoderScratch;
 use crate::ma_tree::{MaSamples, hooks};
 use crate::refusals::Refusal;
-use stream::{Kind, Learned, Learning, Record, Runs, Span};
+use stream::{Learned, Learning, Record, Runs, Span};
 
 /// "A refusal is the number and the named place; each lent list reads as before."
 pub(crate) fn refused_lists(job: &Learning, refusal: Refusal) -> Learned {
@@ -38,7 +38,7 @@ impl Exit {
             self.settle(scratch);
         }
         let Self { tree, samples } = self;
-        let is_leaf = |node: &&Record| node.kind == Kind::Leaf;
+        let is_leaf = |node: &&Record| !node.is_split();
         Learned {
             number: 0,
             place: 0,
@@ -73,7 +73,7 @@ impl Exit {
             return;
         }
         for (node, span) in self.tree.nodes.iter().zip(&self.tree.spans) {
-            if node.kind == Kind::Leaf {
+            if !node.is_split() {
                 let rows = span.first as usize..span.end as usize;
                 let tokens = &mut self.samples.tok[rows.clone()];
                 hooks::mode_step(tokens, &self.samples.val[rows], scratch);

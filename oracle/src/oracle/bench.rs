@@ -232,7 +232,7 @@ fn pruned_order_is_gt_first() {
     let Answer::Pruned(answer) = answer(Job::Prune(job)) else {
         panic!("no answer to pruning");
     };
-    let leaf_or_split = |node: &Record| (node.kind == Kind::Leaf).then_some(node.offset);
+    let leaf_or_split = |node: &Record| (!node.is_split()).then_some(node.offset);
     let order: Vec<_> = answer.nodes.iter().map(leaf_or_split).collect();
     assert_eq!(order, [None, None, Some(3), Some(4), Some(2)]);
 }

@@ -3,7 +3,7 @@
 //! private parts without making them public.
 
 use super::*;
-use stream::{Kind, Record, Span};
+use stream::{Record, Span};
 
 /// A tree with what stands beside its nodes.
 pub(crate) struct Tree {
@@ -222,17 +222,18 @@ pub(crate) fn prune(nodes: &mut Vec<Record>, spans: &mut Vec<Span>, price: f32) 
 }
 
 fn node_of(record: &Record) -> MaNode {
-    match record.kind {
-        Kind::Leaf => MaNode::Leaf {
-            pred: record.pred,
-            offset: record.offset,
-        },
-        Kind::Split => MaNode::Split {
+    if record.is_split() {
+        MaNode::Split {
             prop: record.prop as u8,
             val: record.val,
             gt: record.gt,
             le: record.le,
-        },
+        }
+    } else {
+        MaNode::Leaf {
+            pred: record.pred,
+            offset: record.offset,
+        }
     }
 }
 

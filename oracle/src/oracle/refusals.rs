@@ -3,7 +3,7 @@
 //! run in the order written; the first true condition gives its number.
 
 use stream::{
-    ContextsJob, Kind, Learning, LookupJob, PREDICTORS, PROPERTIES, Record, SampleJob, Settings,
+    ContextsJob, Learning, LookupJob, PREDICTORS, PROPERTIES, Record, SampleJob, Settings,
 };
 
 /// A number of document 01, and the place that it names (else 0).
@@ -176,7 +176,7 @@ pub(crate) fn fault_of_seed(seed: &[Record]) -> Option<usize> {
 /// of its sides name the node, and whatever else is wrong with it.
 fn parents_of(seed: &[Record]) -> Vec<u32> {
     let mut parents = vec![0; seed.len()];
-    for split in seed.iter().filter(|node| node.kind == Kind::Split) {
+    for split in seed.iter().filter(|node| node.is_split()) {
         let le = (!equal_children(split)).then_some(split.le);
         for child in [Some(split.gt), le].into_iter().flatten() {
             if let Some(parents) = parents.get_mut(child as usize) {
@@ -188,7 +188,7 @@ fn parents_of(seed: &[Record]) -> Vec<u32> {
 }
 
 fn equal_children(node: &Record) -> bool {
-    node.kind == Kind::Split && node.gt == node.le
+    node.is_split() && node.gt == node.le
 }
 
 /// What is wrong with a node for deepening and lookup alike: a property over
@@ -197,9 +197,10 @@ fn equal_children(node: &Record) -> bool {
 fn node_at_fault(nodes: &[Record], node: usize) -> bool {
     let record = &nodes[node];
     let astray = |child: u32| child as usize <= node || child as usize >= nodes.len();
-    match record.kind {
-        Kind::Split => record.prop > 23 || astray(record.gt) || astray(record.le),
-        Kind::Leaf => record.pred > 13,
+    if record.is_split() {
+        record.prop > 23 || astray(record.gt) || astray(record.le)
+    } else {
+        record.pred > 13
     }
 }
 
@@ -211,17 +212,12 @@ fn fault_on_way(nodes: &[Record], properties: &[i32]) -> Option<usize> {
         if node_at_fault(nodes, node) {
             return Some(node);
         }
-        let Record {
-            kind,
-            prop,
-            val,
-            gt,
-            le,
-            ..
-        } = nodes[node];
-        if kind == Kind::Leaf {
+        if !nodes[node].is_split() {
             return None;
         }
+        let Record {
+            prop, val, gt, le, ..
+        } = nodes[node];
         node = if properties[prop as usize] > val {
             gt
         } else {

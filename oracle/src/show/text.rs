@@ -3,7 +3,7 @@
 
 use std::fmt::Write;
 use stream::{
-    Answer, Contexts, ContextsJob, Job, Kind, Learned, Learning, LookupJob, NodeList, PREDICTORS,
+    Answer, Contexts, ContextsJob, Job, Learned, Learning, LookupJob, NodeList, PREDICTORS,
     PROPERTIES, PruneJob, Pruned, Record, SampleJob, Sampled, Settings, Span,
 };
 
@@ -213,8 +213,9 @@ fn node(record: &Record) -> String {
         f32::from_bits(record.cost)
     );
     match record.kind {
-        Kind::Leaf => format!("leaf, {beside}"),
-        Kind::Split => format!("property {prop} > {val} to {gt}, else {le}; {beside}"),
+        Record::SPLIT => format!("property {prop} > {val} to {gt}, else {le}; {beside}"),
+        Record::LEAF => format!("leaf, {beside}"),
+        other => format!("leaf of kind {other}, {beside}"),
     }
 }
 

@@ -9,7 +9,7 @@ mod wire;
 
 pub use answer::{Answer, Contexts, Found, Learned, Pruned, Runs, Sampled, TokenOf, ValueOf};
 pub use job::{ContextsJob, Job, Learning, LookupJob, PruneJob, SampleJob, Settings};
-pub use record::{Kind, NodeList, Record, Span};
+pub use record::{NodeList, Record, Span};
 pub use wire::{Damaged, Message, read_message, write_message};
 
 /// Properties of a row.

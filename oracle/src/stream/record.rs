@@ -2,33 +2,13 @@
 
 use crate::wire::{Reader, Result, Wire, damaged, wire_struct};
 
-#[derive(Clone, Copy, Debug, Eq, PartialEq)]
-pub enum Kind {
-    Leaf,
-    Split,
-}
-
-impl Wire for Kind {
-    const SIZE: usize = 4;
-
-    fn read(from: &mut Reader<'_>) -> Result<Self> {
-        Ok(if from.flag()? {
-            Self::Split
-        } else {
-            Self::Leaf
-        })
-    }
-
-    fn write(&self, to: &mut Vec<u8>) {
-        (*self as u32).write(to);
-    }
-}
-
-/// One node and what stands beside it. The cost is kept as its bit pattern:
-/// unchanged entries must come back bit for bit, whatever they hold.
+/// One node and what stands beside it. Kind and cost are kept as they travel, the
+/// cost as its bit pattern: unchanged entries must come back bit for bit, whatever
+/// they hold.
 #[derive(Clone, Copy, Debug, Eq, PartialEq)]
 pub struct Record {
-    pub kind: Kind,
+    /// `Record::SPLIT` for a split; any other number is a leaf.
+    pub kind: u32,
     pub prop: u32,
     pub val: i32,
     pub gt: u32,
@@ -50,12 +30,20 @@ wire_struct!(Record {
 });
 
 impl Record {
+    /// The kind that is written for a leaf.
+    pub const LEAF: u32 = 0;
+    pub const SPLIT: u32 = 1;
+
     /// What pruning leaves in an entry that it vacates.
     pub const BLANK: Self = Self::leaf(0, 0);
 
+    pub const fn is_split(&self) -> bool {
+        self.kind == Self::SPLIT
+    }
+
     pub const fn leaf(pred: u32, offset: i32) -> Self {
         Self {
-            kind: Kind::Leaf,
+            kind: Self::LEAF,
             prop: 0,
             val: 0,
             gt: 0,
@@ -68,7 +56,7 @@ impl Record {
 
     pub const fn split(prop: u32, val: i32, gt: u32, le: u32) -> Self {
         Self {
-            kind: Kind::Split,
+            kind: Self::SPLIT,
             prop,
             val,
             gt,
@@ -89,7 +77,7 @@ impl Record {
     /// What an entry holds beforehand where the job gives none.
     fn pattern(v: u32) -> Self {
         Self {
-            kind: if v % 2 == 1 { Kind::Split } else { Kind::Leaf },
+            kind: v % 2,
             prop: v % 24,
             val: v as i32,
             gt: v,

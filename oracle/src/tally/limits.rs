@@ -2,7 +2,7 @@
 //! k and k + 1, have answers alike in everything, or but for one more split.
 
 use crate::promises::{Checked, ensure, uses_modes};
-use stream::{Answer, Job, Kind, Learned, Learning, PREDICTORS, PROPERTIES, Record};
+use stream::{Answer, Job, Learned, Learning, PREDICTORS, PROPERTIES, Record};
 
 /// Whether the two were such a pair (and both accepted), or what is broken.
 pub fn check(first: (&Job, &Answer), second: (&Job, &Answer)) -> Result<bool, String> {
@@ -75,7 +75,7 @@ fn became_split(answer: &Learned, next: &Learned, node: usize) -> Checked {
     let count = answer.node_count;
     let (leaf, split) = (answer.nodes[node], next.nodes[node]);
     let expected = Record {
-        kind: Kind::Split,
+        kind: Record::SPLIT,
         prop: split.prop,
         val: split.val,
         gt: count,
@@ -83,12 +83,12 @@ fn became_split(answer: &Learned, next: &Learned, node: usize) -> Checked {
         ..leaf
     };
     ensure(
-        leaf.kind == Kind::Leaf && split == expected,
+        !leaf.is_split() && split == expected,
         "k + 1: a leaf did not become a split as it should",
     )?;
     let new = &next.nodes[count as usize..][..2];
     ensure(
-        new.iter().all(|node| node.kind == Kind::Leaf),
+        !new.iter().any(Record::is_split),
         "k + 1: new nodes are no leaves",
     )
 }

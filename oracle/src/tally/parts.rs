@@ -4,8 +4,8 @@ use crate::promises::{Checked, ensure};
 use crate::rules;
 use std::collections::BTreeSet;
 use stream::{
-    Answer, Contexts, ContextsJob, Found, Job, Kind, LookupJob, PROPERTIES, PruneJob, Pruned,
-    Record, Runs, SampleJob, Sampled, Span, TokenOf, ValueOf,
+    Answer, Contexts, ContextsJob, Found, Job, LookupJob, PROPERTIES, PruneJob, Pruned, Record,
+    Runs, SampleJob, Sampled, Span, TokenOf, ValueOf,
 };
 
 pub fn check(job: &Job, answer: &Answer) -> Checked {
@@ -73,10 +73,9 @@ fn contexts(job: &ContextsJob, answer: &Contexts) -> Checked {
     while !level.is_empty() {
         let mut below = Vec::new();
         for node in level {
-            let Record { kind, gt, le, .. } = nodes[node];
-            if kind == Kind::Split {
+            if nodes[node].is_split() {
                 expected[node] = u32::MAX;
-                below.extend([gt as usize, le as usize]);
+                below.extend([nodes[node].gt, nodes[node].le].map(|child| child as usize));
             } else {
                 expected[node] = count;
                 count += 1;

@@ -3,7 +3,7 @@
 use crate::parts;
 use crate::rules;
 use std::collections::HashMap;
-use stream::{Answer, Job, Kind, Learned, Learning, PREDICTORS, PROPERTIES, Record, Runs, Span};
+use stream::{Answer, Job, Learned, Learning, PREDICTORS, PROPERTIES, Record, Runs, Span};
 
 pub type Checked = Result<(), String>;
 
@@ -88,7 +88,7 @@ pub fn uses_modes(job: &Learning) -> bool {
 fn entries(job: &Learning, answer: &Learned) -> Checked {
     let count = answer.node_count as usize;
     let plain = |node: &Record| {
-        node.kind == Kind::Split || (node.prop, node.val, node.gt, node.le) == (0, 0, 0, 0)
+        node.is_split() || [node.kind, node.prop, node.val as u32, node.gt, node.le] == [0; 5]
     };
     ensure(answer.nodes[..count].iter().all(plain), "a leaf has junk")?;
     let nodes = job.nodes.whole(job.fill);
@@ -175,7 +175,7 @@ fn spans_hold_their_rows(answer: &Learned) -> Checked {
         found[leaf] += 1;
     }
     for (node, rows) in (0..count).zip(found) {
-        let (leaf, span) = (answer.nodes[node].kind == Kind::Leaf, answer.spans[node]);
+        let (leaf, span) = (!answer.nodes[node].is_split(), answer.spans[node]);
         ensure(
             !leaf || span.end - span.first == rows,
             "a span with rows of others",
@@ -193,7 +193,7 @@ fn tokens_are_fresh(answer: &Learned) -> Checked {
         .zip(&answer.spans)
         .take(answer.node_count as usize)
     {
-        if node.kind == Kind::Split {
+        if node.is_split() {
             continue;
         }
         let rows = span.first as usize..span.end as usize;

@@ -2,7 +2,7 @@
 //! more and plainly.
 
 use std::collections::BTreeMap;
-use stream::{Kind, PROPERTIES, Record};
+use stream::{PROPERTIES, Record};
 
 /// Packing's inverse.
 pub fn unpacked(value: u32) -> i32 {
@@ -60,18 +60,18 @@ pub fn mode(residuals: &[i32]) -> i32 {
 pub fn is_sound(nodes: &[Record]) -> bool {
     let mut parents = vec![0; nodes.len()];
     for (i, node) in nodes.iter().enumerate() {
-        match node.kind {
-            Kind::Leaf if node.pred > 13 => return false,
-            Kind::Leaf => {}
-            Kind::Split => {
-                let (gt, le) = (node.gt as usize, node.le as usize);
-                if node.prop > 23 || gt == le || gt.min(le) <= i || gt.max(le) >= nodes.len() {
-                    return false;
-                }
-                parents[gt] += 1;
-                parents[le] += 1;
+        if !node.is_split() {
+            if node.pred > 13 {
+                return false;
             }
+            continue;
         }
+        let (gt, le) = (node.gt as usize, node.le as usize);
+        if node.prop > 23 || gt == le || gt.min(le) <= i || gt.max(le) >= nodes.len() {
+            return false;
+        }
+        parents[gt] += 1;
+        parents[le] += 1;
     }
     nodes.len() % 2 == 1 && parents[0] == 0 && parents[1..].iter().all(|&count| count == 1)
 }
@@ -79,7 +79,7 @@ pub fn is_sound(nodes: &[Record]) -> bool {
 /// The leaf that a row reaches in a sound tree.
 pub fn leaf_of(nodes: &[Record], properties: &[i32; PROPERTIES]) -> usize {
     let mut node = 0;
-    while nodes[node].kind == Kind::Split {
+    while nodes[node].is_split() {
         let split = &nodes[node];
         let above = properties[split.prop as usize] > split.val;
         node = if above { split.gt } else { split.le } as usize;

@@ -31,7 +31,7 @@ fn node(place: &Place<'_>) -> String {
     let rows = place.rows.map_or(String::new(), |rows| {
         format!(r"\n{}", counted(rows as usize, "row", "rows"))
     });
-    if place.node.split {
+    if place.node.is_split() {
         split(place, &rows)
     } else {
         leaf(place, &rows)

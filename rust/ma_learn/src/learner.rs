@@ -3,7 +3,7 @@
 
 use crate::input::LearningJob;
 use ostrovuc::{Learned, MaNode, NodeInfo, Refusal, Room, Settings};
-use stream::{Answer, Kind, Learning, Record, Runs, Span};
+use stream::{Answer, Learning, Record, Runs, Span};
 
 /// Numbers of a waiting leaf, in words.
 const QUEUE_WORDS: usize = 3;
@@ -124,7 +124,7 @@ pub(crate) fn settings_of(settings: &stream::Settings) -> Settings {
 
 fn node_of(record: &Record) -> MaNode {
     MaNode {
-        split: record.kind == Kind::Split,
+        kind: record.kind,
         prop: record.prop,
         val: record.val,
         gt: record.gt,
@@ -139,7 +139,7 @@ fn node_of(record: &Record) -> MaNode {
 
 fn record_of(node: &MaNode) -> Record {
     Record {
-        kind: if node.split { Kind::Split } else { Kind::Leaf },
+        kind: node.kind,
         prop: node.prop,
         val: node.val,
         gt: node.gt,

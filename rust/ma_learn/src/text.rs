@@ -51,7 +51,7 @@ fn line(place: &Place<'_>, width: usize) -> String {
 /// What a split asks, or what a leaf predicts.
 fn what(place: &Place<'_>) -> String {
     let node = place.node;
-    if node.split {
+    if node.is_split() {
         format!("property {} > {}", names::property(node.prop), node.val)
     } else {
         let info = &node.info;

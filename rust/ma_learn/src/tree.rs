@@ -56,7 +56,7 @@ impl<'a> Tree<'a> {
         std::iter::from_fn(move || {
             let (number, depth, side) = waiting.pop()?;
             let node = &nodes[number as usize];
-            if node.split {
+            if node.is_split() {
                 waiting.push((node.le, depth + 1, Side::No));
                 waiting.push((node.gt, depth + 1, Side::Yes));
             }

@@ -4,7 +4,7 @@ mod common;
 
 use common::{Ran, assert_fails, file, run};
 use ostrovuc::Refusal;
-use stream::{Answer, Job, Kind, Learned, Learning, NodeList, Record, Runs, Settings, Span};
+use stream::{Answer, Job, Learned, Learning, NodeList, Record, Runs, Settings, Span};
 
 const MA_LEARN: &str = env!("CARGO_BIN_EXE_ma_learn");
 
@@ -158,7 +158,7 @@ fn raw_has_every_list() {
     };
     // What the job's fill of 7 leaves in entry 3: 7 + 3 is even.
     let untouched = Record {
-        kind: Kind::Leaf,
+        kind: Record::LEAF,
         prop: 10,
         val: 10,
         gt: 10,
@@ -178,17 +178,19 @@ fn raw_has_every_list() {
     assert_eq!((queue, counts), (Runs::of(0, 2), Runs::of(0, 20_000)));
 }
 
+/// A leaf, as every kind but a split's is.
+const NEITHER: Record = Record {
+    kind: 2,
+    ..Record::leaf(5, 0)
+};
+
 #[test]
 fn deepening_grows_below_a_seed() {
     let mut job = small_job();
     job.seed_count = 3;
     job.nodes = NodeList {
         entries: 5,
-        given: vec![
-            Record::split(3, 9, 1, 2),
-            Record::leaf(5, 0),
-            Record::leaf(0, 0),
-        ],
+        given: vec![Record::split(3, 9, 1, 2), NEITHER, Record::leaf(0, 0)],
     };
     (job.span_entries, job.queue_entries, job.settings.limit) = (5, 3, 3);
     let expected = "\
@@ -234,6 +236,7 @@ bits saved      0.0
 fn refusals_have_number_place_and_reason() {
     let mut job = small_job();
     job.tokens[14 * 3] = 200;
+    job.nodes.given = vec![NEITHER];
     let reason = Refusal::Token { row: 3 };
     let message = format!("ma_learn: refused: number 4, place 3: {reason}");
     assert_fails(&learn(&[], job.clone()), 1, &message);
@@ -243,6 +246,7 @@ fn refusals_have_number_place_and_reason() {
     let Answer::Learned(Learned {
         number,
         place,
+        nodes,
         tokens,
         ..
     }) = raw(&ran)
@@ -250,6 +254,7 @@ fn refusals_have_number_place_and_reason() {
         panic!("another kind of answer");
     };
     assert_eq!((number, place, tokens), (4, 3, job.tokens));
+    assert_eq!(nodes[0], NEITHER);
     let mut job = small_job();
     job.settings.limit = 4_097;
     let reason = Refusal::Settings;

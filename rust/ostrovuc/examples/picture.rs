@@ -65,7 +65,7 @@ fn in_words(node: &MaNode) -> String {
     let MaNode {
         prop, val, gt, le, ..
     } = node;
-    if node.split {
+    if node.is_split() {
         format!("property {prop} > {val} leads to {gt}, else to {le}")
     } else {
         let info = node.info;
@@ -129,7 +129,11 @@ fn main() -> Result<(), Refusal> {
     let again = learn(room.lend(&mut props, &mut tok, &mut res), &settings, &logs);
     if let Err(refusal) = again {
         let (number, place) = (refusal.number(), refusal.place());
-        let kind = if room.nodes[0].split { "split" } else { "leaf" };
+        let kind = if room.nodes[0].is_split() {
+            "split"
+        } else {
+            "leaf"
+        };
         println!("token 128 in row 5: refusal {number}, place {place}; node 0 is still a {kind}");
         println!("in words: {refusal}");
     }

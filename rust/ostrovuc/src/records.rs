@@ -9,11 +9,14 @@ pub struct NodeInfo {
     pub offset: i32,
 }
 
-/// A node. A split sends a row whose property is above `val` to `gt`, else to `le`; in a leaf `prop`, `val`, `gt` and `le` are 0.
+/// A node. A split sends a row whose property is above `val` to `gt`, else to `le`. A leaf has no use for `prop`, `val`,
+/// `gt` and `le`: they are written as 0 and never read. Any bit pattern may stand in any field, and a record that a call
+/// does not write keeps it.
 #[repr(C)]
 #[derive(Clone, Copy, Debug, Default, PartialEq)]
 pub struct MaNode {
-    pub split: bool,
+    /// `MaNode::SPLIT` for a split; any other number is a leaf.
+    pub kind: u32,
     pub prop: u32,
     pub val: i32,
     pub gt: u32,
@@ -22,11 +25,22 @@ pub struct MaNode {
 }
 
 impl MaNode {
+    /// The kind that learning and deepening give a leaf.
+    pub const LEAF: u32 = 0;
+    /// The kind of a split.
+    pub const SPLIT: u32 = 1;
+
+    /// Whether it is a split; else it is a leaf, whatever its kind.
+    #[inline]
+    pub const fn is_split(&self) -> bool {
+        self.kind == Self::SPLIT
+    }
+
     /// A leaf with its predictor and offset, cost 0.
     pub const fn leaf(pred: u32, offset: i32) -> Self {
         let cost = 0.0;
         Self {
-            split: false,
+            kind: Self::LEAF,
             prop: 0,
             val: 0,
             gt: 0,
@@ -38,7 +52,7 @@ impl MaNode {
     /// A split by a property, with nothing beside it.
     pub const fn split(prop: u32, val: i32, gt: u32, le: u32) -> Self {
         Self {
-            split: true,
+            kind: Self::SPLIT,
             prop,
             val,
             gt,

@@ -44,7 +44,7 @@ fn learning_splits_by_the_column() {
     let [root, above, below] = job.room.nodes[..] else {
         panic!("as many nodes as two leaves take");
     };
-    assert!(root.split && !above.split && !below.split);
+    assert_eq!([root, above, below].map(|node| node.kind), [1, 0, 0]);
     assert_eq!((root.prop, root.val, root.gt, root.le), (3, 0, 1, 2));
     assert_eq!((above.info.pred, above.info.offset), (0, 20));
     assert_eq!((below.info.pred, below.info.offset), (0, 100));
@@ -57,7 +57,7 @@ fn spans_hold_the_rows_that_look_up_to_them() {
     let tree = job.learn().expect("a sound job");
     assert_eq!(tree.leaves, 4);
     for node in 0..tree.nodes {
-        if !job.room.nodes[node as usize].split {
+        if !job.room.nodes[node as usize].is_split() {
             let within = rows_within(&job, span(&job, node as usize));
             assert_eq!(within, rows_reaching(&job, tree.nodes, node));
         }
@@ -69,7 +69,7 @@ fn tokens_are_fresh_against_the_offsets() {
     let mut job = Job::new();
     let tree = job.learn().expect("a sound job");
     for (n, node) in job.room.nodes[..tree.nodes as usize].iter().enumerate() {
-        if !node.split && node.info.pred == 0 {
+        if !node.is_split() && node.info.pred == 0 {
             for row in span(&job, n) {
                 let packed = ostrovuc::pack_signed(job.res[row] - node.info.offset);
                 let token = ostrovuc::uint_encode(packed).token;
@@ -197,6 +197,37 @@ fn contexts_go_breadth_first() {
     assert_eq!(counted, Ok(3));
     assert_eq!(contexts, [u32::MAX, u32::MAX, 0, 1, 2, MARK, MARK]);
     assert_eq!(queue, [0; 6]);
+}
+
+#[test]
+fn any_other_kind_is_a_leaf() {
+    for kind in [2, 0x100, 0x101, u32::MAX] {
+        let nodes = FIVE.map(|node| match node.is_split() {
+            true => node,
+            false => MaNode { kind, ..node },
+        });
+        let (mut contexts, mut queue) = ([MARK; 5], [MARK; 5]);
+        let found = lookup(&nodes, 5, &[0; PROPERTIES]);
+        assert_eq!(found, Ok(Leaf { leaf: 2, pred: 5 }));
+        let counted = leaf_contexts(&nodes, 5, &mut contexts, &mut queue);
+        assert_eq!(counted, Ok(3));
+        assert_eq!(contexts, [u32::MAX, u32::MAX, 0, 1, 2]);
+
+        let root = MaNode { kind, ..FIVE[0] };
+        let found = lookup(&[root], 1, &[0; PROPERTIES]);
+        assert_eq!(found, Ok(Leaf { leaf: 0, pred: 0 }));
+    }
+}
+
+/// Learning and deepening write a leaf's kind as 0, whatever it was in the seed.
+#[test]
+fn a_seed_of_any_other_kind_is_a_leaf() {
+    let mut learned = Job::new();
+    let tree = learned.learn();
+    let mut deepened = Job::new();
+    deepened.plant(&[MaNode { kind: 2, ..FIVE[0] }]);
+    assert_eq!(deepened.deepen(1), tree);
+    assert_eq!(deepened, learned);
 }
 
 #[test]

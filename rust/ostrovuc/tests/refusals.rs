@@ -123,6 +123,8 @@ fn seeds_that_are_no_trees() {
     seed_refused(0, 2, &[MaNode::split(3, 0, 1, 1), leaf]);
     seed_refused(0, 2, &[split, leaf]);
     seed_refused(3, 4, &[split, leaf, leaf, leaf]);
+    let neither = MaNode { kind: 2, ..split };
+    seed_refused(1, 3, &[neither, leaf, leaf]);
 }
 
 #[test]

@@ -1,7 +1,7 @@
 //! The shrinker on made-up differences: what is left is what the difference asks for, and nothing else.
 
 use super::*;
-use stream::{Kind, Learning, NodeList, PREDICTORS, PROPERTIES, PruneJob, Record, Settings, Span};
+use stream::{Learning, NodeList, PREDICTORS, PROPERTIES, PruneJob, Record, Settings, Span};
 
 const ROWS: usize = 37;
 
@@ -144,13 +144,11 @@ fn seeds() {
     let differs = |job: &Job| {
         let Job::Deepen(job) = job else { return false };
         let nodes = &job.nodes.given;
-        let split = nodes
-            .iter()
-            .find(|node| node.kind == Kind::Split && node.prop == 12);
+        let split = nodes.iter().find(|node| node.is_split() && node.prop == 12);
         let child = |number: u32| {
             nodes
                 .get(number as usize)
-                .is_some_and(|node| node.kind == Kind::Leaf)
+                .is_some_and(|node| !node.is_split())
         };
         job.seed_count as usize == nodes.len()
             && split.is_some_and(|split| {

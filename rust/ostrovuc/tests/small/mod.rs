@@ -94,7 +94,10 @@ fn tokens(row: usize) -> [u8; PREDICTORS] {
 }
 
 fn marked(mut room: Room) -> Room {
-    let node = MaNode::split(MARK, 1, MARK, MARK);
+    let node = MaNode {
+        kind: MARK,
+        ..MaNode::split(MARK, 1, MARK, MARK)
+    };
     room.nodes.fill(node);
     room.spans.fill(MARK);
     room.queue_words.fill(MARK);
