@@ -271,7 +271,7 @@ static void answer_value(struct reader *from, struct writer *to) {
         uint32_t token = read_word(from), extra = read_word(from);
         ostrovuc_read read = ostrovuc_token_value(token, extra);
         write_word(to, read.number);
-        write_word(to, 0);
+        write_word(to, read.place);
         write_word(to, read.value);
     }
 }

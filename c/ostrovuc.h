@@ -129,6 +129,7 @@ typedef struct ostrovuc_encoding {
 /* The value of a token and its extra bits. */
 typedef struct ostrovuc_read {
     uint32_t number;
+    uint32_t place;
     uint32_t value;
 } ostrovuc_read;
 
@@ -141,7 +142,7 @@ OSTROVUC_HOLDS(sizeof(ostrovuc_learned_tree) == 32, "four words and two doubles"
 OSTROVUC_HOLDS(sizeof(ostrovuc_leaf) == 16, "four words");
 OSTROVUC_HOLDS(sizeof(ostrovuc_count) == 12, "three words");
 OSTROVUC_HOLDS(sizeof(ostrovuc_encoding) == 12, "three words");
-OSTROVUC_HOLDS(sizeof(ostrovuc_read) == 8, "two words");
+OSTROVUC_HOLDS(sizeof(ostrovuc_read) == 12, "three words");
 
 /*
  * Lengths of the lent lists, in entries, for settings within their ranges: any shorter list is refused, longer ones will do. `leaves` is the settings'
@@ -244,7 +245,7 @@ uint32_t ostrovuc_pack_signed(int32_t value);
 /* The token of a value and its extra bits. Refuses nothing. */
 ostrovuc_encoding ostrovuc_uint_encode(uint32_t value);
 
-/* The value of a token and its extra bits. Refusal 10. */
+/* The value of a token and its extra bits. Refusal 10, which names no place. */
 ostrovuc_read ostrovuc_token_value(uint32_t token, uint32_t extra);
 
 #ifdef __cplusplus

@@ -35,6 +35,7 @@ pub struct Count {
 #[repr(C)]
 pub struct Read {
     pub number: u32,
+    pub place: u32,
     pub value: u32,
 }
 

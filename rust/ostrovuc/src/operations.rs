@@ -176,5 +176,5 @@ pub fn uint_encode(value: u32) -> Encoding {
 #[inline]
 pub fn token_value(token: u32, extra: u32) -> Result<u32, Refusal> {
     let read = c::ostrovuc_token_value(token, extra);
-    Refusal::unless_accepted(read.number, 0, read.value)
+    Refusal::unless_accepted(read.number, read.place, read.value)
 }

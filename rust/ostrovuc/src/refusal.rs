@@ -56,7 +56,7 @@ impl Refusal {
 
     /// `answer` where the number is 0, else the refusal that the number says.
     pub(crate) fn unless_accepted<T>(number: u32, place: u32, answer: T) -> Result<T, Self> {
-        Err(match number {
+        let refusal = match number {
             0 => return Ok(answer),
             1 => Self::Settings,
             2 => Self::NoPredictor,
@@ -69,7 +69,9 @@ impl Refusal {
             9 => Self::Properties,
             10 => Self::TokenValue,
             other => unreachable!("the library has no refusal {other}"),
-        })
+        };
+        debug_assert_eq!(refusal.place(), place, "0 where nothing is named");
+        Err(refusal)
     }
 }
 

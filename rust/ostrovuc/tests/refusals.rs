@@ -216,7 +216,9 @@ fn sampling() {
 #[test]
 fn values_of_tokens() {
     for (token, extra) in [(128, 0), (u32::MAX, 0), (15, 1), (16, 4), (127, 1 << 29)] {
-        assert_eq!(token_value(token, extra), Err(Refusal::TokenValue));
+        let refusal = token_value(token, extra).expect_err("no value");
+        assert_eq!(refusal, Refusal::TokenValue);
+        assert_eq!((refusal.number(), refusal.place()), (10, 0));
     }
 }
 
