@@ -146,7 +146,8 @@ OSTROVUC_HOLDS(sizeof(ostrovuc_read) == 12, "three words");
 
 /*
  * Lengths of the lent lists, in entries, for settings within their ranges: any shorter list is refused, longer ones will do. `leaves` is the settings'
- * max_leaves and `seed` the node count of the seed, 0 for learning.
+ * max_leaves and `seed` the node count of the seed, 0 for learning. A seed that has 0 nodes is refused at any lengths:
+ * with 8, or with 7 if there are fewer counts than rows.
  */
 
 /* Nodes: as many as the tree can grow to, and the seed. */
@@ -173,13 +174,16 @@ static inline size_t ostrovuc_queue_gains_length(uint32_t leaves) {
     return leaves;
 }
 
-/* Count space: for the settings, and where there is a seed for its rows and nodes. */
+/*
+ * Count space: 4,096 numbers and what flat bits (the tokens of 14 predictors in four groups of rows) or the scoring of
+ * a property take beyond them; or, where there is a seed, what ordering its rows by leaf takes, if that is more.
+ */
 static inline size_t ostrovuc_counts_length(const ostrovuc_settings *s, size_t rows, uint32_t seed) {
     size_t alphabet = s->alphabet;
     size_t sides = s->side_preds == 0 ? 1 : s->side_preds;
-    size_t nodes = 56 * alphabet;
+    size_t flat = 56 * alphabet;
     size_t scores = 14 * alphabet + sides * alphabet * ((size_t)s->max_candidates + 2);
-    size_t learning = 4096 + (nodes < scores ? scores : nodes);
+    size_t learning = 4096 + (flat < scores ? scores : flat);
     size_t ordering = seed == 0 ? 0 : rows + 2 * (size_t)seed;
     return learning < ordering ? ordering : learning;
 }

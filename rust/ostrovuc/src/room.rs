@@ -71,7 +71,7 @@ fn grown(settings: &Settings) -> usize {
     2 * leaves(settings) - 1
 }
 
-/// Count space: 4,096 numbers, and what a node's histograms or the scoring of a property take.
+/// Count space: 4,096 numbers, and what flat bits or the scoring of a property take.
 fn counts(settings: &Settings) -> usize {
     let alphabet = settings.alphabet.clamp(1, 256) as usize;
     let sides = settings.side_preds.clamp(1, 14) as usize;
