@@ -41,8 +41,9 @@ static void fill_rows(struct rows *rows) {
     }
 }
 
+/* A list may be lent just as malloc gives it. */
 static void *list(size_t length, size_t entry) {
-    void *entries = calloc(length, entry);
+    void *entries = malloc(length * entry);
     if (entries == NULL) {
         fputs("example: no memory\n", stderr);
         exit(1);

@@ -5,11 +5,11 @@
  *
  * The library allocates nothing and keeps nothing between calls, so calls may run at the same time on lists of their own; a call takes up to 1 MB of stack.
  * Every list is lent by the caller, as a pointer and a length in entries. The lists of a call do not overlap; a list of length 0 may have any pointer.
- * Whatever lists and numbers hold, the answer is a finished tree or a refusal: a call asks nothing of its caller but that pointers and lengths are true and that
- * each bool is true or false.
+ * Whatever bytes the lists hold and whatever the numbers are, the answer is a finished tree or a refusal: a call asks
+ * nothing of its caller but that pointers and lengths are true and that the settings' three bools are true or false.
  *
- * An answer's `number` is 0 if the call was accepted, else the refusal (enum ostrovuc_number), with its `place`, which is 0 where nothing is named. A refusal
- * leaves every lent list as it was, and the rest of its answer is 0.
+ * An answer's `number` is 0 if the call was accepted, else the refusal (enum ostrovuc_number), with its `place`, which
+ * is 0 where nothing is named. A refusal leaves every byte of every lent list as it was; the rest of its answer is 0.
  */
 #ifndef OSTROVUC_H
 #define OSTROVUC_H
@@ -206,8 +206,9 @@ static inline size_t ostrovuc_logs_length(size_t rows) {
  *   queue_*   ostrovuc_queue_*_length(max_leaves): zeros after
  *   counts    ostrovuc_counts_length(&s, rows, 0): zeros after
  *
- * What the lists other than props, tok, res and logs hold beforehand does not matter. Entries of nodes and spans past those written stay; those that pruning
- * vacates hold a leaf of predictor 0 and the span (0, 0).
+ * What nodes, spans, queue_* and counts hold beforehand does not matter: any bytes, as memory straight from malloc has
+ * them. Entries of nodes and spans past those written keep every byte; those that pruning vacates hold a leaf of
+ * predictor 0 and the span (0, 0).
  */
 ostrovuc_learned_tree ostrovuc_learn(
     ostrovuc_ma_node *nodes, size_t nodes_length, ostrovuc_settings s, const float *logs, size_t logs_length, int32_t *props, size_t props_length,
@@ -216,9 +217,10 @@ ostrovuc_learned_tree ostrovuc_learn(
     size_t counts_length);
 
 /*
- * Deepens the seed, the tree of the first `count` nodes. Refusals 1 to 8, in this order. Lists as for learning, at the lengths for a seed of `count` nodes. The
- * seed's splits stay, with infinite cost, predictor and offset 0 and the span (0, 0); its leaves without rows keep predictor and offset, with cost 0 and the span
- * (0, 0).
+ * Deepens the seed, the tree of the first `count` nodes. Refusals 1 to 8, in this order. Lists as for learning, at the
+ * lengths for a seed of `count` nodes. In the seed's records a split's info and a leaf's cost may be anything too. The
+ * seed's splits stay, with infinite cost, predictor and offset 0 and the span (0, 0); its leaves without rows keep
+ * predictor and offset, with cost 0 and the span (0, 0).
  */
 ostrovuc_learned_tree ostrovuc_deepen(
     ostrovuc_ma_node *nodes, size_t nodes_length, ostrovuc_settings s, uint32_t count, const float *logs, size_t logs_length, int32_t *props,
@@ -233,8 +235,9 @@ ostrovuc_learned_tree ostrovuc_deepen(
 ostrovuc_leaf ostrovuc_lookup(const ostrovuc_ma_node *nodes, size_t nodes_length, uint32_t count, const int32_t *props, size_t props_length);
 
 /*
- * Numbers the leaves breadth first, gt before le: contexts[n] is the context of leaf n, OSTROVUC_NO_CONTEXT for a split. `contexts` and `queue` have at least
- * `count` entries; the queue holds zeros after. Refusals 8, then 7.
+ * Numbers the leaves breadth first, gt before le: contexts[n] is the context of leaf n, OSTROVUC_NO_CONTEXT for a
+ * split. `contexts` and `queue` have at least `count` entries, with any bytes in them; contexts past `count` stay, the
+ * queue holds zeros after. Refusals 8, then 7.
  */
 ostrovuc_count ostrovuc_leaf_contexts(
     const ostrovuc_ma_node *nodes, size_t nodes_length, uint32_t count, uint32_t *contexts, size_t contexts_length, uint32_t *queue,
