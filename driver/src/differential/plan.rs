@@ -37,8 +37,10 @@ const FAMILIES: &[Family] = &[
     // Deepening.
     family("seeds", 24_000, 420), family("seeds-large", 1_000, 5_500), family("seed-faults", 12_000, 120), family("seed-room", 485, 7_000),
     // The small operations.
-    family("lookup", 12_000, 90), family("contexts", 10_000, 280), family("sampling", 10_000, 200), family("pack", 8_000, 50),
-    family("token", 8_000, 35), family("value", 8_000, 35),
+    family("lookup", 12_000, 90), family("contexts", 10_000, 280), family("sampling", 10_000, 200), family("pack", 6_000, 50),
+    family("token", 6_000, 35), family("value", 6_000, 35),
+    // Deepening and two of these by turns.
+    family("kinds", 6_000, 200),
     // Single parts of the learner.
     family("mode", 7_000, 40), family("candidates", 6_000, 220), family("partition", 6_000, 40), family("columns", 900, 4_000),
     family("prune", 8_000, 60),

@@ -7,6 +7,7 @@
 
 mod agree;
 mod draft;
+mod kinds;
 mod learn;
 mod logs;
 mod parts;
@@ -95,6 +96,7 @@ const FAMILIES: &[Family] = &[
     family("seed-faults", "every fault of a seed alone and two at once, deepening and contexts", seeds::seed_faults),
     family("seed-room", "deepening's own bound on count space, a count of 0 included", refusals::seed_room),
     family("refusals", "every refusal of learning and deepening alone and two at once", refusals::refusals),
+    family("kinds", "deepening, lookup and contexts over nodes of a kind that is neither 0 nor 1", kinds::kinds),
     family("lookup", "lookup, with faults on the way and off it", parts::lookup),
     family("contexts", "leaf contexts, with faults and short lists", parts::contexts),
     family("sampling", "even sampling, rows and targets to beyond 2^32", parts::sampling),
