@@ -1,3 +1,4 @@
+mod Computing
 pub mod Bench
 pub mod Agree
 pub mod Lawful

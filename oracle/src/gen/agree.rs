@@ -1,5 +1,8 @@
-//! A handful of tiny jobs, small enough for a proof checker to compute: at most
-//! eight rows and four leaves, each there for one thing that it shows.
+//! Tiny jobs, small enough for a proof checker to compute: at most eight rows,
+//! each there for one thing that it shows.
+
+mod choices;
+mod refused;
 
 use crate::At;
 use crate::draft::{Draft, plain_settings};
@@ -25,8 +28,10 @@ const JOBS: [fn() -> Job; 14] = [
     no_rows,
 ];
 
+/// The fourteen, then those of choices.rs and of refused.rs, again and again.
 pub fn agree(at: At) -> Job {
-    JOBS[at.index as usize % JOBS.len()]()
+    let all = [&JOBS, choices::JOBS, refused::JOBS].concat();
+    all[at.index as usize % all.len()]()
 }
 
 /// Rows by columns: properties 2 and 9, one token for all predictors.

@@ -108,7 +108,7 @@ const FAMILIES: &[Family] = &[
     family("partition", "the partition alone", parts::partition),
     family("columns", "mode step, candidates and partition by turns, 255 to 65,536 rows", parts::columns),
     family("prune", "pruning alone, at prices above 0, with exact ties", parts::prune),
-    family("agree", "fourteen tiny jobs fit for a proof checker, again and again", agree::agree),
+    family("agree", "63 tiny jobs fit for a proof checker, again and again", agree::agree),
 ];
 
 const USAGE: &str = "usage: gen FAMILY SEED COUNT [FIRST] > jobs, or gen --list";

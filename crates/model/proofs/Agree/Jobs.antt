@@ -1,5 +1,5 @@
 -- Jobs of the stream and how the model answers them. Numbers stand as in the job stream: 32-bit words, floats as their bit patterns. Assumes nothing.
-use Prim.Native.Nat.{ℕ, _+_, _-_, _%_, _^_}
+use Prim.Native.Nat.{ℕ, zero, suc, _+_, _-_, _%_, _^_}
 use mathlib.Core.Bool.{cond}
 use mathlib.Core.List.{List, [], _∷_, _++_, map}
 use mathlib.Core.Option.{none}
@@ -37,6 +37,11 @@ f32 = ofBits binary32
 abbrev pub f64 : ℕ → Float
 f64 = ofBits binary64
 
+-- x, x + step, .., n numbers in all, and then the rest
+abbrev pub run : ℕ → ℕ → ℕ → List ℕ → List ℕ
+run zero x step rest = rest
+run (suc n) x step rest = x ∷ run n (x + step) step rest
+
 -- a record of eight words
 abbrev pub node : ℕ → ℕ → ℕ → ℕ → ℕ → ℕ → ℕ → ℕ → Stored singles
 node kind prop val gt le cost pred offset =
@@ -52,8 +57,8 @@ fillNodes fill first count = map (λ (i : ℕ). fillNode (fill + i)) (range firs
 abbrev pub span : ℕ → ℕ → Span
 span first end = record { first = first; end = end }
 
-abbrev pub fillSpans : ℕ → ℕ → List Span
-fillSpans fill count = map (λ (i : ℕ). span ((fill + i) % 2 ^ 32) ((fill + i + 1) % 2 ^ 32)) (range 0 count)
+abbrev pub fillSpans : ℕ → ℕ → ℕ → List Span
+fillSpans fill first count = map (λ (i : ℕ). span ((fill + i) % 2 ^ 32) ((fill + i + 1) % 2 ^ 32)) (range first count)
 
 abbrev pub fillWaiting : ℕ → Waiting singles
 fillWaiting v = record { node = v; depth = v; offer = record { prop = v; val = word v; gain = f32 (v % 2 ^ 30) } }
@@ -82,7 +87,7 @@ lent props toks res nodes spans queue counts fill =
       toks = toks;
       res = words res;
       nodes = nodes;
-      spans = fillSpans fill spans;
+      spans = fillSpans fill 0 spans;
       queue = replicate queue (fillWaiting fill);
       counts = replicate counts fill;
     }
