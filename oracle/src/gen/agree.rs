@@ -11,7 +11,7 @@ use crate::rows::Rows;
 use crate::trees::{Shape, Tests, tree};
 use stream::{Job, Record};
 
-const JOBS: [fn() -> Job; 14] = [
+const JOBS: &[fn() -> Job] = &[
     equal_gains,
     equal_gains_in_a_seed,
     folded_on_a_tie,
@@ -30,7 +30,7 @@ const JOBS: [fn() -> Job; 14] = [
 
 /// The fourteen, then those of choices.rs and of refused.rs, again and again.
 pub fn agree(at: At) -> Job {
-    let all = [&JOBS, choices::JOBS, refused::JOBS].concat();
+    let all = [JOBS, choices::JOBS, refused::JOBS].concat();
     all[at.index as usize % all.len()]()
 }
 

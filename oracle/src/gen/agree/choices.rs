@@ -28,8 +28,8 @@ fn line(rows: usize) -> Rows {
     made
 }
 
-/// As many tokens and leaves as there are rows; one predictor.
-fn lined_up(rows: Rows) -> Draft {
+/// A token and room for a leaf for each row; one predictor.
+fn a_leaf_each(rows: Rows) -> Draft {
     let mut draft = draft(rows.len() as u32, rows.len() as u32, rows);
     draft.settings.allowed = 1;
     draft
@@ -43,7 +43,7 @@ fn properties_in_order() -> Job {
         rows.set_column(property, |row| i32::from(row == alone));
     }
     rows.set_tokens(|row| row as u8);
-    learn(lined_up(rows))
+    learn(a_leaf_each(rows))
 }
 
 /// Predictor 6 would cost nothing, and property 15 would part the rows.
@@ -51,16 +51,16 @@ fn weighted_off() -> Job {
     let mut rows = Rows::zeros(2);
     rows.set_column(15, |row| row as i32);
     rows.tokens[1][0] = 1;
-    let mut draft = lined_up(rows);
+    let mut draft = a_leaf_each(rows);
     draft.settings.weighted = false;
-    draft.settings.allowed = 1 << 0 | 1 << 6;
+    draft.settings.allowed = 1 | 1 << 6;
     learn(draft)
 }
 
 /// Three rows are scored and two are not. Of the two thresholds, which cost the
 /// same, the first is taken.
 fn rows_at_the_smallest_node() -> Job {
-    let mut draft = lined_up(line(3));
+    let mut draft = a_leaf_each(line(3));
     draft.settings.smallest_node = 3;
     learn(draft)
 }
@@ -70,7 +70,7 @@ fn cost_at_the_split_cost() -> Job {
     let mut rows = Rows::zeros(3);
     rows.set_column(2, |row| i32::from(row == 2));
     rows.set_tokens(|row| u8::from(row == 1));
-    let mut draft = lined_up(rows);
+    let mut draft = a_leaf_each(rows);
     draft.logs = vec![0.0, 1.0, 0.0, 1.0];
     draft.settings.split_cost = 2.0;
     learn(draft)
@@ -78,7 +78,7 @@ fn cost_at_the_split_cost() -> Job {
 
 /// Three rows cost 4.5 bits together and 2 apart.
 fn gain_of_nothing() -> Job {
-    let mut draft = lined_up(line(3));
+    let mut draft = a_leaf_each(line(3));
     draft.settings.split_cost = 2.5;
     learn(draft)
 }
@@ -89,7 +89,7 @@ fn gain_of_nothing() -> Job {
 fn gain_by_a_rounding() -> Job {
     let mut rows = line(2);
     rows.set_tokens(|row| 16 + row as u8);
-    let mut draft = lined_up(rows);
+    let mut draft = a_leaf_each(rows);
     let half = 1.0 / (1 << 22) as f32;
     draft.settings.alphabet = 18;
     draft.settings.split_cost = 1.5 * half;
@@ -132,7 +132,7 @@ fn one_modal_row(predictor: u32) -> Draft {
     let mut rows = Rows::zeros(1);
     rows.set_tokens(|_| 100);
     rows.set_residuals(|_| 3);
-    let mut draft = lined_up(rows);
+    let mut draft = a_leaf_each(rows);
     draft.settings.alphabet = 128;
     draft.settings.modal_offsets = true;
     draft.settings.allowed = 1 << predictor;
@@ -156,7 +156,7 @@ fn groups_of_flat_bits() -> Job {
     let mut rows = Rows::zeros(3);
     rows.set_column(0, |row| 4 * row as i32 - 1);
     rows.set_tokens(|row| row as u8 % 2);
-    let mut draft = lined_up(rows);
+    let mut draft = a_leaf_each(rows);
     draft.settings.limit = 1;
     learn(draft)
 }
@@ -177,7 +177,7 @@ fn zigzag(splits: u32) -> Vec<Record> {
 
 /// The leaf at depth 25 is split. Both parts would offer a split themselves.
 fn new_leaves_at_depth_26() -> Job {
-    let mut draft = lined_up(line(4));
+    let mut draft = a_leaf_each(line(4));
     draft.seed = zigzag(25);
     draft.settings.limit = 28;
     Job::Deepen(draft.fitted())
