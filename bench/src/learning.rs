@@ -1,7 +1,7 @@
 //! Learning whole: the tree, its bits, the spans and the rows as they end up.
 
 use crate::coder_scratch::CoderScratch;
-use crate::ma_tree::{MaLearnParams, MaProperties, MaSamples, hooks};
+use crate::ma_tree::{MaProperties, MaSamples, hooks};
 use crate::sheet::Sheet;
 use crate::timing::{Run, row, timed};
 use driver::records;
@@ -44,8 +44,7 @@ pub fn learning(sheet: &Sheet, settings: &Settings) {
 }
 
 fn original(samples: MaSamples, settings: &Settings, scratch: &mut CoderScratch) -> Run<Outcome> {
-    let params = params_of(settings);
-    let (time, samples, tree) = timed(samples, |s| hooks::learn(s, params, scratch));
+    let (time, samples, tree) = timed(samples, |s| hooks::learn(s, settings, scratch));
     let span = |&Span { first, end }| [first, end];
     let outcome = Outcome {
         bits: [tree.estimated_bits.to_bits(), tree.flat_bits.to_bits()],
@@ -72,21 +71,6 @@ fn port(sheet: &Sheet, settings: &Settings, room: &mut Room) -> Run<Outcome> {
         res: rows.res,
     };
     (time, outcome)
-}
-
-fn params_of(s: &Settings) -> MaLearnParams {
-    MaLearnParams {
-        alphabet: s.alphabet as usize,
-        max_leaves: s.limit as usize,
-        split_cost_bits: s.split_cost,
-        min_node: s.smallest_node as usize,
-        allow_wp: s.weighted,
-        allowed_preds: s.allowed,
-        side_preds: s.side_predictors as usize,
-        max_candidates: s.candidates as usize,
-        modal_offsets: s.modal_offsets,
-        prune_leaf_bits: s.price,
-    }
 }
 
 /// Settling is document 01's addition, which the original does not have, and is off on both sides.

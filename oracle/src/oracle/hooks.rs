@@ -3,7 +3,7 @@
 //! private parts without making them public.
 
 use super::*;
-use stream::{Record, Span};
+use stream::{Record, Settings, Span};
 
 /// A tree with what stands beside its nodes.
 pub(crate) struct Tree {
@@ -29,13 +29,13 @@ impl Tree {
 
 pub(crate) fn learn(
     samples: &mut MaSamples,
-    params: MaLearnParams,
+    settings: &Settings,
     scratch: &mut CoderScratch,
 ) -> Tree {
     renew_logs(scratch);
     Tree::of(learn_ma_tree_in_place(
         samples,
-        params,
+        params_of(settings),
         &ThreadPool,
         scratch,
     ))
@@ -43,13 +43,30 @@ pub(crate) fn learn(
 
 pub(crate) fn deepen(
     samples: MaSamples,
-    params: MaLearnParams,
+    settings: &Settings,
     seed: &[Record],
     scratch: &mut CoderScratch,
 ) -> (Tree, MaSamples) {
     renew_logs(scratch);
+    let params = params_of(settings);
     let (tree, samples) = deepen_ma_tree(samples, params, tree_of(seed), &ThreadPool, scratch);
     (Tree::of(tree), samples)
+}
+
+/// The settings that the original has: settling is document 01's addition.
+fn params_of(s: &Settings) -> MaLearnParams {
+    MaLearnParams {
+        alphabet: s.alphabet as usize,
+        max_leaves: s.limit as usize,
+        split_cost_bits: s.split_cost,
+        min_node: s.smallest_node as usize,
+        allow_wp: s.weighted,
+        allowed_preds: s.allowed,
+        side_preds: s.side_predictors as usize,
+        max_candidates: s.candidates as usize,
+        modal_offsets: s.modal_offsets,
+        prune_leaf_bits: s.price,
+    }
 }
 
 /// The original keeps the first job's logarithms of counts below 4,096 for ever

@@ -6,12 +6,11 @@ use crate::additions::{Exit, refused_lists};
 use crate::coder_scratch::CoderScratch;
 use crate::entropy::{pack_signed, uint_encode};
 use crate::lossless::leaf_contexts;
-use crate::ma_tree::{MaLearnParams, MaProperties, MaSamples, hooks};
+use crate::ma_tree::{MaProperties, MaSamples, hooks};
 use crate::refusals::{self, Refusal};
 use stream::{
     Answer, Contexts, ContextsJob, Damaged, Found, Job, Learned, Learning, LookupJob, PREDICTORS,
-    PROPERTIES, PruneJob, Pruned, Record, Runs, SampleJob, Sampled, Settings, Span, TokenOf,
-    ValueOf,
+    PROPERTIES, PruneJob, Pruned, Record, Runs, SampleJob, Sampled, Span, TokenOf, ValueOf,
 };
 
 pub(crate) fn answer(job: Job, scratch: &mut CoderScratch) -> Result<Answer, Damaged> {
@@ -42,7 +41,7 @@ fn learn(job: &Learning, scratch: &mut CoderScratch) -> Learned {
     }
     let mut samples = samples_of(job);
     adaptive_quant::lend(&job.logarithms, samples.len());
-    let tree = hooks::learn(&mut samples, params_of(&job.settings), scratch);
+    let tree = hooks::learn(&mut samples, &job.settings, scratch);
     Exit { tree, samples }.lists(job, scratch)
 }
 
@@ -54,23 +53,8 @@ fn deepen(job: &Learning, scratch: &mut CoderScratch) -> Learned {
     let samples = samples_of(job);
     adaptive_quant::lend(&job.logarithms, samples.len());
     let seed = &nodes[..job.seed_count as usize];
-    let (tree, samples) = hooks::deepen(samples, params_of(&job.settings), seed, scratch);
+    let (tree, samples) = hooks::deepen(samples, &job.settings, seed, scratch);
     Exit { tree, samples }.lists(job, scratch)
-}
-
-fn params_of(s: &Settings) -> MaLearnParams {
-    MaLearnParams {
-        alphabet: s.alphabet as usize,
-        max_leaves: s.limit as usize,
-        split_cost_bits: s.split_cost,
-        min_node: s.smallest_node as usize,
-        allow_wp: s.weighted,
-        allowed_preds: s.allowed,
-        side_preds: s.side_predictors as usize,
-        max_candidates: s.candidates as usize,
-        modal_offsets: s.modal_offsets,
-        prune_leaf_bits: s.price,
-    }
 }
 
 fn samples_of(job: &Learning) -> MaSamples {
