@@ -4,7 +4,6 @@ use crate::coder_scratch::CoderScratch;
 use crate::ma_tree::{MaProperties, MaSamples, hooks};
 use crate::sheet::Sheet;
 use crate::timing::{Run, row, timed};
-use driver::records;
 use ostrovuc::Room;
 use stream::{PREDICTORS, Record, Settings, Span};
 
@@ -21,7 +20,7 @@ struct Outcome {
 pub fn learning(sheet: &Sheet, settings: &Settings) {
     crate::adaptive_quant::lend(sheet.logs);
     let mut scratch = CoderScratch::default();
-    let mut room = Room::for_learning(&records::settings(settings), sheet.len());
+    let mut room = Room::for_learning(&jobs::settings(settings), sheet.len());
     let name = format!(
         "learning, {} rows, limit {}, alphabet {}, {} sides",
         sheet.len(),
@@ -65,8 +64,8 @@ fn port(sheet: &Sheet, settings: &Settings, room: &mut Room) -> Run<Outcome> {
     let nodes = tree.nodes as usize;
     let outcome = Outcome {
         bits: [tree.bits.to_bits(), tree.flat.to_bits()],
-        nodes: records::records(&room.nodes[..nodes]),
-        spans: room.spans.as_chunks().0[..nodes].to_vec(),
+        nodes: jobs::records(&room.nodes[..nodes]),
+        spans: room.node_spans()[..nodes].to_vec(),
         tok: rows.tok.as_chunks().0.to_vec(),
         res: rows.res,
     };
@@ -77,6 +76,6 @@ fn port(sheet: &Sheet, settings: &Settings, room: &mut Room) -> Run<Outcome> {
 pub fn without_settling(s: &Settings) -> ostrovuc::Settings {
     ostrovuc::Settings {
         settle: false,
-        ..records::settings(s)
+        ..jobs::settings(s)
     }
 }

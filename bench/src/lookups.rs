@@ -4,13 +4,12 @@ use crate::learning::without_settling;
 use crate::ma_tree::{LearnedTree, hooks};
 use crate::sheet::Sheet;
 use crate::timing::{Run, row_of_items, timed};
-use driver::records;
 use ostrovuc::{MaNode, Room};
 use stream::{PROPERTIES, Settings};
 
 pub fn lookups(sheet: &Sheet, settings: &Settings) {
     let nodes = learnt(sheet, settings);
-    let tree = hooks::tree_of(&records::records(&nodes));
+    let tree = hooks::tree_of(&jobs::records(&nodes));
     let name = format!("lookup, {} rows, {} nodes, Rust", sheet.len(), nodes.len());
     let port = || each(sheet, |row| walk_of_port(&nodes, row));
     row_of_items(

@@ -1,5 +1,3 @@
-//! What the driver and the benchmark have in common: the learner's single parts, and the stream's records and settings as
-//! crate `ostrovuc` has them.
+//! What the driver and the benchmark have in common: the learner's single parts.
 
 pub mod port;
-pub mod records;

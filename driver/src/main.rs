@@ -3,8 +3,8 @@
 //!
 //!     driver < jobs > answers
 
-mod learning;
 mod operations;
+mod pruning;
 
 use driver::port::Counts;
 use std::io::{self, BufReader, BufWriter, Write};

@@ -1,121 +1,24 @@
-//! From a job to the port's answer: lays the job out as the port wants it, and the
-//! answer as the stream does.
+//! From a job to the port's answer. The public operations are crate `jobs`'s; a single part's job is laid out here as
+//! the part wants it.
 
-use crate::learning;
+use crate::pruning;
 use driver::port::{self, CANDIDATES, Counts, Rows};
-use driver::records;
-use ostrovuc::Refusal;
-use stream::{
-    Answer, Contexts, ContextsJob, Found, Job, LookupJob, PREDICTORS, PROPERTIES, Runs, SampleJob,
-    Sampled, TokenOf, ValueOf,
-};
-
-/// What a queue entry prints as that is neither zero nor untouched.
-pub const OTHER: u32 = 4_294_967_294;
+use stream::{Answer, Job, PREDICTORS, PROPERTIES};
 
 pub fn answer(job: Job, counts: &mut Counts) -> Answer {
     match job {
-        Job::Learn(job) => Answer::Learned(learning::learn(job, false)),
-        Job::Deepen(job) => Answer::Deepened(learning::learn(job, true)),
-        Job::Lookup(job) => Answer::Found(lookup(&job)),
-        Job::Contexts(job) => Answer::Contexts(contexts(&job)),
-        Job::Sample(job) => Answer::Sampled(sample(&job)),
-        Job::Pack(values) => {
-            Answer::Packed(values.into_iter().map(ostrovuc::pack_signed).collect())
-        }
-        Job::Token(values) => Answer::Tokens(values.into_iter().map(token).collect()),
-        Job::Value(pairs) => Answer::Values(pairs.into_iter().map(value).collect()),
+        Job::Learn(job) => jobs::run(job, false).into_answer(),
+        Job::Deepen(job) => jobs::run(job, true).into_answer(),
+        Job::Lookup(job) => Answer::Found(jobs::lookup(&job)),
+        Job::Contexts(job) => Answer::Contexts(jobs::contexts(&job)),
+        Job::Sample(job) => Answer::Sampled(jobs::sample(&job)),
+        Job::Pack(values) => Answer::Packed(jobs::pack(&values)),
+        Job::Token(values) => Answer::Tokens(jobs::tokens(&values)),
+        Job::Value(pairs) => Answer::Values(jobs::values(&pairs)),
         Job::Mode(residuals) => mode(&residuals, counts),
         Job::Candidates(column, limit) => candidates(&column, limit, counts),
         Job::Partition(column, threshold) => partition(&column, threshold),
-        Job::Prune(job) => Answer::Pruned(learning::prune(&job)),
-    }
-}
-
-/// An answer as number, place and the rest: 0 for all of it after a refusal.
-pub fn told<T: Default>(answer: Result<T, Refusal>) -> (u32, u32, T) {
-    match answer {
-        Ok(given) => (0, 0, given),
-        Err(refusal) => (refusal.number(), refusal.place(), T::default()),
-    }
-}
-
-fn lookup(job: &LookupJob) -> Found {
-    let nodes = records::nodes(&job.nodes.whole(job.fill));
-    let found = ostrovuc::lookup(&nodes, job.count, &job.properties);
-    let (number, place, (leaf, pred)) = told(found.map(|found| (found.leaf, found.pred)));
-    Found {
-        number,
-        place,
-        leaf,
-        pred,
-    }
-}
-
-fn contexts(job: &ContextsJob) -> Contexts {
-    let nodes = records::nodes(&job.nodes.whole(job.fill));
-    let mut contexts = vec![job.fill; job.context_entries as usize];
-    let mut queue = vec![job.fill; job.queue_entries as usize];
-    let counted = ostrovuc::leaf_contexts(&nodes, job.count, &mut contexts, &mut queue);
-    let (number, place, context_count) = told(counted);
-    Contexts {
-        number,
-        place,
-        context_count,
-        contexts,
-        queue: queue_runs(&queue, job.fill),
-    }
-}
-
-fn queue_runs(queue: &[u32], fill: u32) -> Runs {
-    let printed = |&entry: &u32| {
-        if entry == 0 || entry == fill {
-            entry
-        } else {
-            OTHER
-        }
-    };
-    runs(queue.iter().map(printed))
-}
-
-pub fn runs(entries: impl Iterator<Item = u32>) -> Runs {
-    let mut runs: Vec<(u32, u32)> = Vec::new();
-    for printed in entries {
-        match runs.last_mut() {
-            Some((value, length)) if *value == printed => *length += 1,
-            _ => runs.push((printed, 1)),
-        }
-    }
-    Runs(runs)
-}
-
-fn sample(job: &SampleJob) -> Sampled {
-    let mut output = vec![job.fill; job.output_entries as usize];
-    let (rows, target) = (job.rows as usize, job.target as usize);
-    let (number, place, picked) = told(ostrovuc::evenly_sampled_indices(rows, target, &mut output));
-    Sampled {
-        number,
-        place,
-        picked,
-        output,
-    }
-}
-
-fn token(value: u32) -> TokenOf {
-    let encoding = ostrovuc::uint_encode(value);
-    TokenOf {
-        token: encoding.token,
-        extra_count: encoding.extra_count,
-        extra_bits: encoding.extra_bits,
-    }
-}
-
-fn value((token, extra): (u32, u32)) -> ValueOf {
-    let (number, place, value) = told(ostrovuc::token_value(token, extra));
-    ValueOf {
-        number,
-        place,
-        value,
+        Job::Prune(job) => Answer::Pruned(pruning::prune(&job)),
     }
 }
 

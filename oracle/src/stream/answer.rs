@@ -28,6 +28,19 @@ impl Runs {
     }
 }
 
+impl FromIterator<u32> for Runs {
+    fn from_iter<T: IntoIterator<Item = u32>>(list: T) -> Self {
+        let mut runs: Vec<(u32, u32)> = Vec::new();
+        for entry in list {
+            match runs.last_mut() {
+                Some((value, length)) if *value == entry => *length += 1,
+                _ => runs.push((entry, 1)),
+            }
+        }
+        Self(runs)
+    }
+}
+
 impl Wire for Runs {
     const SIZE: usize = 8;
 

@@ -1,6 +1,5 @@
 //! A job of learning from a picture.
 
-use crate::learner::settings_of;
 use crate::picture::Picture;
 use crate::rows::{self, Rows};
 use ostrovuc::{Refusal, Room, evenly_sampled_indices, logarithms};
@@ -69,7 +68,7 @@ pub fn of_lines(picture: &Picture, lines: &[u32], settings: Settings) -> Learnin
         residuals,
     } = rows::of_lines(picture, lines);
     let rows = residuals.len();
-    let room = Room::for_learning(&settings_of(&settings), rows);
+    let room = Room::for_learning(&jobs::settings(&settings), rows).entries();
     Learning {
         settings,
         properties,
@@ -78,12 +77,12 @@ pub fn of_lines(picture: &Picture, lines: &[u32], settings: Settings) -> Learnin
         logarithms: logarithms(rows),
         seed_count: 0,
         nodes: NodeList {
-            entries: room.nodes.len() as u32,
+            entries: room.nodes as u32,
             given: Vec::new(),
         },
-        span_entries: room.spans.len() as u32 / 2,
-        queue_entries: room.queue_values.len() as u32,
-        count_entries: room.counts.len() as u32,
+        span_entries: room.spans as u32,
+        queue_entries: room.queue as u32,
+        count_entries: room.counts as u32,
         fill: 0,
     }
 }

@@ -5,7 +5,6 @@ pub mod command_line;
 pub mod dot;
 pub mod input;
 pub mod job;
-pub mod learner;
 pub mod names;
 pub mod pgm;
 pub mod picture;

@@ -6,7 +6,7 @@ use ma_learn::command_line::{
 use ma_learn::input::LearningJob;
 use ma_learn::tree::Tree;
 use ma_learn::words::counted;
-use ma_learn::{dot, input, learner, text};
+use ma_learn::{dot, input, text};
 use std::ffi::OsString;
 use std::io::{self, IsTerminal};
 use std::process::ExitCode;
@@ -79,7 +79,7 @@ fn answer(request: Request) -> Result<(), Failure> {
 /// answer it is written as well.
 fn learn(form: Form, job: LearningJob) -> Result<(), Failure> {
     say_beforehand(&job);
-    let run = learner::run(job);
+    let run = jobs::run(job.job, job.deepens);
     let accepted = run.result.map_err(Failure::refused);
     let shown = Tree::of(&run);
     match (form, shown) {

@@ -1,6 +1,6 @@
 //! A learnt tree, to be shown.
 
-use crate::learner::Run;
+use jobs::Run;
 use ostrovuc::{Learned, MaNode};
 
 /// A tree with the rows of its nodes.
@@ -38,9 +38,9 @@ impl<'a> Tree<'a> {
         let learned = run.result.ok()?;
         Some(Self {
             learned,
-            rows: run.rows,
+            rows: run.rows(),
             nodes: &run.room.nodes,
-            spans: run.room.spans.as_chunks().0,
+            spans: run.room.node_spans(),
         })
     }
 

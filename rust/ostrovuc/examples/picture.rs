@@ -54,8 +54,8 @@ fn print_tree(tree: &Learned, room: &Room) {
         "{ROWS} rows: {} nodes, {} leaves, {:.2} bits, flat {:.2}",
         tree.nodes, tree.leaves, tree.bits, tree.flat
     );
-    let spans = room.spans.as_chunks::<2>().0;
-    let nodes = room.nodes.iter().zip(spans).take(tree.nodes as usize);
+    let nodes = room.nodes.iter().zip(room.node_spans());
+    let nodes = nodes.take(tree.nodes as usize);
     for (n, (node, [first, end])) in nodes.enumerate() {
         println!("node {n}, {} rows: {}", end - first, in_words(node));
     }

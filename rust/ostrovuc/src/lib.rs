@@ -34,4 +34,4 @@ pub use operations::{
 };
 pub use records::{MaNode, NodeInfo, Settings};
 pub use refusal::Refusal;
-pub use room::{Room, logarithms};
+pub use room::{Entries, Room, logarithms};

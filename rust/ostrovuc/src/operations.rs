@@ -27,7 +27,7 @@ pub struct Lists<'a> {
 }
 
 /// What was learned; the tree itself stands at the front of the node list.
-#[derive(Clone, Copy, Debug, PartialEq)]
+#[derive(Clone, Copy, Debug, Default, PartialEq)]
 pub struct Learned {
     pub nodes: u32,
     pub leaves: u32,
@@ -38,7 +38,7 @@ pub struct Learned {
 }
 
 /// A leaf's node number and its predictor.
-#[derive(Clone, Copy, Debug, Eq, PartialEq)]
+#[derive(Clone, Copy, Debug, Default, Eq, PartialEq)]
 pub struct Leaf {
     pub leaf: u32,
     pub pred: u32,

@@ -3,6 +3,11 @@
 use crate::operations::Lists;
 use crate::records::{MaNode, Settings};
 
+/// Numbers of a span: its first row and its end row.
+const SPAN_WORDS: usize = 2;
+/// Numbers of a waiting leaf in `queue_words`; `queue_values` and `queue_gains` have one more each.
+const QUEUE_WORDS: usize = 3;
+
 /// Everything that is lent besides the rows.
 #[derive(Clone, Debug, Default, PartialEq)]
 pub struct Room {
@@ -12,6 +17,15 @@ pub struct Room {
     pub queue_values: Vec<i32>,
     pub queue_gains: Vec<f32>,
     pub counts: Vec<u32>,
+}
+
+/// How many nodes, spans, waiting leaves and counts a room has, whatever numbers make one up.
+#[derive(Clone, Copy, Debug, Eq, PartialEq)]
+pub struct Entries {
+    pub nodes: usize,
+    pub spans: usize,
+    pub queue: usize,
+    pub counts: usize,
 }
 
 impl Room {
@@ -28,15 +42,48 @@ impl Room {
     }
 
     fn of(settings: &Settings, rows: usize, nodes: usize) -> Self {
-        let leaves = leaves(settings);
+        Self::of_entries(Entries {
+            nodes,
+            spans: nodes,
+            queue: leaves(settings),
+            counts: counts(settings).max(rows.saturating_add(2 * nodes)),
+        })
+    }
+
+    /// Room of any size, enough or not.
+    pub fn of_entries(entries: Entries) -> Self {
         Self {
-            nodes: vec![MaNode::default(); nodes],
-            spans: vec![0; 2 * nodes],
-            queue_words: vec![0; 3 * leaves],
-            queue_values: vec![0; leaves],
-            queue_gains: vec![0.0; leaves],
-            counts: vec![0; counts(settings).max(rows.saturating_add(2 * nodes))],
+            nodes: vec![MaNode::default(); entries.nodes],
+            spans: vec![0; SPAN_WORDS * entries.spans],
+            queue_words: vec![0; QUEUE_WORDS * entries.queue],
+            queue_values: vec![0; entries.queue],
+            queue_gains: vec![0.0; entries.queue],
+            counts: vec![0; entries.counts],
         }
+    }
+
+    /// How many entries it has; of the queue's lists the first tells.
+    pub fn entries(&self) -> Entries {
+        Entries {
+            nodes: self.nodes.len(),
+            spans: self.node_spans().len(),
+            queue: self.queue_words.len() / QUEUE_WORDS,
+            counts: self.counts.len(),
+        }
+    }
+
+    /// Each node's span: its first row and its end row.
+    pub fn node_spans(&self) -> &[[u32; SPAN_WORDS]] {
+        self.spans.as_chunks().0
+    }
+
+    /// Each entry of the queue as the bits of all its numbers.
+    pub fn queue_bits(&self) -> impl Iterator<Item = [u32; QUEUE_WORDS + 2]> {
+        let words = self.queue_words.as_chunks::<QUEUE_WORDS>().0.iter();
+        let rest = self.queue_values.iter().zip(&self.queue_gains);
+        words
+            .zip(rest)
+            .map(|(&[a, b, c], (&value, gain))| [a, b, c, value as u32, gain.to_bits()])
     }
 
     /// The lists with the rows of a job.

@@ -3,8 +3,8 @@
 mod small;
 
 use ostrovuc::{
-    Leaf, MaNode, Room, Settings, deepen, evenly_sampled_indices, leaf_contexts, learn, logarithms,
-    lookup,
+    Entries, Leaf, MaNode, Room, Settings, deepen, evenly_sampled_indices, leaf_contexts, learn,
+    logarithms, lookup,
 };
 use small::{Job, MARK, PREDICTORS, PROPERTIES, ROWS, properties, residual};
 use std::ops::Range;
@@ -32,7 +32,8 @@ fn rows_within(job: &Job, span: Range<usize>) -> Vec<([i32; PROPERTIES], i32)> {
 }
 
 fn span(job: &Job, node: usize) -> Range<usize> {
-    job.room.spans[2 * node] as usize..job.room.spans[2 * node + 1] as usize
+    let [first, end] = job.room.node_spans()[node];
+    first as usize..end as usize
 }
 
 #[test]
@@ -297,6 +298,25 @@ fn room_suffices() {
             }
         }
     }
+}
+
+#[test]
+fn room_of_any_size_has_as_many_entries() {
+    let entries = Entries {
+        nodes: 5,
+        spans: 3,
+        queue: 2,
+        counts: 7,
+    };
+    let mut room = Room::of_entries(entries);
+    assert_eq!(room.entries(), entries);
+    room.spans = vec![0, 9, 0, 4, 4, 9];
+    assert_eq!(room.node_spans(), [[0, 9], [0, 4], [4, 9]]);
+    room.queue_words = vec![1, 2, 3, 4, 5, 6];
+    room.queue_values[1] = -1;
+    room.queue_gains[0] = 1.0;
+    let bits: Vec<_> = room.queue_bits().collect();
+    assert_eq!(bits, [[1, 2, 3, 0, 0x3f80_0000], [4, 5, 6, u32::MAX, 0]]);
 }
 
 #[test]

@@ -1,7 +1,7 @@
-//! The stream's nodes and settings, to and from the port's.
+//! The stream's settings, nodes and spans, to and from the port's.
 
 use ostrovuc::{MaNode, NodeInfo, Settings};
-use stream::Record;
+use stream::{Record, Span};
 
 pub fn settings(s: &stream::Settings) -> Settings {
     Settings {
@@ -53,5 +53,40 @@ fn record(node: &MaNode) -> Record {
         cost: node.info.cost.to_bits(),
         pred: node.info.pred,
         offset: node.info.offset,
+    }
+}
+
+/// Spans from a list of numbers.
+pub fn spans(flat: &[u32]) -> Vec<Span> {
+    let span = |&[first, end]: &[u32; 2]| Span { first, end };
+    flat.as_chunks().0.iter().map(span).collect()
+}
+
+/// Spans as a list of numbers.
+pub fn flat_spans(spans: &[Span]) -> Vec<u32> {
+    spans.iter().flat_map(|s| [s.first, s.end]).collect()
+}
+
+#[cfg(test)]
+mod tests {
+    use super::*;
+
+    #[test]
+    fn records_come_back_bit_for_bit() {
+        let record = Record {
+            kind: 7,
+            cost: 0x7fc0_0001,
+            pred: 13,
+            offset: -5,
+            ..Record::split(23, i32::MIN, 3, u32::MAX)
+        };
+        assert_eq!(records(&nodes(&[record])), [record]);
+    }
+
+    #[test]
+    fn spans_come_back() {
+        let pattern = Span::list(3, u32::MAX);
+        assert_eq!(flat_spans(&pattern), [u32::MAX, 0, 0, 1, 1, 2]);
+        assert_eq!(spans(&flat_spans(&pattern)), pattern);
     }
 }
