@@ -89,7 +89,7 @@ pub fn any_slack(rng: &mut Rng) -> u32 {
 }
 
 /// The numbers of count space that document 01 asks of learning.
-fn counts_for(s: &Settings) -> u32 {
+pub fn counts_for(s: &Settings) -> u32 {
     let (a, sides) = (s.alphabet, s.side_predictors.max(1));
     4_096 + u32::max(56 * a, 14 * a + sides * a * (s.candidates + 2))
 }

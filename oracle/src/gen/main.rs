@@ -2,14 +2,17 @@
 //!
 //!     gen FAMILY SEED COUNT [FIRST] > jobs
 //!     gen --list
+//!     gen --pairs < jobs > jobs
 //!
-//! A family, a seed and an index name one job, however many are asked for; the first index is 0, or FIRST.
+//! A family, a seed and an index name one job, however many are asked for; the first index is 0, or FIRST. Of jobs from
+//! elsewhere pairs are made for demand 3: each learning and deepening as it is, then unpruned with limits k and k + 1.
 
 mod agree;
 mod draft;
 mod kinds;
 mod learn;
 mod logs;
+mod pairs;
 mod parts;
 mod refusals;
 mod rng;
@@ -20,7 +23,7 @@ mod tokens;
 mod trees;
 
 use rng::Rng;
-use std::io::{self, BufWriter, Write};
+use std::io::{self, BufReader, BufWriter, Write};
 use std::process::ExitCode;
 use stream::{Damaged, Job, write_message};
 
@@ -111,13 +114,15 @@ const FAMILIES: &[Family] = &[
     family("agree", "63 tiny jobs fit for a proof checker, again and again", agree::agree),
 ];
 
-const USAGE: &str = "usage: gen FAMILY SEED COUNT [FIRST] > jobs, or gen --list";
+const USAGE: &str =
+    "usage: gen FAMILY SEED COUNT [FIRST] > jobs, or gen --list, or gen --pairs < jobs > jobs";
 
 fn main() -> ExitCode {
     let arguments: Vec<String> = std::env::args().skip(1).collect();
     let arguments: Vec<&str> = arguments.iter().map(String::as_str).collect();
     let done = match arguments[..] {
         ["--list"] => list(),
+        ["--pairs"] => write_pairs(),
         [name, seed, count] => write_jobs(name, seed, count, "0"),
         [name, seed, count, first] => write_jobs(name, seed, count, first),
         _ => Err(Damaged(USAGE.into())),
@@ -145,6 +150,14 @@ fn list() -> Result<(), Damaged> {
     for Family { name, about, .. } in FAMILIES {
         writeln!(output, "{name:13} {about}")?;
     }
+    Ok(())
+}
+
+fn write_pairs() -> Result<(), Damaged> {
+    let mut input = BufReader::with_capacity(1 << 20, io::stdin().lock());
+    let mut output = BufWriter::with_capacity(1 << 20, io::stdout().lock());
+    pairs::write_pairs(&mut input, &mut output)?;
+    output.flush()?;
     Ok(())
 }
 

@@ -1,7 +1,7 @@
 //! What holds of every answer to the other jobs.
 
-use crate::promises::{Checked, ensure};
 use crate::rules;
+use crate::{Checked, ensure};
 use std::collections::BTreeSet;
 use stream::{
     Answer, Contexts, ContextsJob, Found, Job, LookupJob, PROPERTIES, PruneJob, Pruned, Record,
@@ -49,7 +49,10 @@ fn lookup(job: &LookupJob, answer: &Found) -> Checked {
         Ok(properties) => properties,
         Err(_) => return Err("accepted without 24 properties".into()),
     };
-    let leaf = rules::leaf_of(&nodes[..job.count as usize], properties);
+    let Some(tree) = nodes.get(..job.count as usize) else {
+        return Err("accepted with more nodes than there are".into());
+    };
+    let leaf = rules::lookup(tree, properties)?;
     ensure(
         (answer.leaf as usize, answer.pred) == (leaf, nodes[leaf].pred),
         "another leaf",
@@ -67,7 +70,12 @@ fn contexts(job: &ContextsJob, answer: &Contexts) -> Checked {
             "refused, yet changed",
         );
     }
-    let nodes = &job.nodes.whole(job.fill)[..job.count as usize];
+    let nodes = job.nodes.whole(job.fill);
+    let nodes = nodes.get(..job.count as usize).unwrap_or_default();
+    ensure(
+        rules::is_sound(nodes) && nodes.len() <= expected.len(),
+        "accepted without a sound tree and room",
+    )?;
     let mut level = vec![0];
     let mut count = 0;
     while !level.is_empty() {
@@ -94,7 +102,9 @@ fn contexts(job: &ContextsJob, answer: &Contexts) -> Checked {
 }
 
 fn sampling(job: &SampleJob, answer: &Sampled) -> Checked {
-    let (picked, rest) = answer.output.split_at(answer.picked as usize);
+    let Some((picked, rest)) = answer.output.split_at_checked(answer.picked as usize) else {
+        return Err("more rows picked than the output holds".into());
+    };
     ensure(
         rest.iter().all(|&entry| entry == job.fill),
         "output past the picked changed",
@@ -159,21 +169,23 @@ fn partition(column: &[i32], threshold: i32, above: usize, moved: &[i32]) -> Che
         sorted(column) == sorted(moved),
         "other values after the partition",
     )?;
-    ensure(
-        moved[..above].iter().all(|&v| v > threshold)
-            && moved[above..].iter().all(|&v| v <= threshold),
-        "not parted at the threshold",
-    )
+    let is_parted = moved.split_at_checked(above).is_some_and(|(gt, le)| {
+        gt.iter().all(|&v| v > threshold) && le.iter().all(|&v| v <= threshold)
+    });
+    ensure(is_parted, "not parted at the threshold")
 }
 
 /// A sound tree of old nodes with their spans, the rest blank.
 fn prune(job: &PruneJob, answer: &Pruned) -> Checked {
     let count = answer.node_count as usize;
     ensure(
-        answer.nodes.len() == job.nodes.len(),
+        (answer.nodes.len(), answer.spans.len()) == (job.nodes.len(), job.spans.len()),
         "not as many entries as before",
     )?;
-    ensure(rules::is_sound(&answer.nodes[..count]), "no sound tree")?;
+    ensure(
+        count <= answer.nodes.len() && rules::is_sound(&answer.nodes[..count]),
+        "no sound tree",
+    )?;
     ensure(
         answer.nodes[count..]
             .iter()
