@@ -21,9 +21,9 @@ use Rattle.model.proofs.Folding.{Folded, folds, length-pruned}
 use Rattle.model.proofs.Pruned.{closed, length-kept, entry-kept, order-short, old-number}
 use Rattle.layout.specs.Layout.{kindAt, propAt, gtAt, leAt, predAt, valAt}
 use Rattle.layout.specs.Tree.{NodeLists, holding, HasRoom, entryWords, entryValues, entryCosts, entrySpans, nodeWords, nodeVal}
+use Rattle.preorder.specs.Order.{ShownAs, ShowsNodes, Walkable, Ordered}
 use Rattle.moves.specs.Moves.{wordCells, valueCells, costCells, spanCells, compactedLists, AllMovable}
 use Rattle.prune.specs.Prices.{AllPriceable, ShowsTree, PricedAs}
-use Rattle.prune.specs.Order.{ShownAs, ShowsNodes, Walkable, Ordered}
 use Rattle.prune.specs.Held.{HoldsTree, prunedEntries}
 use Rattle.layout.proofs.Held.{words-each, room-same, holding-lengths, held-word, held-value, held-cost, held-row}
 use Rattle.prune.proofs.Held.{held-compacted}

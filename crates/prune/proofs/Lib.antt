@@ -1,8 +1,7 @@
 -- For callers: `Front`, lists that hold a tree and vacated entries hold the tree.
--- For the functions here. `Pricing`: the pass from the last node back. `Walking`: the walk from the root. `Held`: parts laid end to end.
+-- For the functions here. `Pricing`: the pass from the last node back. `Held`: parts laid end to end.
 -- `Bridge`: the passes over lists that hold a tree.
 pub mod Pricing
-pub mod Walking
 pub mod Held
 pub mod Bridge
 pub mod Front

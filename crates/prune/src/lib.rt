@@ -1,17 +1,15 @@
-// Pruning of a grown tree in flat lists of numbers, after the Rust's prune_tree: prices from the last node back, the new order from the root, and the
-// lists moved into that order by `moves`.
+// Pruning of a grown tree in flat lists of numbers, after the Rust's prune_tree: prices from the last node back, the new order from the root by
+// `preorder`, and the lists moved into that order by `moves`.
 ghost use mathlib.Core.Path.{_≡_};
 ghost use mathlib.Core.List.{List};
 ghost use Prim.Native.Nat.{ℕ, _≤_, _<_};
 ghost use lib.ListN.{length, getD};
 ghost use lib.Ieee.{nan};
 ghost use Rattle.model.specs.Single.{singles};
-ghost use Rattle.model.specs.Tree.{Node};
 ghost use Rattle.model.specs.Grow.{Entry};
-ghost use Rattle.layout.specs.Layout.{predAt, offsetAt, gtAt, leAt};
+ghost use Rattle.layout.specs.Layout.{predAt, offsetAt};
 ghost use Rattle.layout.specs.Tree.{NodeLists, nodeLists};
 ghost use Rattle.prune.specs.Prices.{splitPriced, leafPriced, pricedAt, IsNumber, HasNode, Priceable, AllPriceable, ShowsTree, IsPriced, PricedAs};
-ghost use Rattle.prune.specs.Order.{pushed, deepened, Pushable, ShowsNodes, Walkable, Rooted, Ordered};
 ghost use Rattle.prune.specs.Held.{HoldsTree, Prunable, PrunedAs};
 use layout::NodeInfo;
 
@@ -156,65 +154,6 @@ fn price_nodes(
     bits[0]
 }
 
-// The children of node i, if it is a split, go onto the stack, gt on top.
-fn push_children(words: &[u32], kept: bool, i: usize, depth: usize, stack: &mut [u32]) -> usize
-    requires { ⌜ Pushable (now words) kept i depth (now stack) ⌝ }
-    ensures { λ r. ⌜ r ≡ deepened kept depth ⌝ }
-    ensures { λ _. ⌜ now (stack .exit) ≡ pushed kept (gtAt (now (words .entry)) i) (leAt (now (words .entry)) i) depth (now (stack .entry)) ⌝ }
-{
-    if kept {
-        let at = i * NODE_WORDS;
-        stack[depth] = words[at + 3];
-        stack[depth + 1] = words[at + 2];
-        return depth + 2;
-    }
-    depth
-}
-
-// The nodes in preorder from the root, gt first, and the place of each; the stack holds node 0.
-fn walk(
-    words: &[u32],
-    splits: &[bool],
-    count: usize,
-    order: &mut [u32],
-    places: &mut [u32],
-    stack: &mut [u32],
-) -> usize
-    requires { ⌜ Walkable (now words) (now splits) count (now order) (now places) ⌝ }
-    requires { ⌜ Rooted count (now stack) ⌝ }
-    ensures { λ r. ⌜ ((nodes : List Node) → ShowsNodes nodes (now (words .entry)) (now (splits .entry)) count
-        → Ordered nodes (now (order .exit)) (now (places .exit)) r) ⌝ }
-{
-    let mut depth: usize = 1;
-    let mut found: usize = 0;
-    while 0 < depth {
-        let top = depth - 1;
-        let node = stack[top];
-        let i = node as usize;
-        order[found] = node;
-        places[i] = found as u32;
-        found += 1;
-        depth = push_children(words, splits[i], i, top, stack);
-    }
-    found
-}
-
-// The new order, with a stack of its own, and how many nodes are left.
-fn order_nodes(
-    words: &[u32],
-    splits: &[bool],
-    count: usize,
-    order: &mut [u32],
-    places: &mut [u32],
-) -> usize
-    requires { ⌜ Walkable (now words) (now splits) count (now order) (now places) ⌝ }
-    ensures { λ r. ⌜ ((nodes : List Node) → ShowsNodes nodes (now (words .entry)) (now (splits .entry)) count
-        → Ordered nodes (now (order .exit)) (now (places .exit)) r) ⌝ }
-{
-    let mut stack = [0u32; MAX_NODES];
-    walk(words, splits, count, order, places, &mut stack)
-}
-
 // Folds each split whose own cost is at most what its two sides and the price come to, and renumbers what is left from the root, gt first.
 pub fn prune_tree(
     words: &mut [u32],
@@ -233,7 +172,7 @@ pub fn prune_tree(
     let bits = price_nodes(words, values, costs, count, price, &mut splits);
     let mut order = [0u32; MAX_NODES];
     let mut places = [0u32; MAX_NODES];
-    let nodes = order_nodes(words, &splits, count, &mut order, &mut places);
+    let nodes = preorder::order_nodes(words, &splits, count, &mut order, &mut places);
     moves::move_nodes(
         words,
         values,

@@ -14,8 +14,9 @@ use Rattle.layout.specs.Layout.{wordsPerNode, gtAt, leAt}
 abbrev pub pushed : Bool → ℕ → ℕ → ℕ → List ℕ → List ℕ
 pushed kept gt le depth stack = cond kept (set (set stack depth le) (depth + 1) gt) stack
 
-abbrev pub deepened : Bool → ℕ → ℕ
-deepened kept depth = cond kept (depth + 2) depth
+-- the stack's height after that
+abbrev pub heightAfter : Bool → ℕ → ℕ
+heightAfter kept depth = cond kept (depth + 2) depth
 
 -- node i is there, and two places on the stack if it is a split
 pub record Pushable (words : List ℕ) (kept : Bool) (i depth : ℕ) (stack : List ℕ) : Type 0 where

@@ -1,14 +1,14 @@
--- `prune::walk` meets its contract: what was found and what waits on the stack are the preorder. Assumes nothing.
+-- `preorder::walk` meets its contract: what was found and what waits on the stack are the preorder. Assumes nothing.
 use mathlib.Core.Path.{_≡_, refl, _∙_}
 use Prim.Native.Nat.{_+_, _-_, _≤_, _<_}
 use native.Mathlib.Omega.{arith}
 use mathlib.Core.List.{List}
 use lib.ListN.{length, getD, length-set}
 use Rattle.model.specs.Tree.{Node}
-use Rattle.prune.specs.Order.{ShowsNodes}
-use Rattle.prune.proofs.Walking.{Walked, walk-first, walk-turn, walk-safe, walk-room, walk-done}
-use Rattle.prune.proofs.walk.Statement.{statement}
-use Rattle.prune.proofs.walk.Tie as tie
+use Rattle.preorder.specs.Order.{ShowsNodes}
+use Rattle.preorder.proofs.Walking.{Walked, walk-first, walk-turn, walk-safe, walk-room, walk-done}
+use Rattle.preorder.proofs.walk.Statement.{statement}
+use Rattle.preorder.proofs.walk.Tie as tie
 
 abbrev Inv-loop : tie.InvT-loop
 Inv-loop words splits count order₀ places₀ stack₀ depth₀ found₀ order places stack depth found = (length order ≡ length order₀)

@@ -1,10 +1,10 @@
--- `prune::push_children` meets its contract. Assumes nothing.
+-- `preorder::push_children` meets its contract. Assumes nothing.
 use mathlib.Core.Path.{refl}
 use native.Mathlib.Omega.{arith}
 use lib.ListN.{length-set}
 use borrow.Author.Needs.{needs}
-use Rattle.prune.proofs.push_children.Statement.{statement}
-use Rattle.prune.proofs.push_children.Tie as tie
+use Rattle.preorder.proofs.push_children.Statement.{statement}
+use Rattle.preorder.proofs.push_children.Tie as tie
 
 mul-at : tie.Need-mul-at
 mul-at c = search needs

@@ -16,7 +16,7 @@ use Rattle.model.proofs.Family.{Family, child-forward}
 use Rattle.model.proofs.Preorder.{pre-range, pre-no-repeat, place-of}
 use Rattle.model.proofs.Tally.{short}
 use Rattle.layout.specs.Layout.{gtAt, leAt}
-use Rattle.prune.specs.Order.{pushed, deepened, ShownAs, ShowsNodes, pending, Ordered}
+use Rattle.preorder.specs.Order.{pushed, heightAfter, ShownAs, ShowsNodes, pending, Ordered}
 
 -- where the walk stands: the nodes found and those that wait are all
 pub record Walked (nodes : List Node) (order places stack : List ℕ) (depth found : ℕ) : Type 0 where
@@ -262,10 +262,10 @@ module _ (nodes : List Node) (fam : Family nodes) (some : 0 < length nodes) wher
         inside = inside';
       }
 
-      pub walk-on : Walked nodes order' places' (pushed kept gt le d stack) (deepened kept d) (found + 1)
+      pub walk-on : Walked nodes order' places' (pushed kept gt le d stack) (heightAfter kept d) (found + 1)
       walk-on = go (getD nodes i leaf) refl shown
         where
-          go : (m : Node) → getD nodes i leaf ≡ m → ShownAs m kept gt le → Walked nodes order' places' (pushed kept gt le d stack) (deepened kept d) (found + 1)
+          go : (m : Node) → getD nodes i leaf ≡ m → ShownAs m kept gt le → Walked nodes order' places' (pushed kept gt le d stack) (heightAfter kept d) (found + 1)
           go leaf e s = rw s (alone e)
           go (split p v g l) e s = rw (s .0, s .1, s .2) (both p v g l e)
 
@@ -298,7 +298,7 @@ module _ {nodes : List Node} {words : List ℕ} {splits : List Bool} {count : �
           stays (gtAt words taken) (leAt words taken) (shows .shown taken (walk-safe .1))
 
       pub walk-turn : Walked nodes (set order found taken) (set places taken found) (pushed stays (gtAt words taken) (leAt words taken) (depth - 1) stack)
-          (deepened stays (depth - 1)) (found + 1)
+          (heightAfter stays (depth - 1)) (found + 1)
       walk-turn = walk-on nodes (shows .family) some order places stack (depth - 1) found again (omega (arith, shows .many)) (omega (arith, shows .many))
           (omega (arith, shows .many))
           stays (gtAt words taken) (leAt words taken) (shows .shown taken (walk-safe .1))

@@ -1,0 +1,2 @@
+-- `Walking`: the walk with a stack finds the preorder.
+pub mod Walking
