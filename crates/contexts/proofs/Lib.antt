@@ -1,4 +1,3 @@
--- `Breadth`: a walk over a tree visits every node once. `Numbering`: the contexts that it gives, node by node. `Refusals`: the answer, case by case.
-pub mod Breadth
+-- `Numbering`: the contexts given along the breadth-first order. `Refusals`: the answer, case by case.
 pub mod Numbering
 pub mod Refusals

@@ -1,3 +1,3 @@
--- `Breadth`: a breadth-first walk on the lists, one node at a time. `Answers`: what the answer says.
-pub mod Breadth
+-- `Numbering`: contexts given along an order, one node at a time. `Answers`: what the answer says.
+pub mod Numbering
 pub mod Answers

@@ -1,4 +1,5 @@
-// The contexts of a tree's leaves, breadth first (document 01, "Contexts"): the refusals in their order, and a walk whose queue is lent.
+// The contexts of a tree's leaves, breadth first (document 01, "Contexts"): the refusals in their order, and the leaves numbered along the order of
+// the nodes, which is written into the lent queue.
 ghost use mathlib.Core.Path.{_≡_};
 ghost use mathlib.Core.List.{List};
 ghost use lib.ListN.{length};
@@ -11,7 +12,7 @@ ghost use Rattle.model.specs.Contexts.{contextsOf};
 ghost use Rattle.model.specs.Operations.{leafContexts};
 ghost use Rattle.layout.specs.Layout.{storedIn};
 ghost use Rattle.tree.specs.Trees.{nodeAt, OfTree};
-ghost use Rattle.contexts.specs.Breadth.{walking, visited, Visitable, Numerable};
+ghost use Rattle.contexts.specs.Numbering.{numbering, given, Giveable, Numerable};
 ghost use Rattle.contexts.specs.Answers.{contextsAfter};
 use tree::answers::Fault;
 use tree::answers::NodeNumber;
@@ -28,59 +29,37 @@ pub enum Contexts {
     Refused { number: u32, place: u32 },
 }
 
-// Where a breadth-first walk stands: the next context, and the end of the queue.
-struct Walk {
-    next: LeafContext,
-    end: usize,
-}
-
-// A leaf takes the next context; a split's children go to the end of the queue, gt before le.
-fn visit(
+// A leaf is given the next context, a split none; what comes next.
+fn give_context(
     words: &[u32],
     node: NodeNumber,
-    walk: Walk,
+    next: LeafContext,
     contexts: &mut [u32],
-    queue: &mut [u32],
-) -> Walk
-    requires { ⌜ Visitable (now words) (node .0) (walking (walk .next .0) (walk .end) (now contexts) (now queue)) ⌝ }
-    ensures { λ r. ⌜ ((values : List ℤ) → walking (r .next .0) (r .end) (now (contexts .exit)) (now (queue .exit))
-        ≡ visited (nodeAt (now (words .entry)) values (node .0)) (node .0) (walking (walk .next .0) (walk .end) (now (contexts .entry)) (now (queue .entry)))) ⌝ }
+) -> LeafContext
+    requires { ⌜ Giveable (now words) (node .0) (next .0) (now contexts) ⌝ }
+    ensures { λ r. ⌜ ((values : List ℤ) → numbering (r .0) (now (contexts .exit))
+        ≡ given (nodeAt (now (words .entry)) values (node .0)) (node .0) (numbering (next .0) (now (contexts .entry)))) ⌝ }
 {
-    let next = walk.next;
-    let end = walk.end;
     if tree::is_split(words, node) {
-        let gt = tree::gt_of(words, node);
-        let le = tree::le_of(words, node);
-        queue[end] = gt;
-        queue[end + 1] = le;
-        return Walk { next, end: end + 2 };
+        return next;
     }
     contexts[node.0 as usize] = next.0;
-    Walk {
-        next: LeafContext(next.0 + 1),
-        end,
-    }
+    LeafContext(next.0 + 1)
 }
 
-// The contexts of a sound tree's leaves, breadth first; a split has none. Each node enters the queue once, so it needs as many places as there are nodes.
+// The contexts of a sound tree's leaves, breadth first; a split has none. The queue is lent for the nodes in that order.
 fn number_leaves(words: &[u32], contexts: &mut [u32], queue: &mut [u32]) -> u32
     requires { ⌜ Numerable (now words) (now contexts) (now queue) ⌝ }
     ensures { λ r. ⌜ OfTree (now (words .entry)) (length (now (contexts .entry))) (λ (t : List (Record singles)).
         (r ≡ leafCount (nodesOf t)) × (now (contexts .exit) ≡ contextsOf (nodesOf t))) ⌝ }
 {
     tree::fill(contexts, NO_CONTEXT);
-    queue[0] = 0;
-    let mut walk = Walk {
-        next: LeafContext(0),
-        end: 1,
-    };
-    let mut head: usize = 0;
-    while head < walk.end {
-        let node = NodeNumber(queue[head]);
-        walk = visit(words, node, walk, contexts, queue);
-        head += 1;
+    breadth::breadth_order(words, queue);
+    let mut next = LeafContext(0);
+    for k in 0..queue.len() {
+        next = give_context(words, NodeNumber(queue[k]), next, contexts);
     }
-    walk.next.0
+    next.0
 }
 
 // The context of each leaf, and how many there are. The queue is room for the walk, and holds zeros afterwards.

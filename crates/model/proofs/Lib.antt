@@ -52,6 +52,7 @@ pub mod OneMoreAtExit
 pub mod SameJob
 pub mod Demand3
 pub mod Vacated
+pub mod BreadthFirst
 pub mod ContextNumbers
 pub mod OperationLaws
 pub mod StandardContexts

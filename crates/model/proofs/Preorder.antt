@@ -8,8 +8,8 @@ use native.Mathlib.Decide.{ℕ-discrete}
 use mathlib.Core.List.{List, [], _∷_, _++_, List·Memᴰ, List·Memᴰ·head, List·Memᴰ·tail, List·Memᴰ·not-nil, List·Memᴰ·cases-cons, Memᴰ·append-left, Memᴰ·append-right, List·Memᴰ·append-cases, Memᴰ·cast}
 use lib.ListN.{length, getD}
 use lib.IntN.{ℤ}
-use Rattle.model.specs.Tree.{Node, split, leaf}
-use Rattle.model.specs.Prune.{below, preorder, placeOf}
+use Rattle.model.specs.Tree.{Node, split, leaf, below}
+use Rattle.model.specs.Prune.{preorder, placeOf}
 use Rattle.model.proofs.Paths.{eqb-same, eqb-other}
 use Rattle.model.proofs.Family.{ChildOf, Child, Twins, Family, child-forward}
 

@@ -3,7 +3,7 @@
 use Prim.Native.Nat.{ℕ, zero, suc}
 use mathlib.Core.List.{List, [], _∷_, _++_}
 use lib.ListN.{length, getD, set, replicate}
-use Rattle.model.specs.Tree.{Node, split, leaf}
+use Rattle.model.specs.Tree.{Node, split, leaf, below}
 
 -- what a split has in place of a context
 abbrev pub noContext : ℕ
@@ -21,3 +21,12 @@ contextsFrom (suc fuel) nodes (i ∷ queue) next contexts =
 
 unfoldable pub contextsOf : List Node → List ℕ
 contextsOf nodes = contextsFrom (length nodes) nodes (0 ∷ []) 0 (replicate (length nodes) noContext)
+
+-- the nodes in the order in which a breadth-first walk visits them, gt before le
+unfoldable pub breadthFrom : ℕ → List Node → List ℕ → List ℕ
+breadthFrom zero nodes queue = []
+breadthFrom (suc fuel) nodes [] = []
+breadthFrom (suc fuel) nodes (i ∷ queue) = i ∷ breadthFrom fuel nodes (queue ++ below (λ (c : ℕ). c ∷ []) (getD nodes i leaf))
+
+unfoldable pub breadthOrder : List Node → List ℕ
+breadthOrder nodes = breadthFrom (length nodes) nodes (0 ∷ [])

@@ -1,18 +1,14 @@
 -- Pruning (document 01, "Pruning"; the Rust's `prune_tree`). Assumes nothing.
 use Prim.Native.Nat.{ℕ, zero, suc, _-_}
 use mathlib.Core.Bool.{cond}
-use mathlib.Core.List.{List, [], _∷_, _++_, map}
+use mathlib.Core.List.{List, [], _∷_, map}
 use lib.ListN.{length, getD}
 use lib.Dec.{eqb}
 use Rattle.model.specs.Meter.{Meter}
-use Rattle.model.specs.Tree.{Node, split, leaf}
+use Rattle.model.specs.Tree.{Node, split, leaf, below}
 use Rattle.model.specs.Grow.{Entry, noEntry}
 
 -- ---- the new order: from the root, gt first
-abbrev pub below : (ℕ → List ℕ) → Node → List ℕ
-below from (split prop val gt le) = from gt ++ from le
-below from leaf = []
-
 -- The nodes reached from node i, gt's before le's. `fuel` is at least the number of nodes from i on
 unfoldable pub preorder : ℕ → List Node → ℕ → List ℕ
 preorder zero nodes i = []

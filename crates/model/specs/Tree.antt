@@ -2,7 +2,7 @@
 -- Assumes nothing.
 use Prim.Native.Nat.{ℕ, zero, suc}
 use mathlib.Core.Bool.{Bool, true, false, cond, not, _&&_, _||_}
-use mathlib.Core.List.{List, [], _∷_, map}
+use mathlib.Core.List.{List, [], _∷_, _++_, map}
 use mathlib.Core.Option.{Option, none, some}
 use lib.ListN.{length, getD}
 use lib.IntN.{ℤ, pos}
@@ -20,6 +20,11 @@ pub data Node : Type 0 where
 abbrev pub isLeaf : Node → Bool
 isLeaf (split prop val gt le) = false
 isLeaf leaf = true
+
+-- what `from` gives at the children of a split, gt before le
+abbrev pub below : (ℕ → List ℕ) → Node → List ℕ
+below from (split prop val gt le) = from gt ++ from le
+below from leaf = []
 
 -- what stands beside a node: its cost in bits, its predictor and its offset. A leaf's predictor and offset are those
 pub record Info (M : Meter) : Type 0 where

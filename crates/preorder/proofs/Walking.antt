@@ -10,8 +10,8 @@ use mathlib.Core.List.{List, [], _∷_, _++_, append-nil, append-assoc}
 use lib.ListN.{length, getD, set, take, length-set, length-append, List·getD-append}
 use lib.Seq.{take-suc-set, getD-take, length-take-le, getD-set-same, getD-set-other, append-snoc, getD-append-add}
 use lib.IntN.{ℤ}
-use Rattle.model.specs.Tree.{Node, split, leaf}
-use Rattle.model.specs.Prune.{below, preorder, placeOf}
+use Rattle.model.specs.Tree.{Node, split, leaf, below}
+use Rattle.model.specs.Prune.{preorder, placeOf}
 use Rattle.model.proofs.Family.{Family, child-forward}
 use Rattle.model.proofs.Preorder.{pre-range, pre-no-repeat, place-of}
 use Rattle.model.proofs.Tally.{short}

@@ -1,91 +1,100 @@
--- `contexts::number_leaves` meets its contract. The invariant: the walk has visited the places of the queue before `head`. Assumes nothing.
-use mathlib.Core.Path.{sym, ap, _∙_}
+-- `contexts::number_leaves` meets its contract. The invariant: the first k nodes of the order have their contexts. Assumes nothing.
+use mathlib.Core.Path.{_≡_, refl, sym, ap, _∙_, subst}
 use Prim.Native.Nat.{ℕ, _≤_, _-_}
 use native.Mathlib.Omega.{arith}
+use mathlib.Core.List.{List}
 use lib.ListN.{length, replicate}
-use Rattle.model.specs.Contexts.{noContext}
-use Rattle.tree.specs.Trees.{SoundTree}
-use Rattle.contexts.specs.Breadth.{walking}
+use Rattle.model.specs.Single.{singles}
+use Rattle.model.specs.Tree.{Record, nodesOf}
+use Rattle.model.specs.Learn.{leafCount}
+use Rattle.model.specs.Contexts.{noContext, contextsOf, breadthOrder}
+use Rattle.tree.specs.Trees.{OfTree, SoundTree}
 use Rattle.tree.proofs.Soundness.{few}
-use Rattle.contexts.proofs.Numbering.{Numbered, numbered-first, queue-within, visitable, numbered-on, numbered-end}
+use Rattle.contexts.proofs.Numbering.{Numbered, numbered-first, giveable, numbered-on, numbered-end}
 use Rattle.contexts.proofs.number_leaves.Statement.{statement}
 use Rattle.contexts.proofs.number_leaves.Tie as tie
 
 abbrev Inv-loop : tie.InvT-loop
-Inv-loop words contexts₀ queue₀ walk₀ head₀ contexts queue walk head = Numbered words (length contexts₀) head (walking (walk .next .0) (walk .end) contexts queue)
+Inv-loop words contexts₀ order next₀ k₀ end contexts next k = (k ≤ length order) × Numbered words (length order) order k (next .0) contexts
 
 abbrev μ-loop : tie.MeasureT-loop
-μ-loop words contexts₀ queue₀ walk₀ head₀ contexts queue walk head = length contexts₀ - head
+μ-loop words contexts₀ order next₀ k₀ end contexts next k = length order - k
 
--- the list of contexts keeps its length
-sound : (c : tie.After-slice-known3 Inv-loop μ-loop) → SoundTree (c .before .before .before .before .before .before .before .args .words .now) (length (c .before .before .fill .last .0))
-sound c = rw (c .before .before .fill .kept .0) (c .before .before .before .before .before .before .before .pre .sound)
+-- the nodes in breadth-first order
+abbrev order : tie.After-slice-known4 Inv-loop μ-loop → List ℕ
+order c = c .before .before .breadth-order .last .1 .0
 
--- no more nodes are waiting than there are places
-waiting : (c : tie.At-loop Inv-loop μ-loop) → c .loop .walk .end ≤ length (c .before .before .before .fill .last .0)
-waiting c = queue-within (c .before .before .before .before .before .before .before .before .args .words .now) (length (c .before .before .before .fill .last .0)) (sound (c .before)) (c .loop .head) _ (c .loop .inv)
+abbrev words : tie.After-slice-known4 Inv-loop μ-loop → List ℕ
+words c = c .before .before .before .before .before .before .before .before .before .before .before .args .words .now
+
+-- they are as many as there are places for contexts
+many : (c : tie.After-slice-known4 Inv-loop μ-loop) → length (order c) ≡ length (c .before .before .before .before .before .before .before .before .before .before .before .args .contexts .now)
+many c = c .before .before .breadth-order .kept .1 .0 ∙ c .before .before .before .before .before .before .before .before .before .before .before .pre .queue-there
+
+sound : (c : tie.After-slice-known4 Inv-loop μ-loop) → SoundTree (words c) (length (order c))
+sound c = subst (SoundTree (words c)) (sym (many c)) (c .before .before .before .before .before .before .before .before .before .before .before .pre .sound)
+
+ordered : (c : tie.After-slice-known4 Inv-loop μ-loop) → OfTree (words c) (length (order c)) (λ (t : List (Record singles)). order c ≡ breadthOrder (nodesOf t))
+ordered c = subst (λ (n : ℕ). OfTree (words c) n (λ (t : List (Record singles)). order c ≡ breadthOrder (nodesOf t))) (sym (c .before .before .breadth-order .kept .1 .0))
+    (c .before .before .breadth-order .ensures)
 
 fill-requires : tie.Need-fill-requires Inv-loop μ-loop
 fill-requires c κs = tt
 
-slice-write-queue : tie.Need-slice-write-queue Inv-loop μ-loop
-slice-write-queue c =
-    let start = c .before .before .before .before .before .before .before in
-    let pos = few (start .args .words .now) (length (start .args .contexts .now)) (start .pre .sound) .0 in
-    omega (arith, start .pre .queue-there)
+breadth-order-requires : tie.Need-breadth-order-requires Inv-loop μ-loop
+breadth-order-requires c κs =
+    let start = c .before .before .before .before .before .before .before .before in
+    subst (SoundTree (start .args .words .now)) (sym (start .pre .queue-there)) (start .pre .sound)
 
 loop-holds : tie.Need-loop-holds Inv-loop μ-loop
 loop-holds c =
-    let start = c .before .before .before .before .before .before .before in
-    let fill = c .before .before .fill in
-    numbered-first (start .args .words .now) (length (fill .last .0)) (sound c) (fill .last .0) (start .args .queue .now)
-    (fill .ensures ∙ ap (λ (n : ℕ). replicate n noContext) (sym (fill .kept .0))) (start .pre .queue-there ∙ sym (fill .kept .0))
+    let fill = c .before .before .before .before .before .before .fill in
+    (omega arith, numbered-first (words c) (length (order c)) (sound c) (order c) refl (ordered c) (fill .last .0) (fill .ensures ∙ ap (λ (n : ℕ). replicate n noContext) (sym (many c))))
 
 mul-t13 : tie.Need-mul-t13 Inv-loop μ-loop
-mul-t13 c = omega (arith, waiting (c .before .before), c .before .before .loop .inv .queue-there, c .before .before .before .before .before .fill .kept .0, c .before .before .before .before .before .before .before .before .before .before .good)
+mul-t13 c = let from = c .before .before in omega (arith, c .loop-test .taken, few (words from) (length (order from)) (sound from) .1)
 
 slice-read-t15 : tie.Need-slice-read-t15 Inv-loop μ-loop
-slice-read-t15 c = omega (arith, waiting (c .before .before .before), c .before .before .before .loop .inv .queue-there)
+slice-read-t15 c = c .before .loop-test .taken
 
-visit-requires : tie.Need-visit-requires Inv-loop μ-loop
-visit-requires c κs =
-    let here = c .before .before .before .before .before .loop in
-    let from = c .before .before .before .before .before .before in
-    visitable (from .before .before .before .before .before .before .before .args .words .now) (length (from .before .before .fill .last .0)) (sound from) (here .head) _ (here .inv) (c .before .before .before .if1 .taken)
+give-context-requires : tie.Need-give-context-requires Inv-loop μ-loop
+give-context-requires c κs =
+    let here = c .before .before .before .loop in
+    let from = c .before .before .before .before in
+    giveable (words from) (length (order from)) (sound from) (order from) refl (ordered from) (here .k) (here .next .0) (here .contexts) (here .inv .1)
+    (c .before .before .loop-test .taken)
 
-add-head : tie.Need-add-head Inv-loop μ-loop
-add-head c =
-    let at = c .before .before .before .before .before .before .before .before .before .before in
-    omega (arith, waiting at, c .before .before .before .before .before .before .before .before .if1 .taken, at .before .before .before .fill .kept .0, at .before .before .before .before .before .before .before .before .good)
+add-k : tie.Need-add-k Inv-loop μ-loop
+add-k c =
+    let from = c .before .before .before .before .before .before .before in
+    omega (arith, c .before .before .before .before .before .loop-test .taken, few (words from) (length (order from)) (sound from) .1)
 
 loop-less : tie.Need-loop-less Inv-loop μ-loop
-loop-less c =
-    let at = c .before .before .before .before .before .before .before .before .before .before in
-    omega (arith, waiting at, c .before .before .before .before .before .before .before .before .if1 .taken)
+loop-less c = omega (arith, c .before .before .before .before .before .loop-test .taken)
 
 loop-again : tie.Need-loop-again Inv-loop μ-loop
 loop-again c =
-    let here = c .before .before .before .before .before .before .before .before .before .before .loop in
-    let from = c .before .before .before .before .before .before .before .before .before .before .before in
-    numbered-on (from .before .before .before .before .before .before .before .args .words .now) (length (from .before .before .fill .last .0)) (sound from) (here .head) _ (here .inv)
-    (c .before .before .before .before .before .before .before .before .if1 .taken) _ (c .before .before .before .before .visit .ensures)
+    let here = c .before .before .before .before .before .before .loop in
+    let from = c .before .before .before .before .before .before .before in
+    let test = c .before .before .before .before .before .loop-test in (
+      omega (arith, test .taken),
+      numbered-on (words from) (length (order from)) (sound from) (order from) refl (ordered from) (here .k) (here .next .0) (here .contexts) (here .inv .1) (test .taken) _
+          (c .before .before .give-context .ensures),
+    )
 
 same-length : tie.Need-same-length Inv-loop μ-loop
-same-length c =
-    let from = c .before .before .before in
-    c .before .before .loop .inv .contexts-there ∙ from .before .before .fill .kept .0
+same-length c = c .before .loop .inv .1 .there ∙ many (c .before .before)
 
 same-length-2 : tie.Need-same-length-2 Inv-loop μ-loop
-same-length-2 c =
-    let from = c .before .before .before in
-    c .before .before .loop .inv .queue-there ∙ from .before .before .fill .kept .0 ∙ sym (from .before .before .before .before .before .before .before .pre .queue-there)
+same-length-2 c = c .before .before .before .before .breadth-order .kept .1 .0
 
 returns : tie.Need-returns Inv-loop μ-loop
-returns c values costs held =
-    let here = c .before .before .loop in
-    let from = c .before .before .before in
-    let start = from .before .before .before .before .before .before .before in
-    numbered-end (start .args .words .now) (length (start .args .contexts .now)) (start .pre .sound) (here .head) _ (rw (from .before .before .fill .kept .0) at (here .inv)) (c .if1 .left) values costs held
+returns c =
+    let here = c .before .loop in
+    let from = c .before .before in
+    subst (λ (n : ℕ). OfTree (words from) n (λ (t : List (Record singles)). (here .next .0 ≡ leafCount (nodesOf t)) × (here .contexts ≡ contextsOf (nodesOf t)))) (many from)
+    (numbered-end (words from) (length (order from)) (sound from) (order from) refl (ordered from) (here .k) (here .next .0) (here .contexts) (here .inv .1)
+    (omega (arith, c .loop-test .left, here .inv .0)))
 
 pub number-leaves-spec : {M : Type 1} → statement M
 number-leaves-spec =
@@ -94,12 +103,12 @@ number-leaves-spec =
     Inv-loop
     μ-loop
     fill-requires
-    slice-write-queue
+    breadth-order-requires
     loop-holds
     mul-t13
     slice-read-t15
-    visit-requires
-    add-head
+    give-context-requires
+    add-k
     loop-less
     loop-again
     same-length

@@ -1,0 +1,2 @@
+-- `Queue`: one turn of a breadth-first walk on the lists.
+pub mod Queue
