@@ -28,8 +28,8 @@ fn queue_children(words: &[u32], node: NodeNumber, end: usize, queue: &mut [u32]
     end
 }
 
-// The nodes of a sound tree in breadth-first order, gt before le. Each node enters the walk's queue once, so the queue is the order once it is done,
-// and has as many places as there are nodes.
+// The nodes of a sound tree in breadth-first order, gt before le. Each node enters the walk's queue once, so the queue
+// has as many places as there are nodes, and is the order once the walk is done.
 pub fn breadth_order(words: &[u32], order: &mut [u32])
     requires { ⌜ SoundTree (now words) (length (now order)) ⌝ }
     ensures { λ _. ⌜ OfTree (now (words .entry)) (length (now (order .entry))) (λ (t : List (Record singles)).

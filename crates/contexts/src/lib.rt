@@ -1,5 +1,5 @@
-// The contexts of a tree's leaves, breadth first (document 01, "Contexts"): the refusals in their order, and the leaves numbered along the order of
-// the nodes, which is written into the lent queue.
+// The contexts of a tree's leaves, breadth first (document 01, "Contexts"): the refusals in their order, and the
+// leaves numbered along the order of the nodes, which is written into the lent queue.
 ghost use mathlib.Core.Path.{_≡_};
 ghost use mathlib.Core.List.{List};
 ghost use lib.ListN.{length};
@@ -38,7 +38,8 @@ fn give_context(
 ) -> LeafContext
     requires { ⌜ Giveable (now words) (node .0) (next .0) (now contexts) ⌝ }
     ensures { λ r. ⌜ ((values : List ℤ) → numbering (r .0) (now (contexts .exit))
-        ≡ given (nodeAt (now (words .entry)) values (node .0)) (node .0) (numbering (next .0) (now (contexts .entry)))) ⌝ }
+        ≡ given (nodeAt (now (words .entry)) values (node .0)) (node .0)
+        (numbering (next .0) (now (contexts .entry)))) ⌝ }
 {
     if tree::is_split(words, node) {
         return next;
@@ -47,7 +48,7 @@ fn give_context(
     LeafContext(next.0 + 1)
 }
 
-// The contexts of a sound tree's leaves, breadth first; a split has none. The queue is lent for the nodes in that order.
+// The contexts of a sound tree's leaves, breadth first; a split has none. The queue is room for the nodes in order.
 fn number_leaves(words: &[u32], contexts: &mut [u32], queue: &mut [u32]) -> u32
     requires { ⌜ Numerable (now words) (now contexts) (now queue) ⌝ }
     ensures { λ r. ⌜ OfTree (now (words .entry)) (length (now (contexts .entry))) (λ (t : List (Record singles)).

@@ -1,4 +1,5 @@
-// The nodes of a tree in flat lists of numbers in preorder: from the root, gt first. `splits` says which nodes are splits still.
+// The nodes of a tree in flat lists of numbers in preorder: from the root, gt first. `splits` says which nodes are
+// splits still.
 ghost use mathlib.Core.Path.{_≡_};
 ghost use mathlib.Core.List.{List};
 ghost use Rattle.model.specs.Tree.{Node};
@@ -54,7 +55,7 @@ fn walk(
     found
 }
 
-// The nodes in preorder from the root, gt first, and the place of each, with a stack of its own; how many nodes there are in that order.
+// The nodes in preorder from the root, gt first, and the place of each, with a stack of its own; how many these are.
 pub fn order_nodes(
     words: &[u32],
     splits: &[bool],
