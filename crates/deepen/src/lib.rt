@@ -67,12 +67,7 @@ fn deepen_rows(
         rows,
         count,
     );
-    Learned::Grown {
-        nodes: made.nodes,
-        leaves: made.leaves,
-        bits: made.bits,
-        flat,
-    }
+    lent::answer(made, flat)
 }
 
 // Asks whether the seed is a sound tree, once the checks before have passed.

@@ -16,7 +16,7 @@ use Rattle.model.specs.Grow.{Entry, State, noEntry, recordOf, treeNodes, steps}
 use Rattle.model.specs.Profile.{jobOf, single}
 use Rattle.model.specs.Prune.{prunedTree, prunedBits}
 use Rattle.model.specs.Settle.{settled}
-use Rattle.model.specs.Learn.{leafCount, resultOf, pruned, settledState, finished}
+use Rattle.model.specs.Learn.{Result, leafCount, resultOf, pruned, settledState, finished}
 use Rattle.model.proofs.Bounded.{price-within}
 use Rattle.model.proofs.Each.{each-getD}
 use Rattle.model.proofs.Finished.{Done, pruned-done}
@@ -30,14 +30,14 @@ use Rattle.model.proofs.Sound.{Rooted}
 use Rattle.model.proofs.Tally.{tree-count}
 use Rattle.checks.specs.Given.{settingsOf}
 use Rattle.checks.specs.declared.Settings.{Settings}
+use Rattle.layout.specs.declared.Tree.{Tree}
 use Rattle.layout.specs.Tree.{laid, NodeLists, holding}
 use Rattle.lent.specs.Lists.{recordWords, recordValues, recordCosts, spanRows, nodesAfter, clearQueue}
 use Rattle.mode.specs.Lent.{Clear}
 use Rattle.prune.specs.Held.{HoldsTree, Prunable, PrunedAs}
-use Rattle.prune.specs.declared.Pruned.{Pruned}
 use Rattle.prune.proofs.Front.{front-held, front-room}
 use Rattle.settle.specs.Leaves.{HoldsLeaves}
-use Rattle.rows.specs.Flat.{Flat, heldIn, rowCount, Changed}
+use Rattle.rows.specs.Flat.{Flat, heldIn, rowCount, SameSize, Changed}
 use Rattle.rows.proofs.Cells.{length-held}
 use Rattle.rows.proofs.Shapes.{size-same, size-then, count-still}
 use Rattle.layout.specs.Waiting.{QueueLists, SameQueue}
@@ -46,18 +46,16 @@ use Rattle.state.specs.Fitting.{usesOf, Fitting}
 use Rattle.state.specs.Grows.{jobIn, Number, Grows}
 use Rattle.grow.specs.Grown.{GrownTo}
 use Rattle.finish.specs.Finished.{cutTree, cutBits, withVacated, Cut, Grew, FinishedTo}
-use Rattle.grow.specs.declared.Grown.{Grown}
-use Rattle.finish.specs.declared.Finished.{Finished}
 use Rattle.state.proofs.Numbers.{nought-number, evaluated-number, job-fits}
 use Rattle.leaf.proofs.Making.{residuals-given, uses-still}
 
 -- ---- pruning, or not
 
-pub cut-pruned : (price : Float) (tree : List (Entry singles)) (bits : Float) (lent y : NodeLists) (r : Pruned) → singles .less (singles .nought) price ≡ true
-    → PrunedAs price tree lent y r → Cut price tree bits lent y (record { nodes = r .nodes; bits = r .bits })
+pub cut-pruned : (price : Float) (tree : List (Entry singles)) (bits : Float) (lent y : NodeLists) (r : Tree) → singles .less (singles .nought) price ≡ true
+    → PrunedAs price tree lent y r → Cut price tree bits lent y r
 cut-pruned price tree bits lent y r e p = record { lists = rw e (p .lists); nodes = rw e (p .nodes); bits-are = rw e (p .bits) }
 
-pub cut-kept : (price : Float) (tree : List (Entry singles)) (lent x : NodeLists) (r : Grown) → singles .less (singles .nought) price ≡ false
+pub cut-kept : (price : Float) (tree : List (Entry singles)) (lent x : NodeLists) (r : Tree) → singles .less (singles .nought) price ≡ false
     → HoldsTree x (r .nodes) price tree lent → Cut price tree (r .bits) lent x r
 cut-kept price tree lent x r e h =
     let none : length tree - length tree ≡ 0 = omega arith in
@@ -81,7 +79,7 @@ after-holding f written flatly lent =
 
 -- ---- lists that hold a grown state
 
-module _ {s : Settings} {logs : List Float} {counts : List ℕ} {x : Flat} {n : NodeLists} {r : Grown} {lent : NodeLists} {st : State singles} {seeds : ℕ → Bool} {given : List Row}
+module _ {s : Settings} {logs : List Float} {counts : List ℕ} {x : Flat} {n : NodeLists} {r : Tree} {lent : NodeLists} {st : State singles} {seeds : ℕ → Bool} {given : List Row}
     (g : Grew s logs counts x n r lent st seeds given) where
   abbrev j : Job singles
   j = jobIn s logs x
@@ -152,7 +150,7 @@ module _ {s : Settings} {logs : List Float} {counts : List ℕ} {x : Flat} {n : 
   held-count : length (st .rows) ≡ rowCount x
   held-count = ap length (sym (g .grown .rows)) ∙ length-held (x .props) (x .toks) (x .res)
 
-  module _ {m : NodeLists} {kept : Grown} (k : Cut price tree (r .bits) lent m kept) where
+  module _ {m : NodeLists} {kept : Tree} (k : Cut price tree (r .bits) lent m kept) where
     vacated : List (Entry singles)
     vacated = replicate (length tree - length new) noEntry
 
@@ -175,7 +173,7 @@ module _ {s : Settings} {logs : List Float} {counts : List ℕ} {x : Flat} {n : 
               (b .0, omega (arith, b .1, ap length pruned-rows, held-count));
         }
 
-    pub few-kept : kept .nodes ≤ maxNodes
+    few-kept : kept .nodes ≤ maxNodes
     few-kept = omega (arith, k .nodes, ap length pruned-tree, cut-done .shorter, g .few)
 
     -- ---- the result
@@ -214,27 +212,33 @@ module _ {s : Settings} {logs : List Float} {counts : List ℕ} {x : Flat} {n : 
           let c = tree-count (treeNodes es) (subst Rooted (nodes-are es) rooted) (omega arith) in
           omega arith
 
-    pub finished-lists : {y : Flat} {f : Finished} (flatly : Float) → Changed (λ (rows : List Row). cond (s .settle) (settled (usesOf s x) new rows) rows) x y
-        → f .nodes ≡ kept .nodes → f .leaves ≡ (kept .nodes + 1) / 2 → f .bits ≡ kept .bits → FinishedTo x y m f lent (finished j st flatly)
+    pub finished-lists : {y : Flat} {f : Tree} (flatly : Float) → Changed (λ (rows : List Row). cond (s .settle) (settled (usesOf s x) new rows) rows) x y
+        → f .nodes ≡ kept .nodes → f .waiting ≡ 0 → f .bits ≡ kept .bits → FinishedTo x y m f lent (finished j st flatly)
     unfolding finished resultOf
-    finished-lists flatly changed nodes leaves bits =
+    finished-lists {f = f} flatly changed nodes none-wait bits =
         let count = k .nodes in
         let two = leaves-are in
         let many : leafCount (treeNodes (settledState j (pruned j st) .tree)) ≡ leafCount (treeNodes new) = ap (λ (es : List (Entry singles)). leafCount (treeNodes es)) done-tree in
-        let half : (kept .nodes + 1) / 2 ≡ leafCount (treeNodes new) = omega arith in
+        let half : (f .nodes + 1) / 2 ≡ leafCount (treeNodes new) = omega arith in
         record {
           rows = changed .rows ∙ sym done-rows;
           size = changed .size;
           nodes = k .lists ∙ ap (λ (es : List (Entry singles)). holding (withVacated (length tree) es) lent) (sym done-tree) ∙ sym (after-holding (settledState j (pruned j st)) (length tree) flatly lent);
           counted = nodes ∙ k .nodes ∙ ap length (sym done-tree);
-          leaves = leaves ∙ half ∙ sym many;
+          few = omega (arith, few-kept);
+          leaves = half ∙ sym many;
+          none-wait = none-wait;
           summed = bits ∙ k .bits-are ∙ ap (cutBits price tree) (g .grown .summed) ∙ sym done-bits;
         }
 
 -- ---- after growth
 
-module _ {s : Settings} {logs : List Float} {counts : List ℕ} {x : Flat} {n : NodeLists} {q : QueueLists} {waiting count : ℕ} {bits : Float} {more : ℕ} {lent : NodeLists} {st : State singles}
-    {seeds : ℕ → Bool} {given : List Row} (g : Grows s logs counts x n q waiting count bits more lent st seeds given) where
+-- what was finished from rows of as many entries
+pub finished-from : {x x' y : Flat} {n lent : NodeLists} {r : Tree} {made : Result singles} → SameSize x x' → FinishedTo x' y n r lent made → FinishedTo x y n r lent made
+finished-from size f = record { rows = f .rows; size = size-then size (f .size); nodes = f .nodes; counted = f .counted; few = f .few; leaves = f .leaves; none-wait = f .none-wait; summed = f .summed }
+
+module _ {s : Settings} {logs : List Float} {counts : List ℕ} {x : Flat} {n : NodeLists} {q : QueueLists} {tree : Tree} {more : ℕ} {lent : NodeLists} {st : State singles}
+    {seeds : ℕ → Bool} {given : List Row} (g : Grows s logs counts x n q tree more lent st seeds given) where
   -- the state that has grown
   abbrev pub grownState : State singles
   grownState = steps (jobIn s logs x) more st
@@ -245,7 +249,7 @@ module _ {s : Settings} {logs : List Float} {counts : List ℕ} {x : Flat} {n : 
   grown-healthy : Healthy (single-lawful .bounds) seeds given grownState × (length (grownState .tree) ≤ length (st .tree) + 2 * more)
   grown-healthy = steps-healthy (single-lawful .bounds) (jobIn s logs x) given (subst (JobFits (single-lawful .bounds) (jobIn s logs x)) (sym given-many) (job-fits (g .fitting) (usesOf s x))) seeds more st (g .inv) (g .healthy)
 
-  module _ {y : Flat} {m : NodeLists} {r : Grown} (to : GrownTo s logs counts x y m r lent grownState) (counts' : List ℕ) (same : counts' ≡ counts) where
+  module _ {y : Flat} {m : NodeLists} {r : Tree} (to : GrownTo s logs counts x y m r lent grownState) (counts' : List ℕ) (same : counts' ≡ counts) where
     pub grew-so : Grew s logs counts' y m r lent grownState seeds given
     grew-so = record {
       grown = record {
@@ -264,10 +268,9 @@ module _ {s : Settings} {logs : List Float} {counts : List ℕ} {x : Flat} {n : 
     }
 
     -- what is finished from there
-    pub finished-so : {z : Flat} {l : NodeLists} {f : Finished} (flatly : Float) → FinishedTo y z l f lent (finished (jobIn s logs y) grownState flatly) → FinishedTo x z l f lent (finished (jobIn s logs x) grownState flatly)
+    pub finished-so : {z : Flat} {l : NodeLists} {f : Tree} (flatly : Float) → FinishedTo y z l f lent (finished (jobIn s logs y) grownState flatly) → FinishedTo x z l f lent (finished (jobIn s logs x) grownState flatly)
     finished-so {z} {l} {f} flatly e =
-        let d = subst (λ (u : Bool). FinishedTo y z l f lent (finished (jobOf single (settingsOf s) logs u) grownState flatly)) (sym (uses-still s (to .size))) e in
-        record { rows = d .rows; size = size-then (to .size) (d .size); nodes = d .nodes; counted = d .counted; leaves = d .leaves; summed = d .summed }
+        finished-from (to .size) (subst (λ (u : Bool). FinishedTo y z l f lent (finished (jobOf single (settingsOf s) logs u) grownState flatly)) (sym (uses-still s (to .size))) e)
 
 pub clear-same : {q p : QueueLists} → SameQueue q p → clearQueue p ≡ clearQueue q
 unfolding clearQueue

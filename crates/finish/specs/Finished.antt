@@ -1,5 +1,5 @@
 -- What finishing makes of a grown tree: pruning if the price is above 0, settling if it is asked for (document 01, "Pruning"). Assumes nothing.
-use Prim.Native.Nat.{ℕ, _-_, _≤_}
+use Prim.Native.Nat.{ℕ, _+_, _-_, _/_, _≤_}
 use mathlib.Core.Path.{_≡_}
 use mathlib.Core.Bool.{Bool, cond}
 use mathlib.Core.List.{List, _++_}
@@ -17,14 +17,13 @@ use Rattle.model.proofs.Health.{Healthy}
 use Rattle.model.proofs.Growing.{Sized}
 use Rattle.model.proofs.SingleLawful.{single-lawful}
 use Rattle.checks.specs.declared.Settings.{Settings}
+use Rattle.layout.specs.declared.Tree.{Tree}
 use Rattle.layout.specs.Tree.{NodeLists, holding, HasRoom}
 use Rattle.lent.specs.Lists.{nodesAfter}
 use Rattle.rows.specs.Flat.{Flat, flat, heldIn, rowCount, SameSize}
 use Rattle.state.specs.Fitting.{usesOf}
 use Rattle.state.specs.Grows.{Number}
 use Rattle.grow.specs.Grown.{GrownTo}
-use Rattle.grow.specs.declared.Grown.{Grown}
-use Rattle.finish.specs.declared.Finished.{Finished}
 
 -- pruned, if the price is above 0: the tree and its bits
 abbrev pub cutTree : Float → List (Entry singles) → List (Entry singles)
@@ -37,13 +36,13 @@ cutBits price tree bits = cond (singles .less (singles .nought) price) (prunedBi
 abbrev pub withVacated : ℕ → List (Entry singles) → List (Entry singles)
 withVacated written tree = tree ++ replicate (written - length tree) noEntry
 
-pub record Cut (price : Float) (tree : List (Entry singles)) (bits : Float) (lent y : NodeLists) (r : Grown) : Type 0 where
+pub record Cut (price : Float) (tree : List (Entry singles)) (bits : Float) (lent y : NodeLists) (r : Tree) : Type 0 where
   pub lists : y ≡ holding (withVacated (length tree) (cutTree price tree)) lent
   pub nodes : r .nodes ≡ length (cutTree price tree)
   pub bits-are : r .bits ≡ cutBits price tree bits
 
 -- The lists hold a grown state: what growth leaves, with what growth keeps
-pub record Grew (s : Settings) (logs : List Float) (counts : List ℕ) (x : Flat) (lists : NodeLists) (r : Grown) (lent : NodeLists) (st : State singles) (seeds : ℕ → Bool) (given : List Row) : Type 0 where
+pub record Grew (s : Settings) (logs : List Float) (counts : List ℕ) (x : Flat) (lists : NodeLists) (r : Tree) (lent : NodeLists) (st : State singles) (seeds : ℕ → Bool) (given : List Row) : Type 0 where
   pub grown : GrownTo s logs counts x x lists r lent st
   pub room : HasRoom (length (st .tree)) lent
   pub few : length (st .tree) ≤ maxNodes
@@ -52,7 +51,7 @@ pub record Grew (s : Settings) (logs : List Float) (counts : List ℕ) (x : Flat
   pub sized : Sized Number (rowCount x) st
 
 -- there is such a state, whatever properties the rows have
-pub record Finishable (s : Settings) (tok : List ℕ) (res : List ℤ) (lists : NodeLists) (counts : List ℕ) (r : Grown) : Type 0 where
+pub record Finishable (s : Settings) (tok : List ℕ) (res : List ℤ) (lists : NodeLists) (counts : List ℕ) (r : Tree) : Type 0 where
   pub props : List ℤ
   pub logs : List Float
   pub lent : NodeLists
@@ -61,11 +60,13 @@ pub record Finishable (s : Settings) (tok : List ℕ) (res : List ℤ) (lists : 
   pub given : List Row
   pub grew : Grew s logs counts (flat props tok res) lists r lent state seeds given
 
--- y holds the rows, the lists the nodes and spans, and r counts and bits
-pub record FinishedTo (x y : Flat) (lists : NodeLists) (r : Finished) (lent : NodeLists) (made : Result singles) : Type 0 where
+-- y holds the rows, the lists the nodes and spans, and r counts and bits; there is one leaf more than splits, and none waits
+pub record FinishedTo (x y : Flat) (lists : NodeLists) (r : Tree) (lent : NodeLists) (made : Result singles) : Type 0 where
   pub rows : heldIn y ≡ made .rows
   pub size : SameSize x y
   pub nodes : lists ≡ nodesAfter made lent
   pub counted : r .nodes ≡ made .count
-  pub leaves : r .leaves ≡ made .leaves
+  pub few : r .nodes ≤ maxNodes
+  pub leaves : (r .nodes + 1) / 2 ≡ made .leaves
+  pub none-wait : r .waiting ≡ 0
   pub summed : r .bits ≡ made .bits

@@ -20,14 +20,7 @@ ghost use Rattle.settle.specs.Leaves.{HoldsLeaves, Settleable};
 ghost use Rattle.state.specs.Grows.{jobIn, Grows, Growable};
 ghost use Rattle.finish.specs.Finished.{Cut, Grew, Finishable, FinishedTo};
 use checks::Settings;
-use grow::Grown;
-
-// How many nodes and leaves the finished tree has, and its estimated bits.
-pub struct Finished {
-    pub nodes: u32,
-    pub leaves: u32,
-    pub bits: f64,
-}
+use layout::Tree;
 
 // Prunes if the price is above 0.
 fn prune_if(
@@ -35,20 +28,16 @@ fn prune_if(
     values: &mut [i32],
     costs: &mut [f32],
     spans: &mut [u32],
-    grown: Grown,
+    grown: Tree,
     price: f32,
-) -> Grown
+) -> Tree
     requires { ⌜ Prunable (nodeLists (now words) (now values) (now costs) (now spans)) (grown .nodes) price ⌝ }
     ensures { λ r. ⌜ ((tree : List (Entry singles)) (lent : NodeLists)
         → HoldsTree (nodeLists (now (words .entry)) (now (values .entry)) (now (costs .entry)) (now (spans .entry))) (grown .nodes) price tree lent
         → Cut price tree (grown .bits) lent (nodeLists (now (words .exit)) (now (values .exit)) (now (costs .exit)) (now (spans .exit))) r) ⌝ }
 {
     if 0.0 < price {
-        let pruned = prune::prune_tree(words, values, costs, spans, grown.nodes, price);
-        return Grown {
-            nodes: pruned.nodes,
-            bits: pruned.bits,
-        };
+        return prune::prune_tree(words, values, costs, spans, grown.nodes, price);
     }
     grown
 }
@@ -75,7 +64,7 @@ fn settle_if(
     }
 }
 
-// Prunes and settles what has grown. A tree in which each split has two children has one leaf more than splits.
+// Prunes and settles what has grown. No leaf waits any more.
 fn finish_tree(
     tok: &mut [u8],
     res: &[i32],
@@ -85,8 +74,8 @@ fn finish_tree(
     spans: &mut [u32],
     counts: &mut [u32],
     s: Settings,
-    grown: Grown,
-) -> Finished
+    grown: Tree,
+) -> Tree
     requires { ⌜ Finishable s (now tok) (now res) (nodeLists (now words) (now values) (now costs) (now spans)) (now counts) grown ⌝ }
     ensures { λ r. ⌜ ((props : List ℤ) (logs : List Float) (lent : NodeLists) (st : State singles) (seeds : ℕ → Bool) (given : List Row) (flatly : Float)
         → Grew s logs (now (counts .entry)) (flat props (now (tok .entry)) (now (res .entry))) (nodeLists (now (words .entry)) (now (values .entry)) (now (costs .entry)) (now (spans .entry))) grown lent st seeds given
@@ -96,12 +85,11 @@ fn finish_tree(
     ensures { λ _. ⌜ now (counts .exit) ≡ now (counts .entry) ⌝ }
 {
     let kept = prune_if(words, values, costs, spans, grown, s.prune_leaf_bits);
-    let nodes = kept.nodes;
     let uses = s.modal_offsets & (0 < res.len());
-    settle_if(s.settle, words, spans, nodes, uses, tok, res, counts);
-    Finished {
-        nodes: nodes as u32,
-        leaves: ((nodes + 1) / 2) as u32,
+    settle_if(s.settle, words, spans, kept.nodes, uses, tok, res, counts);
+    Tree {
+        nodes: kept.nodes,
+        waiting: 0,
         bits: kept.bits,
     }
 }
@@ -146,17 +134,15 @@ pub fn grow_and_finish(
     counts: &mut [u32],
     logs: &[f32],
     s: Settings,
-    waiting: usize,
-    count: usize,
-    bits: f64,
+    tree: Tree,
     more: usize,
-) -> Finished
+) -> Tree
     requires { ⌜ Growable s (now logs) (now counts) (flat (now props) (now tok) (now res)) (nodeLists (now words) (now values) (now costs) (now spans))
-        (queueLists (now «queue_words») (now «queue_values») (now «queue_gains»)) waiting count bits more ⌝ }
+        (queueLists (now «queue_words») (now «queue_values») (now «queue_gains»)) tree more ⌝ }
     ensures { λ r. ⌜ ((lent : NodeLists) (st : State singles) (seeds : ℕ → Bool) (given : List Row) (flatly : Float)
         → Grows s (now (logs .entry)) (now (counts .entry)) (flat (now (props .entry)) (now (tok .entry)) (now (res .entry)))
         (nodeLists (now (words .entry)) (now (values .entry)) (now (costs .entry)) (now (spans .entry)))
-        (queueLists (now («queue_words» .entry)) (now («queue_values» .entry)) (now («queue_gains» .entry))) waiting count bits more lent st seeds given
+        (queueLists (now («queue_words» .entry)) (now («queue_values» .entry)) (now («queue_gains» .entry))) tree more lent st seeds given
         → FinishedTo (flat (now (props .entry)) (now (tok .entry)) (now (res .entry))) (flat (now (props .exit)) (now (tok .exit)) (now (res .exit)))
         (nodeLists (now (words .exit)) (now (values .exit)) (now (costs .exit)) (now (spans .exit))) r lent
         (finished (jobIn s (now (logs .entry)) (flat (now (props .entry)) (now (tok .entry)) (now (res .entry))))
@@ -179,9 +165,7 @@ pub fn grow_and_finish(
         counts,
         logs,
         s,
-        waiting,
-        count,
-        bits,
+        tree,
         more,
     );
     let made = finish_tree(tok, res, words, values, costs, spans, counts, s, grown);

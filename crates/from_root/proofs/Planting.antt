@@ -33,12 +33,9 @@ use Rattle.layout.specs.Waiting.{QueueLists, Queued, SameQueue, waits, waitingF
 use Rattle.layout.proofs.Held.{put-more, holding-none, holding-same, same-cells, room-fewer}
 use Rattle.layout.proofs.Queue.{fewer-room, same-room, few-waits}
 use Rattle.rows.specs.Cells.{span}
-use Rattle.rows.specs.Flat.{Flat, heldIn, rowCount, Spanned, SameSize}
+use Rattle.rows.specs.Flat.{Flat, heldIn, rowCount, Spanned}
 use Rattle.rows.proofs.Cells.{length-held}
-use Rattle.rows.proofs.Shapes.{count-still, size-then}
-use Rattle.model.specs.Learn.{Result}
-use Rattle.finish.specs.Finished.{FinishedTo}
-use Rattle.finish.specs.declared.Finished.{Finished}
+use Rattle.rows.proofs.Shapes.{count-still}
 use Rattle.state.specs.Fitting.{usesOf, Fitting, LeafFits}
 use Rattle.leaf.specs.Made.{MadeLeaf}
 use Rattle.state.proofs.Numbers.{nought-number, evaluated-number}
@@ -104,7 +101,7 @@ module _ {s : Settings} {logs : List Float} {counts : List ℕ} {x : Flat} {n : 
 
     pub planted : (q' : QueueLists) (waiting : ℕ) (bits : Float) → SameQueue q q' → Queued waiting q' ([] ++ waits 0 0 (offerIs (r .offer))) → waiting ≡ 0 + length (waits 0 0 (offerIs (r .offer)))
         → bits ≡ r .info .cost → (counts' : List ℕ) → counts' ≡ counts
-        → Grows s logs counts' y (put 0 (leafWith (r .info) 0 rows) n) q' waiting 1 bits (s .«max_leaves» - 1) n root noSeeds given
+        → Grows s logs counts' y (put 0 (leafWith (r .info) 0 rows) n) q' (record { nodes = 1; waiting = waiting; bits = bits }) (s .«max_leaves» - 1) n root noSeeds given
     unfolding rootState leafOver waitingFrom
     planted q' waiting bits same queued many cost counts' counts-are =
         let limit = p .fitting .settings .limit in
@@ -125,9 +122,3 @@ module _ {s : Settings} {logs : List Float} {counts : List ℕ} {x : Flat} {n : 
           sized = root-sized Number (rowCount y) j nought-number (λ mode l h. evaluated-number (p .fitting) mode l (omega arith)) given (omega (arith, length-held (x .props) (x .toks) (x .res)));
           shallow = λ k h o e. elim k [ zero ↦ omega arith | suc i ↦ omega arith ];
         }
-
--- ---- from the root on
-
--- lists as long before as after planting
-pub finished-from : {x x' y : Flat} {n lent : NodeLists} {r : Finished} {made : Result singles} → SameSize x x' → FinishedTo x' y n r lent made → FinishedTo x y n r lent made
-finished-from size f = record { rows = f .rows; size = size-then size (f .size); nodes = f .nodes; counted = f .counted; leaves = f .leaves; summed = f .summed }

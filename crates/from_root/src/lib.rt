@@ -13,13 +13,7 @@ ghost use Rattle.finish.specs.Finished.{FinishedTo};
 ghost use Rattle.start.specs.Starts.{Plantable};
 ghost use Rattle.from_root.specs.Result.{resultIn};
 use checks::Settings;
-use finish::Finished;
-
-// The root's place in the queue, if it waits, and its cost.
-struct Planted {
-    waiting: usize,
-    bits: f64,
-}
+use layout::Tree;
 
 // A cost as a total: each single-precision number is one of double precision.
 fn as_total(bits: f32) -> f64
@@ -45,12 +39,12 @@ fn plant_root(
     logs: &[f32],
     s: Settings,
     rows: usize,
-) -> Planted
+) -> Tree
     requires { ⌜ Plantable s (now logs) (now counts) (flat (now props) (now tok) (now res)) (nodeLists (now words) (now values) (now costs) (now spans))
         (queueLists (now «queue_words») (now «queue_values») (now «queue_gains»)) rows ⌝ }
     ensures { λ r. ⌜ Grows s (now (logs .entry)) (now (counts .exit)) (flat (now (props .entry)) (now (tok .exit)) (now (res .entry)))
         (nodeLists (now (words .exit)) (now (values .exit)) (now (costs .exit)) (now (spans .exit)))
-        (queueLists (now («queue_words» .exit)) (now («queue_values» .exit)) (now («queue_gains» .exit))) (r .waiting) 1 (r .bits) (s .«max_leaves» - 1)
+        (queueLists (now («queue_words» .exit)) (now («queue_values» .exit)) (now («queue_gains» .exit))) r (s .«max_leaves» - 1)
         (nodeLists (now (words .entry)) (now (values .entry)) (now (costs .entry)) (now (spans .entry)))
         (rootState (jobIn s (now (logs .entry)) (flat (now (props .entry)) (now (tok .entry)) (now (res .entry)))) (heldIn (flat (now (props .entry)) (now (tok .entry)) (now (res .entry)))))
         noSeeds (heldIn (flat (now (props .entry)) (now (tok .entry)) (now (res .entry)))) ⌝ }
@@ -72,7 +66,8 @@ fn plant_root(
     nodes::put_leaf(words, values, costs, spans, 0, info, 0, rows);
     let offer = root.offer;
     let waiting = queue::enqueue(queue_words, queue_values, queue_gains, 0, 0, 0, offer);
-    Planted {
+    Tree {
+        nodes: 1,
         waiting,
         bits: as_total(info.cost),
     }
@@ -94,7 +89,7 @@ pub fn grow_from_root(
     logs: &[f32],
     s: Settings,
     rows: usize,
-) -> Finished
+) -> Tree
     requires { ⌜ Plantable s (now logs) (now counts) (flat (now props) (now tok) (now res)) (nodeLists (now words) (now values) (now costs) (now spans))
         (queueLists (now «queue_words») (now «queue_values») (now «queue_gains»)) rows ⌝ }
     ensures { λ r. ⌜ FinishedTo (flat (now (props .entry)) (now (tok .entry)) (now (res .entry))) (flat (now (props .exit)) (now (tok .exit)) (now (res .exit)))
@@ -121,8 +116,6 @@ pub fn grow_from_root(
         s,
         rows,
     );
-    let waiting = root.waiting;
-    let bits = root.bits;
     let more = s.max_leaves as usize - 1;
     finish::grow_and_finish(
         props,
@@ -138,9 +131,7 @@ pub fn grow_from_root(
         counts,
         logs,
         s,
-        waiting,
-        1,
-        bits,
+        root,
         more,
     )
 }

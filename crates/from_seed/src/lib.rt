@@ -1,7 +1,8 @@
 // From a sound seed to the finished tree (document 01, "Deepening"; the Rust's `deepen_ma_tree` from the seed on): its leaves planted, then growth, pruning and settling
 // as in learning.
 ghost use mathlib.Core.Path.{_≡_};
-ghost use Prim.Native.Nat.{_-_};
+ghost use Prim.Native.Nat.{_+_, _-_, _/_, _≤_};
+ghost use Rattle.model.specs.Settings.{maxNodes};
 ghost use Rattle.layout.specs.Tree.{nodeLists};
 ghost use Rattle.layout.specs.Waiting.{queueLists};
 ghost use Rattle.lent.specs.Lists.{clearQueue};
@@ -10,12 +11,14 @@ ghost use Rattle.finish.specs.Finished.{FinishedTo};
 ghost use Rattle.plant.specs.Seeded.{Seedable};
 ghost use Rattle.from_seed.specs.Result.{deepenedIn};
 use checks::Settings;
-use finish::Finished;
+use layout::Tree;
 
-// How many leaves the limit leaves room for: none where the seed has as many already.
-fn leaves_left(limit: usize, leaves: usize) -> usize
-    ensures { λ r. ⌜ r ≡ limit - leaves ⌝ }
+// How many leaves the limit leaves room for: none where a seed of so many nodes has as many already.
+fn leaves_left(limit: usize, nodes: usize) -> usize
+    requires { ⌜ nodes ≤ maxNodes ⌝ }
+    ensures { λ r. ⌜ r ≡ limit - (nodes + 1) / 2 ⌝ }
 {
+    let leaves = (nodes + 1) / 2;
     if leaves < limit { limit - leaves } else { 0 }
 }
 
@@ -36,7 +39,7 @@ pub fn grow_from_seed(
     s: Settings,
     rows: usize,
     count: usize,
-) -> Finished
+) -> Tree
     requires { ⌜ Seedable s (now logs) (now counts) (flat (now props) (now tok) (now res)) (nodeLists (now words) (now values) (now costs) (now spans))
         (queueLists (now «queue_words») (now «queue_values») (now «queue_gains»)) rows count ⌝ }
     ensures { λ r. ⌜ FinishedTo (flat (now (props .entry)) (now (tok .entry)) (now (res .entry))) (flat (now (props .exit)) (now (tok .exit)) (now (res .exit)))
@@ -65,9 +68,7 @@ pub fn grow_from_seed(
         rows,
         count,
     );
-    let waiting = planted.waiting;
-    let bits = planted.bits;
-    let more = leaves_left(s.max_leaves as usize, planted.leaves);
+    let more = leaves_left(s.max_leaves as usize, planted.nodes);
     finish::grow_and_finish(
         props,
         tok,
@@ -82,9 +83,7 @@ pub fn grow_from_seed(
         counts,
         logs,
         s,
-        waiting,
-        count,
-        bits,
+        planted,
         more,
     )
 }

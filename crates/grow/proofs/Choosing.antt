@@ -17,6 +17,7 @@ use Rattle.model.specs.Grow.{Entry, State, noEntry, splitAt, stepTo, step}
 use Rattle.model.proofs.Each.{each-getD}
 use Rattle.model.proofs.Growing.{Fine}
 use Rattle.checks.specs.declared.Settings.{Settings}
+use Rattle.layout.specs.declared.Tree.{Tree}
 use Rattle.layout.specs.Tree.{NodeLists, HasRoom}
 use Rattle.layout.specs.Waiting.{QueueLists, Queued, QueueRoom, queueOf, firstBest}
 use Rattle.layout.proofs.Held.{room-fewer, holding-room, held-first, held-end, held-cost}
@@ -30,14 +31,14 @@ use Rattle.state.specs.Grows.{jobIn, Number, Grows}
 use Rattle.grow.specs.declared.Pending.{Pending}
 
 -- the rows of the state are those that the lists hold
-pub rows-many : {s : Settings} {logs : List Float} {counts : List ℕ} {x : Flat} {lists : NodeLists} {q : QueueLists} {waiting count : ℕ} {bits : Float} {more : ℕ}
+pub rows-many : {s : Settings} {logs : List Float} {counts : List ℕ} {x : Flat} {lists : NodeLists} {q : QueueLists} {tree : Tree} {more : ℕ}
     {lent : NodeLists} {st : State singles} {seeds : ℕ → Bool} {given : List Row}
-    → Grows s logs counts x lists q waiting count bits more lent st seeds given → length (st .rows) ≡ rowCount x
+    → Grows s logs counts x lists q tree more lent st seeds given → length (st .rows) ≡ rowCount x
 rows-many {x = x} g = ap length (sym (g .rows)) ∙ length-held (x .props) (x .toks) (x .res)
 
-module _ {s : Settings} {logs : List Float} {counts : List ℕ} {x : Flat} {lists : NodeLists} {q : QueueLists} {waiting count : ℕ} {bits : Float} {left : ℕ}
-    {lent : NodeLists} {st : State singles} {seeds : ℕ → Bool} {given : List Row} (g : Grows s logs counts x lists q waiting count bits left lent st seeds given)
-    (k : ℕ) (one : 0 < left) (wait : 0 < waiting) (best : k ≡ firstBest (q .gains) waiting) where
+module _ {s : Settings} {logs : List Float} {counts : List ℕ} {x : Flat} {lists : NodeLists} {q : QueueLists} {tree : Tree} {left : ℕ}
+    {lent : NodeLists} {st : State singles} {seeds : ℕ → Bool} {given : List Row} (g : Grows s logs counts x lists q tree left lent st seeds given)
+    (k : ℕ) (one : 0 < left) (wait : 0 < tree .waiting) (best : k ≡ firstBest (q .gains) (tree .waiting)) where
   -- the leaf that waits there, and its entry
   abbrev pub w : Waiting singles
   w = getD (queueOf (st .tree)) k noWaiting
@@ -45,11 +46,11 @@ module _ {s : Settings} {logs : List Float} {counts : List ℕ} {x : Flat} {list
   abbrev pub e : Entry singles
   e = getD (st .tree) (w .node) noEntry
 
-  queued : Queued waiting q (queueOf (st .tree))
+  queued : Queued (tree .waiting) q (queueOf (st .tree))
   queued = g .queued one
 
-  pub inside : k < waiting
-  inside = let low = best-below (q .gains) waiting in omega arith
+  pub inside : k < tree .waiting
+  inside = let low = best-below (q .gains) (tree .waiting) in omega arith
 
   pub in-queue : k < length (queueOf (st .tree))
   in-queue = omega (arith, queued .many, inside)
@@ -87,18 +88,18 @@ module _ {s : Settings} {logs : List Float} {counts : List ℕ} {x : Flat} {list
   cost-number = each-getD (Fine Number) (st .tree) (w .node) noEntry (omega arith, tt) (g .sized .entries) .1
 
   -- ---- the rooms
-  pub lists-room : HasRoom (count + 2) lists
+  pub lists-room : HasRoom (tree .nodes + 2) lists
   lists-room =
       let many = g .counted in
       rw (g .nodes) (holding-room (st .tree) lent (room-fewer (g .room) (omega arith)))
 
-  pub node-inside : w .node < count
+  pub node-inside : w .node < tree .nodes
   node-inside = let h = standing .within in let many = g .counted in omega arith
 
-  pub few-nodes : count + 2 ≤ maxNodes
+  pub few-nodes : tree .nodes + 2 ≤ maxNodes
   few-nodes = let many = g .counted in let few = g .few in omega arith
 
-  pub queue-room : QueueRoom (waiting + 1) q
+  pub queue-room : QueueRoom (tree .waiting + 1) q
   queue-room = fewer-room (g .queue-room) (omega arith)
 
   -- ---- what the code reads
@@ -117,7 +118,7 @@ module _ {s : Settings} {logs : List Float} {counts : List ℕ} {x : Flat} {list
 
     pub spans-room : p .node * 2 + 2 ≤ length (lists .spans)
     spans-room =
-        let h : suc (p .node) * 2 ≤ (count + 2) * 2 = mul-le-mul-right 2 (omega (arith, node-is, node-inside)) in
+        let h : suc (p .node) * 2 ≤ (tree .nodes + 2) * 2 = mul-le-mul-right 2 (omega (arith, node-is, node-inside)) in
         let room = lists-room .spans in
         omega arith
 

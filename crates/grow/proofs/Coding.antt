@@ -14,6 +14,7 @@ use Rattle.model.specs.Single.{singles}
 use Rattle.model.specs.Lent.{Waiting, noWaiting}
 use Rattle.model.specs.Grow.{Entry, State, noEntry, grownBits, step}
 use Rattle.checks.specs.declared.Settings.{Settings}
+use Rattle.layout.specs.declared.Tree.{Tree}
 use Rattle.layout.specs.Tree.{NodeLists, HasRoom}
 use Rattle.layout.specs.Values.{offerIs}
 use Rattle.layout.specs.Waiting.{QueueLists, Queued, SameQueue, queueOf, without, waits, firstBest}
@@ -26,9 +27,9 @@ use Rattle.grow.specs.declared.Sides.{Sides}
 use Rattle.grow.proofs.Choosing as choosing
 use Rattle.grow.proofs.Stepping as stepping
 
-module _ {s : Settings} {logs : List Float} {counts : List ℕ} {x : Flat} {lists : NodeLists} {q : QueueLists} {waiting count : ℕ} {bits : Float} {left : ℕ}
-    {lent : NodeLists} {st : State singles} {seeds : ℕ → Bool} {given : List Row} (g : Grows s logs counts x lists q waiting count bits left lent st seeds given)
-    (k : ℕ) (one : 0 < left) (wait : 0 < waiting) (best : k ≡ firstBest (q .gains) waiting)
+module _ {s : Settings} {logs : List Float} {counts : List ℕ} {x : Flat} {lists : NodeLists} {q : QueueLists} {tree : Tree} {left : ℕ}
+    {lent : NodeLists} {st : State singles} {seeds : ℕ → Bool} {given : List Row} (g : Grows s logs counts x lists q tree left lent st seeds given)
+    (k : ℕ) (one : 0 < left) (wait : 0 < tree .waiting) (best : k ≡ firstBest (q .gains) (tree .waiting))
     (p : Pending) (is : PendingAt (q .words) (q .values) k p)
     (first end : ℕ) (from : first ≡ getD (lists .spans) (p .node * 2) 0) (upto : end ≡ getD (lists .spans) (p .node * 2 + 1) 0)
     {y : Flat} {r : Sides} (cut : RowsSplit (ltb 1 left) s logs counts (p .depth + 1) (p .prop) (p .val) (span first end) x y r) where
@@ -59,7 +60,7 @@ module _ {s : Settings} {logs : List Float} {counts : List ℕ} {x : Flat} {list
   told : RowsSplit (ltb 1 left) s logs counts (suc (w .depth)) (w .offer .prop) (w .offer .val) (e .span) x y r
   told = transport (λ j. RowsSplit (ltb 1 left) s logs counts (depth-is j) (prop-is j) (val-is j) (span (first-is j) (end-is j)) x y r) cut
 
-  pub nodes-fit : HasRoom (count + 2) lists × ((p .node < count) × (count + 2 ≤ maxNodes) × (first ≤ maxRows) × (r .at ≤ maxRows) × (end ≤ maxRows))
+  pub nodes-fit : HasRoom (tree .nodes + 2) lists × ((p .node < tree .nodes) × (tree .nodes + 2 ≤ maxNodes) × (first ≤ maxRows) × (r .at ≤ maxRows) × (end ≤ maxRows))
   nodes-fit =
       let inside = choosing.node-inside g k one wait best in
       let node = node-is in
@@ -74,17 +75,17 @@ module _ {s : Settings} {logs : List Float} {counts : List ℕ} {x : Flat} {list
   pub growth-fits : Number (sub binary32 (add binary32 (r .gt .info .cost) (r .le .info .cost)) (getD (lists .costs) (p .node) nan))
   growth-fits = stepping.growth-is-number g k one wait best told (getD (lists .costs) (p .node) nan) (choosing.cost-is g k one wait best p is)
 
-  module _ {lists' : NodeLists} {q' : QueueLists} {waiting' : ℕ} {bits' : Float}
-      (nodes : lists' ≡ splitNodes (p .node) (p .prop) (p .val) count (r .gt .info) (r .le .info) first (r .at) end lists)
-      (requeued : (leaves : List (Waiting singles)) → Queued waiting q leaves
-      → Queued waiting' q' (without k leaves ++ waits count (p .depth + 1) (offerIs (r .gt .offer)) ++ waits (count + 1) (p .depth + 1) (offerIs (r .le .offer))))
-      (fewer : waiting' ≤ waiting + 1) (same : SameQueue q q')
-      (summed : bits' ≡ grownBits singles bits (r .gt .info .cost) (r .le .info .cost) (getD (lists .costs) (p .node) nan)) where
-    pub grows-on : Grows s logs counts y lists' q' waiting' (count + 2) bits' (left - 1) lent (step (jobIn s logs x) st) seeds given
+  module _ {lists' : NodeLists} {q' : QueueLists} {tree' : Tree} (two-more : tree' .nodes ≡ tree .nodes + 2)
+      (nodes : lists' ≡ splitNodes (p .node) (p .prop) (p .val) (tree .nodes) (r .gt .info) (r .le .info) first (r .at) end lists)
+      (requeued : (leaves : List (Waiting singles)) → Queued (tree .waiting) q leaves
+      → Queued (tree' .waiting) q' (without k leaves ++ waits (tree .nodes) (p .depth + 1) (offerIs (r .gt .offer)) ++ waits (tree .nodes + 1) (p .depth + 1) (offerIs (r .le .offer))))
+      (fewer : tree' .waiting ≤ tree .waiting + 1) (same : SameQueue q q')
+      (summed : tree' .bits ≡ grownBits singles (tree .bits) (r .gt .info .cost) (r .le .info .cost) (getD (lists .costs) (p .node) nan)) where
+    pub grows-on : Grows s logs counts y lists' q' tree' (left - 1) lent (step (jobIn s logs x) st) seeds given
     grows-on =
-        stepping.grows-next g k one wait best told
-        (transport (λ j. lists' ≡ splitNodes (node-is j) (prop-is j) (val-is j) count (r .gt .info) (r .le .info) (first-is j) (r .at) (end-is j) lists) nodes)
-        (transport (λ j. (leaves : List (Waiting singles)) → Queued waiting q leaves
-        → Queued waiting' q' (without k leaves ++ waits count (depth-is j) (offerIs (r .gt .offer)) ++ waits (count + 1) (depth-is j) (offerIs (r .le .offer)))) requeued)
+        stepping.grows-next g k one wait best told two-more
+        (transport (λ j. lists' ≡ splitNodes (node-is j) (prop-is j) (val-is j) (tree .nodes) (r .gt .info) (r .le .info) (first-is j) (r .at) (end-is j) lists) nodes)
+        (transport (λ j. (leaves : List (Waiting singles)) → Queued (tree .waiting) q leaves
+        → Queued (tree' .waiting) q' (without k leaves ++ waits (tree .nodes) (depth-is j) (offerIs (r .gt .offer)) ++ waits (tree .nodes + 1) (depth-is j) (offerIs (r .le .offer)))) requeued)
         fewer same
-        (summed ∙ ap (grownBits singles bits (r .gt .info .cost) (r .le .info .cost)) (choosing.cost-is g k one wait best p is))
+        (summed ∙ ap (grownBits singles (tree .bits) (r .gt .info .cost) (r .le .info .cost)) (choosing.cost-is g k one wait best p is))

@@ -17,6 +17,7 @@ use Rattle.model.specs.Grow.{State, stepTo, step, steps}
 use Rattle.model.proofs.Paths.{T→true}
 use Rattle.checks.specs.Given.{settingsOf}
 use Rattle.checks.specs.declared.Settings.{Settings}
+use Rattle.layout.specs.declared.Tree.{Tree}
 use Rattle.layout.specs.Tree.{NodeLists}
 use Rattle.layout.specs.Waiting.{QueueLists, SameQueue, queueOf, firstBest}
 use Rattle.layout.proofs.Held.{SameLengths}
@@ -66,24 +67,24 @@ module _ (s : Settings) (logs : List Float) (x : Flat) (st : State singles) (non
 
 -- ---- the invariant
 -- the state that the lists hold, from which `left` steps lead where `more` steps from st lead
-pub record Reached (s : Settings) (logs : List Float) (counts : List ℕ) (x₀ x : Flat) (lists : NodeLists) (q : QueueLists) (waiting count : ℕ) (bits : Float) (more left : ℕ)
+pub record Reached (s : Settings) (logs : List Float) (counts : List ℕ) (x₀ x : Flat) (lists : NodeLists) (q : QueueLists) (tree : Tree) (more left : ℕ)
     (lent : NodeLists) (st : State singles) (seeds : ℕ → Bool) (given : List Row) : Type 0 where
   pub state : State singles
-  pub grows : Grows s logs counts x lists q waiting count bits left lent state seeds given
+  pub grows : Grows s logs counts x lists q tree left lent state seeds given
   pub onward : steps (jobIn s logs x₀) left state ≡ steps (jobIn s logs x₀) more st
 
 pub record Going (s : Settings) (logs : List Float) (counts₀ counts : List ℕ) (x₀ x : Flat) (lists₀ lists : NodeLists) (q₀ q : QueueLists)
-    (waiting₀ waiting count₀ count : ℕ) (bits₀ bits : Float) (more left : ℕ) : Type 0 where
+    (tree₀ tree : Tree) (more left : ℕ) : Type 0 where
   pub reached : (lent : NodeLists) (st : State singles) (seeds : ℕ → Bool) (given : List Row)
-      → Grows s logs counts₀ x₀ lists₀ q₀ waiting₀ count₀ bits₀ more lent st seeds given
-      → Reached s logs counts x₀ x lists q waiting count bits more left lent st seeds given
+      → Grows s logs counts₀ x₀ lists₀ q₀ tree₀ more lent st seeds given
+      → Reached s logs counts x₀ x lists q tree more left lent st seeds given
   pub size : SameSize x₀ x
   pub nodes : SameLengths lists₀ lists
   pub queue : SameQueue q₀ q
   pub space : counts ≡ counts₀
 
-pub begins : {s : Settings} {logs : List Float} {counts : List ℕ} {x : Flat} {lists : NodeLists} {q : QueueLists} {waiting count : ℕ} {bits : Float} {more : ℕ}
-    → Going s logs counts counts x x lists lists q q waiting waiting count count bits bits more more
+pub begins : {s : Settings} {logs : List Float} {counts : List ℕ} {x : Flat} {lists : NodeLists} {q : QueueLists} {tree : Tree} {more : ℕ}
+    → Going s logs counts counts x x lists lists q q tree tree more more
 begins {x = x} = record {
   reached = λ lent st seeds given g. record { state = st; grows = g; onward = refl };
   size = size-same x;
@@ -93,37 +94,34 @@ begins {x = x} = record {
 }
 
 module _ {s : Settings} {logs : List Float} {counts₀ counts : List ℕ} {x₀ x : Flat} {lists₀ lists : NodeLists} {q₀ q : QueueLists}
-    {waiting₀ waiting count₀ count : ℕ} {bits₀ bits : Float} {more left : ℕ} (first : Growable s logs counts₀ x₀ lists₀ q₀ waiting₀ count₀ bits₀ more)
-    (h : Going s logs counts₀ counts x₀ x lists₀ lists q₀ q waiting₀ waiting count₀ count bits₀ bits more left) where
-  pub going-on : Growable s logs counts x lists q waiting count bits left
+    {tree₀ tree : Tree} {more left : ℕ} (first : Growable s logs counts₀ x₀ lists₀ q₀ tree₀ more)
+    (h : Going s logs counts₀ counts x₀ x lists₀ lists q₀ q tree₀ tree more left) where
+  pub going-on : Growable s logs counts x lists q tree left
   going-on =
       let r = h .reached (first .lent) (first .state) (first .seeds) (first .given) (first .grows) in
       record { lent = first .lent; state = r .state; seeds = first .seeds; given = first .given; grows = r .grows }
 
-  pub gains-enough : waiting ≤ length (q .gains)
+  pub gains-enough : tree .waiting ≤ length (q .gains)
   gains-enough = let room = going-on .grows .queue-room .gains in omega arith
 
-  module _ (test : (ltb 0 left && ltb 0 waiting) ≡ true) where
-    pub splits : (k : ℕ) → k ≡ firstBest (q .gains) waiting → Splits s logs counts x lists q waiting count bits left k
-    splits k best = record { growable = going-on; one-more = both-true left waiting test .0; some-wait = both-true left waiting test .1; best = best }
+  module _ (test : (ltb 0 left && ltb 0 (tree .waiting)) ≡ true) where
+    pub splits : (k : ℕ) → k ≡ firstBest (q .gains) (tree .waiting) → Splits s logs counts x lists q tree left k
+    splits k best = record { growable = going-on; one-more = both-true left (tree .waiting) test .0; some-wait = both-true left (tree .waiting) test .1; best = best }
 
     pub some-left : 0 < left
-    some-left = both-true left waiting test .0
+    some-left = both-true left (tree .waiting) test .0
 
-    pub few-left : count + 2 < 2 ^ 64
-    few-left = let few = going-on .grows .few in let many = going-on .grows .counted in let l = some-left in omega arith
-
-    pub turn : {counts' : List ℕ} {x' : Flat} {lists' : NodeLists} {q' : QueueLists} {waiting' : ℕ} {bits' : Float}
-        → ((lent : NodeLists) (st : State singles) (seeds : ℕ → Bool) (given : List Row) → Grows s logs counts x lists q waiting count bits left lent st seeds given
-        → Grows s logs counts x' lists' q' waiting' (count + 2) bits' (left - 1) lent (step (jobIn s logs x) st) seeds given)
+    pub turn : {counts' : List ℕ} {x' : Flat} {lists' : NodeLists} {q' : QueueLists} {tree' : Tree}
+        → ((lent : NodeLists) (st : State singles) (seeds : ℕ → Bool) (given : List Row) → Grows s logs counts x lists q tree left lent st seeds given
+        → Grows s logs counts x' lists' q' tree' (left - 1) lent (step (jobIn s logs x) st) seeds given)
         → counts' ≡ counts → SameSize x x' → SameLengths lists lists' → SameQueue q q'
-        → Going s logs counts₀ counts' x₀ x' lists₀ lists' q₀ q' waiting₀ waiting' count₀ (count + 2) bits₀ bits' more (left - 1)
-    turn {counts'} {x'} {lists'} {q'} {waiting'} {bits'} split space size nodes queue = record {
+        → Going s logs counts₀ counts' x₀ x' lists₀ lists' q₀ q' tree₀ tree' more (left - 1)
+    turn {counts'} {x'} {lists'} {q'} {tree'} split space size nodes queue = record {
       reached = λ lent st seeds given g.
           let r = h .reached lent st seeds given g in
           record {
             state = step (jobIn s logs x) (r .state);
-            grows = subst (λ (l : List ℕ). Grows s logs l x' lists' q' waiting' (count + 2) bits' (left - 1) lent (step (jobIn s logs x) (r .state)) seeds given)
+            grows = subst (λ (l : List ℕ). Grows s logs l x' lists' q' tree' (left - 1) lent (step (jobIn s logs x) (r .state)) seeds given)
                 (sym space) (split lent (r .state) seeds given (r .grows));
             onward = next (r .state) ∙ r .onward;
           };
@@ -147,12 +145,12 @@ module _ {s : Settings} {logs : List Float} {counts₀ counts : List ℕ} {x₀ 
             ∙ ap (λ (m : ℕ). steps (jobIn s logs x₀) m st) less
 
   -- no split is left, or no leaf waits
-  pub grown : (ltb 0 left && ltb 0 waiting) ≡ false → (lent : NodeLists) (st : State singles) (seeds : ℕ → Bool) (given : List Row)
-      → Grows s logs counts₀ x₀ lists₀ q₀ waiting₀ count₀ bits₀ more lent st seeds given
-      → GrownTo s logs counts₀ x₀ x lists (record { nodes = count; bits = bits }) lent (steps (jobIn s logs x₀) more st)
+  pub grown : (ltb 0 left && ltb 0 (tree .waiting)) ≡ false → (lent : NodeLists) (st : State singles) (seeds : ℕ → Bool) (given : List Row)
+      → Grows s logs counts₀ x₀ lists₀ q₀ tree₀ more lent st seeds given
+      → GrownTo s logs counts₀ x₀ x lists tree lent (steps (jobIn s logs x₀) more st)
   grown test lent st seeds given g =
       let r = h .reached lent st seeds given g in
-      subst (λ (t : State singles). GrownTo s logs counts₀ x₀ x lists (record { nodes = count; bits = bits }) lent t) (sym (last (r .state) (r .grows)) ∙ r .onward) record {
+      subst (λ (t : State singles). GrownTo s logs counts₀ x₀ x lists tree lent t) (sym (last (r .state) (r .grows)) ∙ r .onward) record {
         rows = r .grows .rows;
         size = h .size;
         nodes = r .grows .nodes;
@@ -161,8 +159,8 @@ module _ {s : Settings} {logs : List Float} {counts₀ counts : List ℕ} {x₀ 
         fitting = subst (λ (l : List ℕ). Fitting s logs l x) (h .space) (r .grows .fitting);
       }
     where
-      last : (now : State singles) → Grows s logs counts x lists q waiting count bits left lent now seeds given → steps (jobIn s logs x₀) left now ≡ now
-      last now held = elim (either-none left waiting test) [
+      last : (now : State singles) → Grows s logs counts x lists q tree left lent now seeds given → steps (jobIn s logs x₀) left now ≡ now
+      last now held = elim (either-none left (tree .waiting) test) [
         | inl none-left ↦ ap (λ (m : ℕ). steps (jobIn s logs x₀) m now) none-left ∙ steps-zero (jobIn s logs x₀) now
         | inr (some-left, none-wait) ↦ no-steps s logs x₀ now (sym (held .queued some-left .many) ∙ none-wait) left
       ]

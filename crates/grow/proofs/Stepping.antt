@@ -29,6 +29,7 @@ use Rattle.model.proofs.Paths.{T→true}
 use Rattle.model.proofs.SingleLawful.{single-lawful}
 use Rattle.checks.specs.Given.{settingsOf}
 use Rattle.checks.specs.declared.Settings.{Settings}
+use Rattle.layout.specs.declared.Tree.{Tree}
 use Rattle.layout.specs.Tree.{NodeLists, holding, put, leafWith, putSplit}
 use Rattle.layout.specs.Values.{infoIs, offerIs}
 use Rattle.layout.specs.Waiting.{QueueLists, Queued, SameQueue, queueOf, without, waits, firstBest}
@@ -49,9 +50,9 @@ pub leaf-cells : (first end : ℕ) (l : Entry singles) (i : Info singles) → l 
     → SameCells (record { node = leaf; info = i; span = record { first = first; end = end }; depth = 0; offer = none }) l
 leaf-cells first end l i n e a b = record { words = rw (n, e); values = rw (n, e); costs = rw e; spans = rw (a, b) }
 
-module _ {s : Settings} {logs : List Float} {counts : List ℕ} {x : Flat} {lists : NodeLists} {q : QueueLists} {waiting count : ℕ} {bits : Float} {left : ℕ}
-    {lent : NodeLists} {st : State singles} {seeds : ℕ → Bool} {given : List Row} (g : Grows s logs counts x lists q waiting count bits left lent st seeds given)
-    (k : ℕ) (one : 0 < left) (wait : 0 < waiting) (best : k ≡ firstBest (q .gains) waiting) where
+module _ {s : Settings} {logs : List Float} {counts : List ℕ} {x : Flat} {lists : NodeLists} {q : QueueLists} {tree : Tree} {left : ℕ}
+    {lent : NodeLists} {st : State singles} {seeds : ℕ → Bool} {given : List Row} (g : Grows s logs counts x lists q tree left lent st seeds given)
+    (k : ℕ) (one : 0 < left) (wait : 0 < tree .waiting) (best : k ≡ firstBest (q .gains) (tree .waiting)) where
   abbrev job : Job singles
   job = jobIn s logs x
 
@@ -227,7 +228,7 @@ module _ {s : Settings} {logs : List Float} {counts : List ℕ} {x : Flat} {list
         few-le : length leR ≤ rowCount x
         few-le = let h = parted in let l = ap length le-rows in let c = g .healthy .counted in let m = many in omega arith
 
-    next-bits : {now : Float} → now ≡ grownBits singles bits (r .gt .info .cost) (r .le .info .cost) (e .info .cost) → now ≡ next .bits
+    next-bits : {now : Float} → now ≡ grownBits singles (tree .bits) (r .gt .info .cost) (r .le .info .cost) (e .info .cost) → now ≡ next .bits
     unfolding splitAt
     next-bits is =
         is
@@ -244,10 +245,10 @@ module _ {s : Settings} {logs : List Float} {counts : List ℕ} {x : Flat} {list
     unfolding leLeaf leafOver leSpan
     le-cells = leaf-cells (r .at) (e .span .end) le (infoIs (r .le .info)) refl le-info at-is refl
 
-    next-nodes : splitNodes i (o .prop) (o .val) count (r .gt .info) (r .le .info) (e .span .first) (r .at) (e .span .end) lists ≡ holding (next .tree) lent
+    next-nodes : splitNodes i (o .prop) (o .val) (tree .nodes) (r .gt .info) (r .le .info) (e .span .first) (r .at) (e .span .end) lists ≡ holding (next .tree) lent
     unfolding splitNodes splitAt
     next-nodes =
-        let c : count ≡ n = g .counted in
+        let c : tree .nodes ≡ n = g .counted in
         let t : List (Entry singles) = set (st .tree) i (becomeSplit e o n) in
         let size : length t ≡ n = length-set (st .tree) i (becomeSplit e o n) in
         let size' : length (t ++ (gt ∷ [])) ≡ n + 1 = length-append t (gt ∷ []) ∙ ap (λ (m : ℕ). m + 1) size in
@@ -281,8 +282,8 @@ module _ {s : Settings} {logs : List Float} {counts : List ℕ} {x : Flat} {list
     le-depth = refl
 
     next-queue : ltb 1 left ≡ true
-        → (without k (queueOf (st .tree)) ++ waits count (suc (w .depth)) (offerIs (r .gt .offer)))
-        ++ waits (count + 1) (suc (w .depth)) (offerIs (r .le .offer)) ≡ queueOf (next .tree)
+        → (without k (queueOf (st .tree)) ++ waits (tree .nodes) (suc (w .depth)) (offerIs (r .gt .offer)))
+        ++ waits (tree .nodes + 1) (suc (w .depth)) (offerIs (r .le .offer)) ≡ queueOf (next .tree)
     unfolding splitAt
     next-queue last =
         let rest : List (Waiting singles) = without k (queueOf (st .tree)) in
@@ -294,24 +295,24 @@ module _ {s : Settings} {logs : List Float} {counts : List ℕ} {x : Flat} {list
         ∙ sym (queue-split (st .tree) k (becomeSplit e o n) gt le (choosing.in-queue g k one wait best) gone)
 
     -- ---- all together
-    module _ {lists' : NodeLists} {q' : QueueLists} {waiting' : ℕ} {bits' : Float}
-        (nodes : lists' ≡ splitNodes i (o .prop) (o .val) count (r .gt .info) (r .le .info) (e .span .first) (r .at) (e .span .end) lists)
-        (requeued : (leaves : List (Waiting singles)) → Queued waiting q leaves
-        → Queued waiting' q' (without k leaves ++ waits count (suc (w .depth)) (offerIs (r .gt .offer)) ++ waits (count + 1) (suc (w .depth)) (offerIs (r .le .offer))))
-        (fewer : waiting' ≤ waiting + 1) (same : SameQueue q q')
-        (summed : bits' ≡ grownBits singles bits (r .gt .info .cost) (r .le .info .cost) (e .info .cost)) where
+    module _ {lists' : NodeLists} {q' : QueueLists} {tree' : Tree} (two-more : tree' .nodes ≡ tree .nodes + 2)
+        (nodes : lists' ≡ splitNodes i (o .prop) (o .val) (tree .nodes) (r .gt .info) (r .le .info) (e .span .first) (r .at) (e .span .end) lists)
+        (requeued : (leaves : List (Waiting singles)) → Queued (tree .waiting) q leaves
+        → Queued (tree' .waiting) q' (without k leaves ++ waits (tree .nodes) (suc (w .depth)) (offerIs (r .gt .offer)) ++ waits (tree .nodes + 1) (suc (w .depth)) (offerIs (r .le .offer))))
+        (fewer : tree' .waiting ≤ tree .waiting + 1) (same : SameQueue q q')
+        (summed : tree' .bits ≡ grownBits singles (tree .bits) (r .gt .info .cost) (r .le .info .cost) (e .info .cost)) where
       longer : length (next .tree) ≡ n + 2
       longer = let l = shape .longer in omega arith
 
-      pub grows-next : Grows s logs counts y lists' q' waiting' (count + 2) bits' (left - 1) lent (step job st) seeds given
-      grows-next = subst (λ (t : State singles). Grows s logs counts y lists' q' waiting' (count + 2) bits' (left - 1) lent t seeds given)
+      pub grows-next : Grows s logs counts y lists' q' tree' (left - 1) lent (step job st) seeds given
+      grows-next = subst (λ (t : State singles). Grows s logs counts y lists' q' tree' (left - 1) lent t seeds given)
           (sym (choosing.step-splits g k one wait best)) record {
             fitting = cut .fitting;
             rows = next-rows;
             nodes = nodes ∙ next-nodes;
             room = let l = longer in room-fewer (g .room) (omega arith);
             few = let l = longer in let f = g .few in omega arith;
-            queued = λ more. subst (λ (leaves : List (Waiting singles)). Queued waiting' q' leaves)
+            queued = λ more. subst (λ (leaves : List (Waiting singles)). Queued (tree' .waiting) q' leaves)
                 (next-queue (T→true (ltb 1 left) (lt→ltb 1 left (omega arith)))) (requeued (queueOf (st .tree)) (g .queued one));
             queue-room = same-room same (fewer-room (g .queue-room) (omega arith));
             counted = let l = longer in let c = g .counted in omega arith;

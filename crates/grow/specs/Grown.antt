@@ -7,23 +7,23 @@ use lib.Ieee.{Float}
 use Rattle.model.specs.Single.{singles}
 use Rattle.model.specs.Grow.{State}
 use Rattle.checks.specs.declared.Settings.{Settings}
+use Rattle.layout.specs.declared.Tree.{Tree}
 use Rattle.layout.specs.Tree.{NodeLists, holding}
 use Rattle.layout.specs.Waiting.{QueueLists, firstBest}
 use Rattle.rows.specs.Flat.{Flat, heldIn, SameSize}
 use Rattle.state.specs.Fitting.{Fitting}
 use Rattle.state.specs.Grows.{Growable}
-use Rattle.grow.specs.declared.Grown.{Grown}
 
 -- place k of the queue has the greatest gain, and there is one more split to make
 pub record Splits (s : Settings) (logs : List Float) (counts : List ℕ) (x : Flat) (lists : NodeLists) (q : QueueLists)
-    (waiting count : ℕ) (bits : Float) (left k : ℕ) : Type 0 where
-  pub growable : Growable s logs counts x lists q waiting count bits left
+    (tree : Tree) (left k : ℕ) : Type 0 where
+  pub growable : Growable s logs counts x lists q tree left
   pub one-more : 0 < left
-  pub some-wait : 0 < waiting
-  pub best : k ≡ firstBest (q .gains) waiting
+  pub some-wait : 0 < tree .waiting
+  pub best : k ≡ firstBest (q .gains) (tree .waiting)
 
 -- what the lists hold at exit
-pub record GrownTo (s : Settings) (logs : List Float) (counts : List ℕ) (x y : Flat) (lists : NodeLists) (r : Grown)
+pub record GrownTo (s : Settings) (logs : List Float) (counts : List ℕ) (x y : Flat) (lists : NodeLists) (r : Tree)
     (lent : NodeLists) (st : State singles) : Type 0 where
   pub rows : heldIn y ≡ st .rows
   pub size : SameSize x y

@@ -23,6 +23,7 @@ use checks::Settings;
 use layout::Leaf;
 use layout::NodeInfo;
 use layout::Offer;
+use layout::Tree;
 
 // ---- one split, part by part
 
@@ -160,12 +161,6 @@ fn bounds_of(spans: &[u32], i: usize) -> Bounds
     Bounds { first, end }
 }
 
-// How many leaves wait, and the estimated bits, after a split.
-struct Step {
-    waiting: usize,
-    bits: f64,
-}
-
 // Splits the leaf that waits at place k. After the last split nothing reads what the new leaves offer, so they are not scored.
 fn split_leaf(
     props: &mut [i32],
@@ -181,21 +176,19 @@ fn split_leaf(
     counts: &mut [u32],
     logs: &[f32],
     s: Settings,
-    waiting: usize,
-    count: usize,
-    bits: f64,
+    tree: Tree,
     left: usize,
     k: usize,
-) -> Step
+) -> Tree
     requires { ⌜ Splits s (now logs) (now counts) (flat (now props) (now tok) (now res)) (nodeLists (now words) (now values) (now costs) (now spans))
-        (queueLists (now «queue_words») (now «queue_values») (now «queue_gains»)) waiting count bits left k ⌝ }
+        (queueLists (now «queue_words») (now «queue_values») (now «queue_gains»)) tree left k ⌝ }
     ensures { λ r. ⌜ ((lent : NodeLists) (st : State singles) (seeds : ℕ → Bool) (given : List Row)
         → Grows s (now (logs .entry)) (now (counts .entry)) (flat (now (props .entry)) (now (tok .entry)) (now (res .entry)))
         (nodeLists (now (words .entry)) (now (values .entry)) (now (costs .entry)) (now (spans .entry)))
-        (queueLists (now («queue_words» .entry)) (now («queue_values» .entry)) (now («queue_gains» .entry))) waiting count bits left lent st seeds given
+        (queueLists (now («queue_words» .entry)) (now («queue_values» .entry)) (now («queue_gains» .entry))) tree left lent st seeds given
         → Grows s (now (logs .entry)) (now (counts .entry)) (flat (now (props .exit)) (now (tok .exit)) (now (res .exit)))
         (nodeLists (now (words .exit)) (now (values .exit)) (now (costs .exit)) (now (spans .exit)))
-        (queueLists (now («queue_words» .exit)) (now («queue_values» .exit)) (now («queue_gains» .exit))) (r .waiting) (count + 2) (r .bits) (left - 1)
+        (queueLists (now («queue_words» .exit)) (now («queue_values» .exit)) (now («queue_gains» .exit))) r (left - 1)
         lent (step (jobIn s (now (logs .entry)) (flat (now (props .entry)) (now (tok .entry)) (now (res .entry)))) st) seeds given) ⌝ }
     ensures { λ _. ⌜ now (counts .exit) ≡ now (counts .entry) ⌝ }
 {
@@ -235,7 +228,7 @@ fn split_leaf(
         costs,
         spans,
         i,
-        count,
+        tree.nodes,
         prop,
         val,
         first,
@@ -244,30 +237,25 @@ fn split_leaf(
         gt_info,
         le_info,
     );
-    let waiting_now = requeue(
+    let waiting = requeue(
         queue_words,
         queue_values,
         queue_gains,
-        waiting,
+        tree.waiting,
         k,
-        count,
+        tree.nodes,
         depth,
         gt_offer,
         le_offer,
     );
-    Step {
-        waiting: waiting_now,
-        bits: grown_bits(bits, gt_info.cost, le_info.cost, cost),
+    Tree {
+        nodes: tree.nodes + 2,
+        waiting,
+        bits: grown_bits(tree.bits, gt_info.cost, le_info.cost, cost),
     }
 }
 
 // ---- growth
-
-// How many nodes the tree has, and the estimated bits.
-pub struct Grown {
-    pub nodes: usize,
-    pub bits: f64,
-}
 
 // Makes `more` splits, or as many as there are.
 pub fn grow_tree(
@@ -284,17 +272,15 @@ pub fn grow_tree(
     counts: &mut [u32],
     logs: &[f32],
     s: Settings,
-    waiting: usize,
-    count: usize,
-    bits: f64,
+    tree: Tree,
     more: usize,
-) -> Grown
+) -> Tree
     requires { ⌜ Growable s (now logs) (now counts) (flat (now props) (now tok) (now res)) (nodeLists (now words) (now values) (now costs) (now spans))
-        (queueLists (now «queue_words») (now «queue_values») (now «queue_gains»)) waiting count bits more ⌝ }
+        (queueLists (now «queue_words») (now «queue_values») (now «queue_gains»)) tree more ⌝ }
     ensures { λ r. ⌜ ((lent : NodeLists) (st : State singles) (seeds : ℕ → Bool) (given : List Row)
         → Grows s (now (logs .entry)) (now (counts .entry)) (flat (now (props .entry)) (now (tok .entry)) (now (res .entry)))
         (nodeLists (now (words .entry)) (now (values .entry)) (now (costs .entry)) (now (spans .entry)))
-        (queueLists (now («queue_words» .entry)) (now («queue_values» .entry)) (now («queue_gains» .entry))) waiting count bits more lent st seeds given
+        (queueLists (now («queue_words» .entry)) (now («queue_values» .entry)) (now («queue_gains» .entry))) tree more lent st seeds given
         → GrownTo s (now (logs .entry)) (now (counts .entry)) (flat (now (props .entry)) (now (tok .entry)) (now (res .entry)))
         (flat (now (props .exit)) (now (tok .exit)) (now (res .exit)))
         (nodeLists (now (words .exit)) (now (values .exit)) (now (costs .exit)) (now (spans .exit))) r
@@ -303,13 +289,11 @@ pub fn grow_tree(
     ensures { λ _. ⌜ SameQueue (queueLists (now («queue_words» .entry)) (now («queue_values» .entry)) (now («queue_gains» .entry)))
         (queueLists (now («queue_words» .exit)) (now («queue_values» .exit)) (now («queue_gains» .exit))) ⌝ }
 {
-    let mut waiting = waiting;
-    let mut count = count;
-    let mut bits = bits;
+    let mut tree = tree;
     let mut left = more;
-    while (0 < left) & (0 < waiting) {
-        let k = queue::greatest(queue_gains, waiting);
-        let next = split_leaf(
+    while (0 < left) & (0 < tree.waiting) {
+        let k = queue::greatest(queue_gains, tree.waiting);
+        tree = split_leaf(
             props,
             tok,
             res,
@@ -323,16 +307,11 @@ pub fn grow_tree(
             counts,
             logs,
             s,
-            waiting,
-            count,
-            bits,
+            tree,
             left,
             k,
         );
-        waiting = next.waiting;
-        bits = next.bits;
-        count += 2;
         left -= 1;
     }
-    Grown { nodes: count, bits }
+    tree
 }

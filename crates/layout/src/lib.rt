@@ -20,3 +20,10 @@ pub struct Leaf {
     pub info: NodeInfo,
     pub offer: Offer,
 }
+
+// A tree in the lists: how many nodes it has, how many of its leaves wait, and its estimated bits.
+pub struct Tree {
+    pub nodes: usize,
+    pub waiting: usize,
+    pub bits: f64,
+}

@@ -61,12 +61,7 @@ fn learn_rows(
         s,
         rows,
     );
-    Learned::Grown {
-        nodes: made.nodes,
-        leaves: made.leaves,
-        bits: made.bits,
-        flat,
-    }
+    lent::answer(made, flat)
 }
 
 // Learns a tree from the rows. A refusal leaves every list as it was.

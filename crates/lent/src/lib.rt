@@ -1,7 +1,11 @@
 // The lent lists of learning and deepening as one value (specs/), how many entries of nodes and queue they make, and what both answer.
 ghost use mathlib.Core.Path.{_≡_};
-ghost use Prim.Native.Nat.{_/_, min};
+ghost use Prim.Native.Nat.{_/_, _≤_, min};
+ghost use Rattle.model.specs.Settings.{maxNodes};
+ghost use Rattle.model.specs.Operations.{accepted};
 ghost use Rattle.lent.specs.Lists.{nodesLent, leavesLent};
+ghost use Rattle.lent.specs.Answer.{outcomeOf, answerOf};
+use layout::Tree;
 
 // The answer: how many nodes and leaves the tree has, its estimated bits and the flat bits; or a refusal, with the place that it names.
 pub enum Learned {
@@ -43,4 +47,18 @@ pub fn queue_room(words: &[u32], values: &[i32], gains: &[f32]) -> usize
 {
     let held = smaller(words.len() / LEAF_WORDS, values.len());
     smaller(held, gains.len())
+}
+
+// The answer for a finished tree. Each split has two children, so there is one leaf more than splits.
+pub fn answer(tree: Tree, flat: f64) -> Learned
+    requires { ⌜ tree .nodes ≤ maxNodes ⌝ }
+    ensures { λ r. ⌜ outcomeOf r ≡ accepted (answerOf tree flat) ⌝ }
+{
+    let nodes = tree.nodes;
+    Learned::Grown {
+        nodes: nodes as u32,
+        leaves: ((nodes + 1) / 2) as u32,
+        bits: tree.bits,
+        flat,
+    }
 }

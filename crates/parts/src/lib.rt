@@ -47,7 +47,7 @@ pub extern "C" fn ostrovuc_prune(
     ensures { λ r. ⌜ ((tree : List (Entry singles)) (lent : NodeLists)
         → HoldsTree (nodeLists (now (words .entry)) (now (values .entry)) (now (costs .entry)) (now (spans .entry))) count price tree lent
         → PrunedAs price tree lent (nodeLists (now (words .exit)) (now (values .exit)) (now (costs .exit)) (now (spans .exit)))
-        (record { nodes = r .nodes; bits = r .bits })) ⌝ }
+        (record { nodes = r .nodes; waiting = 0; bits = r .bits })) ⌝ }
 {
     let pruned = prune::prune_tree(words, values, costs, spans, count, price);
     PrunedTree {

@@ -7,7 +7,7 @@ use Prim.Native.Nat.{ℕ, _+_, _≤_}
 use native.Mathlib.Nat.{zero-add, add-zero}
 use native.Mathlib.Omega.{arith}
 use borrow.Author.Tests.{eqb-true, eqb-false}
-use lib.ListN.{length, take, drop}
+use lib.ListN.{length, take, drop, length-append}
 use lib.Seq.{take-append-add, drop-append-add, take-append-seam, drop-append-seam}
 use lib.IntN.{ℤ}
 use lib.Dec.{T, eqb}
@@ -31,6 +31,7 @@ use Rattle.checks.specs.declared.Settings.{Settings}
 use Rattle.layout.specs.declared.Leaf.{Leaf}
 use Rattle.layout.specs.Values.{infoIs, offerIs}
 use Rattle.layout.specs.Layout.{kindAt}
+use Rattle.layout.specs.declared.Tree.{Tree}
 use Rattle.layout.specs.Tree.{NodeLists, HasRoom, put, leafWith}
 use Rattle.layout.specs.Waiting.{QueueLists, Queued, QueueRoom, queueOf, waits, waitingFrom}
 use Rattle.layout.proofs.Held.{same-cells, put-same, put-more}
@@ -42,7 +43,6 @@ use Rattle.rows.proofs.Cells.{span-length}
 use Rattle.rows.proofs.Shapes.{size-same}
 use Rattle.tree.specs.Trees.{nodeAt}
 use Rattle.state.proofs.Numbers.{evaluated-number}
-use Rattle.plant.specs.declared.Sum.{Sum}
 use Rattle.state.specs.Fitting.{usesOf, Fitting}
 use Rattle.leaf.specs.Made.{settledAt, MadeLeaf}
 use Rattle.seed.specs.Kept.{infoAt, keptNode}
@@ -111,12 +111,19 @@ either : (a b : Bool) → (a || b) ≡ true → (a ≡ false → b ≡ true)
 either true b e f = absurd (let z : _≡_ {A = ℕ} 0 1 = cc in omega arith)
 either false b e f = e
 
--- ---- a split, or a leaf without rows
-module _ {s : Settings} {logs : List Float} {counts : List ℕ} {x : Flat} {n n' : NodeLists} {q : QueueLists} {sum : Sum} {scored uses : Bool}
+-- ---- the count of one node more
+counted-more : {k m : ℕ} (tree : List (Entry singles)) (e : Entry singles) → k ≡ length tree → m ≡ k + 1 → m ≡ length (tree ++ (e ∷ []))
+counted-more tree e here more = more ∙ ap (λ (n : ℕ). n + 1) here ∙ sym (length-append tree (e ∷ []))
+
+-- ---- a split, or a leaf without rows: none of its leaves waits, and it costs nothing
+abbrev withNode : Tree → Tree
+withNode tree = record { nodes = tree .nodes + 1; waiting = tree .waiting; bits = tree .bits }
+
+module _ {s : Settings} {logs : List Float} {counts : List ℕ} {x : Flat} {n n' : NodeLists} {q : QueueLists} {tree : Tree} {scored uses : Bool}
     {lent : NodeLists} {st : State singles} {left : List Row}
-    (sown : Sown s logs counts x n q sum scored uses lent st left) (depth : ℕ) (info : Info singles) (room : HasRoom (length (st .tree) + 1) lent) where
+    (sown : Sown s logs counts x n q tree scored uses lent st left) (depth : ℕ) (info : Info singles) (room : HasRoom (length (st .tree) + 1) lent) where
   kept-in : (m : Node) → n' ≡ put (length (st .tree)) (keptNode m info) n
-      → Sown s logs counts x n' q sum scored uses lent (withSeedNode (jobOf single (settingsOf s) logs uses) m info depth [] st) left
+      → Sown s logs counts x n' q (withNode tree) scored uses lent (withSeedNode (jobOf single (settingsOf s) logs uses) m info depth [] st) left
   kept-in (split prop val gt le) e =
       let entry : Entry singles = seedSplit (split prop val gt le) depth in
       record {
@@ -126,8 +133,9 @@ module _ {s : Settings} {logs : List Float} {counts : List ℕ} {x : Flat} {n n'
         nodes = e ∙ put-same (length (st .tree)) (seedSplit (split prop val gt le) 0) entry n
             (same-cells (seedSplit (split prop val gt le) 0) entry refl refl refl)
             ∙ ap (put (length (st .tree)) entry) (sown .nodes) ∙ put-more (st .tree) lent entry room;
-        queued = λ t. subst (Queued (sum .waiting) q) (sym (queue-still (st .tree) entry refl)) (sown .queued t);
+        queued = λ t. subst (Queued (tree .waiting) q) (sym (queue-still (st .tree) entry refl)) (sown .queued t);
         idle = sown .idle;
+        counted = counted-more (st .tree) entry (sown .counted) refl;
         summed = sown .summed;
       }
   kept-in leaf e =
@@ -138,51 +146,56 @@ module _ {s : Settings} {logs : List Float} {counts : List ℕ} {x : Flat} {n n'
         rows = sown .rows ∙ ap (λ (l : List Row). l ++ left) (sym (ap (λ (l : List Row). st .rows ++ l) (fresh-none uses) ∙ append-nil (st .rows)));
         nodes = e ∙ put-same (length (st .tree)) (emptyLeaf info 0) entry n (same-cells (emptyLeaf info 0) entry refl refl refl)
             ∙ ap (put (length (st .tree)) entry) (sown .nodes) ∙ put-more (st .tree) lent entry room;
-        queued = λ t. subst (Queued (sum .waiting) q) (sym (queue-still (st .tree) entry refl)) (sown .queued t);
+        queued = λ t. subst (Queued (tree .waiting) q) (sym (queue-still (st .tree) entry refl)) (sown .queued t);
         idle = sown .idle;
+        counted = counted-more (st .tree) entry (sown .counted) refl;
         summed = sown .summed;
       }
 
-pub kept-planted : {s : Settings} {logs : List Float} {counts : List ℕ} {x : Flat} {n n' : NodeLists} {q : QueueLists} {sum : Sum} (i depth : ℕ) {scored : Bool}
-    → (eqb (kindAt (n .words) i) 1 || eqb (spanAt (n .spans) i .first) (spanAt (n .spans) i .end)) ≡ true
-    → n' ≡ put i (keptNode (nodeAt (n .words) (n .values) i) (infoAt n i)) n → NodePlanted s logs counts counts x x n n' q q sum sum i depth scored
-kept-planted {s} {logs} {counts} {x} {n} {n'} {q} {sum} i depth {scored} test is =
-    record { size = size-same x; queue = same-itself q; zeros = refl; risen = omega arith; sown = gains }
+pub kept-planted : {s : Settings} {logs : List Float} {counts : List ℕ} {x : Flat} {n n' : NodeLists} {q : QueueLists} {tree : Tree} (depth : ℕ) {scored : Bool}
+    → (eqb (kindAt (n .words) (tree .nodes)) 1 || eqb (spanAt (n .spans) (tree .nodes) .first) (spanAt (n .spans) (tree .nodes) .end)) ≡ true
+    → n' ≡ put (tree .nodes) (keptNode (nodeAt (n .words) (n .values) (tree .nodes)) (infoAt n (tree .nodes))) n
+    → NodePlanted s logs counts counts x x n n' q q tree (withNode tree) depth scored
+kept-planted {s} {logs} {counts} {x} {n} {n'} {q} {tree} depth {scored} test is =
+    record { size = size-same x; queue = same-itself q; zeros = refl; counted = refl; risen = omega arith; sown = gains }
   where
-    gains : (uses : Bool) (lent : NodeLists) (st : State singles) (mine left : List Row) → Sown s logs counts x n q sum scored uses lent st (mine ++ left)
-        → NextIs n i lent st mine
-        → Sown s logs counts x n' q sum scored uses lent (withSeedNode (jobOf single (settingsOf s) logs uses) (nodeAt (n .words) (n .values) i)
-        (infoAt n i) depth mine st) left
+    gains : (uses : Bool) (lent : NodeLists) (st : State singles) (mine left : List Row) → Sown s logs counts x n q tree scored uses lent st (mine ++ left)
+        → NextIs n (tree .nodes) lent st mine
+        → Sown s logs counts x n' q (withNode tree) scored uses lent (withSeedNode (jobOf single (settingsOf s) logs uses) (nodeAt (n .words) (n .values) (tree .nodes))
+        (infoAt n (tree .nodes)) depth mine st) left
     gains uses lent st mine left w next =
-        let m : Node = nodeAt (n .words) (n .values) i in
-        let empty : mine ≡ [] = go (eqb (kindAt (n .words) i) 1) refl in
-        let here : length (st .tree) ≡ i = next .counted in
-        let w' : Sown s logs counts x n q sum scored uses lent st left = subst
-        (λ (l : List Row). Sown s logs counts x n q sum scored uses lent st (l ++ left)) empty w in
+        let m : Node = nodeAt (n .words) (n .values) (tree .nodes) in
+        let empty : mine ≡ [] = go (eqb (kindAt (n .words) (tree .nodes)) 1) refl in
+        let here : length (st .tree) ≡ tree .nodes = sym (w .counted) in
+        let w' : Sown s logs counts x n q tree scored uses lent st left = subst
+        (λ (l : List Row). Sown s logs counts x n q tree scored uses lent st (l ++ left)) empty w in
         let room : HasRoom (length (st .tree) + 1) lent = subst (λ (k : ℕ). HasRoom (k + 1) lent) (sym here) (next .room) in
-        let is' : n' ≡ put (length (st .tree)) (keptNode m (infoAt n i)) n = is ∙ ap (λ (k : ℕ). put k (keptNode m (infoAt n i)) n) (sym here) in
-        subst (λ (l : List Row). Sown s logs counts x n' q sum scored uses lent
-        (withSeedNode (jobOf single (settingsOf s) logs uses) m (infoAt n i) depth l st) left) (sym empty)
-        (kept-in w' depth (infoAt n i) room m is')
+        let is' : n' ≡ put (length (st .tree)) (keptNode m (infoAt n (tree .nodes))) n = is ∙ ap (λ (k : ℕ). put k (keptNode m (infoAt n (tree .nodes))) n) (sym here) in
+        subst (λ (l : List Row). Sown s logs counts x n' q (withNode tree) scored uses lent
+        (withSeedNode (jobOf single (settingsOf s) logs uses) m (infoAt n (tree .nodes)) depth l st) left) (sym empty)
+        (kept-in w' depth (infoAt n (tree .nodes)) room m is')
       where
-        go : (b : Bool) → eqb (kindAt (n .words) i) 1 ≡ b → mine ≡ []
+        go : (b : Bool) → eqb (kindAt (n .words) (tree .nodes)) 1 ≡ b → mine ≡ []
         go true e = next .bare e
         go false e =
-            let f = eqb-true (spanAt (n .spans) i .first) (spanAt (n .spans) i .end)
-            (either (eqb (kindAt (n .words) i) 1) (eqb (spanAt (n .spans) i .first) (spanAt (n .spans) i .end)) test e) in
+            let f = eqb-true (spanAt (n .spans) (tree .nodes) .first) (spanAt (n .spans) (tree .nodes) .end)
+            (either (eqb (kindAt (n .words) (tree .nodes)) 1) (eqb (spanAt (n .spans) (tree .nodes) .first) (spanAt (n .spans) (tree .nodes) .end)) test e) in
             no-row mine (omega (arith, next .first, next .end, f))
 
 -- ---- a leaf with rows
-module _ {s : Settings} {logs : List Float} {counts counts' : List ℕ} {x y : Flat} {n n' : NodeLists} {q q' : QueueLists} {sum sum' : Sum}
-    {i first end depth : ℕ} {scored : Bool}
-    (p : LeafPlanted s logs counts counts' x y n n' q q' sum sum' i first end depth scored) where
+module _ {s : Settings} {logs : List Float} {counts counts' : List ℕ} {x y : Flat} {n n' : NodeLists} {q q' : QueueLists} {tree tree' : Tree}
+    {first end depth : ℕ} {scored : Bool}
+    (p : LeafPlanted s logs counts counts' x y n n' q q' tree tree' first end depth scored) where
+  abbrev i : ℕ
+  i = tree .nodes
+
   leaf-in : {uses : Bool} {lent : NodeLists} {st : State singles} (mine left : List Row) (info : Info singles)
-      → Sown s logs counts x n q sum scored uses lent st (mine ++ left)
-      → length (st .tree) ≡ i → first ≡ length (st .rows) → end ≡ length (st .rows) + length mine → HasRoom (i + 1) lent → (first ≡ end → ⊥)
-      → Sown s logs counts' y n' q' sum' scored uses lent (withSeedNode (jobOf single (settingsOf s) logs uses) leaf info depth mine st) left
+      → Sown s logs counts x n q tree scored uses lent st (mine ++ left)
+      → first ≡ length (st .rows) → end ≡ length (st .rows) + length mine → HasRoom (i + 1) lent → (first ≡ end → ⊥)
+      → Sown s logs counts' y n' q' tree' scored uses lent (withSeedNode (jobOf single (settingsOf s) logs uses) leaf info depth mine st) left
   unfolding leafOver
-  leaf-in [] left info w here f e room busy = absurd (busy (omega arith))
-  leaf-in {uses} {lent} {st} (r ∷ rs) left info w here f e room busy =
+  leaf-in [] left info w f e room busy = absurd (busy (omega arith))
+  leaf-in {uses} {lent} {st} (r ∷ rs) left info w f e room busy =
       record {
         fitting = subst (λ (c : List ℕ). Fitting s logs c y) (sym (p .zeros)) (made-fitting (w .fitting) (p .made));
         modes = sym (uses-still s (p .made .changed .size)) ∙ w .modes;
@@ -193,14 +206,18 @@ module _ {s : Settings} {logs : List Float} {counts counts' : List ℕ} {x y : F
             (same-cells (leafWith (p .leaf .info) first end) entry refl info-is span-is)
             ∙ ap (put (length (st .tree)) entry) (w .nodes) ∙ put-more (st .tree) lent entry (subst (λ (k : ℕ). HasRoom (k + 1) lent) (sym here) room);
         queued = λ t.
-            subst (Queued (sum' .waiting) q') (sym (queue-more (st .tree) entry ∙ ap (λ (k : ℕ). queueOf (st .tree) ++ waits k depth (entry .offer)) here
+            subst (Queued (tree' .waiting) q') (sym (queue-more (st .tree) entry ∙ ap (λ (k : ℕ). queueOf (st .tree) ++ waits k depth (entry .offer)) here
             ∙ ap (λ (o : Option (model.Offer singles)). queueOf (st .tree) ++ waits i depth o) (sym (offer-is t))))
             (p .queued (queueOf (st .tree)) (w .queued t));
-        idle = λ t. p .many ∙ ap (λ (o : Option (model.Offer singles)). sum .waiting + length (waits i depth o)) (no-offer t) ∙ add-zero (sum .waiting)
+        counted = counted-more (st .tree) entry (w .counted) (p .counted);
+        idle = λ t. p .many ∙ ap (λ (o : Option (model.Offer singles)). tree .waiting + length (waits i depth o)) (no-offer t) ∙ add-zero (tree .waiting)
             ∙ w .idle t;
         summed = p .summed ∙ (λ k. add binary64 (w .summed k) (info-is k .cost));
       }
     where
+      here : length (st .tree) ≡ i
+      here = sym (w .counted)
+
       mine : List Row
       mine = r ∷ rs
 
@@ -230,14 +247,15 @@ module _ {s : Settings} {logs : List Float} {counts counts' : List ℕ} {x y : F
       no-offer t = p .made .leaf .offer ∙ rw t
 
   pub leaf-planted : (eqb (kindAt (n .words) i) 1 || eqb first end) ≡ false → first ≡ spanAt (n .spans) i .first → end ≡ spanAt (n .spans) i .end
-      → NodePlanted s logs counts counts' x y n n' q q' sum sum' i depth scored
+      → NodePlanted s logs counts counts' x y n n' q q' tree tree' depth scored
   leaf-planted test f e =
       let t = neither (eqb (kindAt (n .words) i) 1) (eqb first end) .0 test in
       record {
         size = p .made .changed .size;
         queue = p .queue;
         zeros = p .zeros;
+        counted = p .counted;
         risen = rw (t .0) (omega (arith, p .many, few-waits i depth (offerIs (p .leaf .offer))));
         sown = λ uses lent st mine left w next.
-            rw (t .0) (leaf-in mine left (infoAt n i) w (next .counted) (f ∙ next .first) (e ∙ next .end) (next .room) (eqb-false first end (t .1)));
+            rw (t .0) (leaf-in mine left (infoAt n i) w (f ∙ next .first) (e ∙ next .end) (next .room) (eqb-false first end (t .1)));
       }

@@ -35,6 +35,7 @@ use Rattle.model.proofs.Tally.{tree-count}
 use Rattle.checks.specs.Given.{settingsOf}
 use Rattle.checks.specs.declared.Settings.{Settings}
 use Rattle.layout.proofs.Queue.{same-itself}
+use Rattle.layout.specs.declared.Tree.{Tree}
 use Rattle.layout.specs.Tree.{NodeLists, nodeLists, HasRoom, holding, laid, entrySpans}
 use Rattle.layout.specs.Waiting.{QueueLists, Queued, queueOf}
 use Rattle.layout.proofs.Held.{room-fewer, spans-length}
@@ -49,8 +50,6 @@ use Rattle.rows.specs.Flat.{Flat, heldIn, rowCount, SameSize}
 use Rattle.rows.proofs.Cells.{length-held, tok-held}
 use Rattle.rows.proofs.Shapes.{size-then, count-still}
 use Rattle.state.proofs.Numbers.{evaluated-number}
-use Rattle.plant.specs.declared.Sum.{Sum}
-use Rattle.plant.specs.declared.Planted.{Planted}
 use Rattle.state.specs.Fitting.{usesOf, Fitting}
 use Rattle.state.specs.Grows.{jobIn, Number, Grows}
 use Rattle.seed.specs.Ordered.{seedIn, numbersIn, Orderable, OrderedBy}
@@ -255,11 +254,8 @@ module _ {s : Settings} {logs : List Float} {counts : List ℕ} {x : Flat} {n : 
     plantable = record { given = heldIn x; plants = plants }
 
     -- ---- all nodes are planted
-    module _ {counts2 : List ℕ} {z : Flat} {n2 : NodeLists} {q2 : QueueLists} {sum : Sum}
-        (done : PlantedTo s logs counts1 counts2 y z n1 n2 q q2 sum count count scored (heldIn x)) where
-      abbrev r : Planted
-      r = record { waiting = sum .waiting; leaves = (count + 1) / 2; bits = sum .bits }
-
+    module _ {counts2 : List ℕ} {z : Flat} {n2 : NodeLists} {q2 : QueueLists} {r : Tree}
+        (done : PlantedTo s logs counts1 counts2 y z n1 n2 q q2 r count count scored (heldIn x)) where
       abbrev st : State singles
       st = seedState (jobIn s logs x) seed (heldIn x)
 
@@ -278,6 +274,9 @@ module _ {s : Settings} {logs : List Float} {counts : List ℕ} {x : Flat} {n : 
       tree-long =
           ap (λ (w : State singles). length (w .tree)) (sym state-is)
           ∙ seeded-length (jobOf single (settingsOf s) logs (usesOf s y)) (seedIn count n1) (heldIn x) count (omega (arith, seed-length count n1 room1))
+
+      counted : r .nodes ≡ length (st .tree)
+      counted = done .sown .counted ∙ ap (λ (w : State singles). length (w .tree)) state-is
 
       -- no row is left
       none-left : drop (firstOf (leafNumbers (nodesOf (seedIn count n1)) (heldIn x)) count) (heldIn y) ≡ []
@@ -299,13 +298,13 @@ module _ {s : Settings} {logs : List Float} {counts : List ℕ} {x : Flat} {n : 
       lists-are = done .sown .nodes ∙ ap (λ (w : State singles). holding (w .tree) n1) state-is
           ∙ over-same (st .tree) n spans1 (rw tree-long (by .spans-are .rest))
 
-      waiting-few : sum .waiting + (limit - (count + 1) / 2) ≤ limit
+      waiting-few : r .waiting + (limit - (count + 1) / 2) ≤ limit
       waiting-few = go scored refl
         where
           all : leafCount (nodesOf (seedIn count n1)) ≡ leafCount nodes
           all = ap (λ (l : List (Record singles)). leafCount (nodesOf l)) seed-same
 
-          go : (b : Bool) → scored ≡ b → sum .waiting + (limit - (count + 1) / 2) ≤ limit
+          go : (b : Bool) → scored ≡ b → r .waiting + (limit - (count + 1) / 2) ≤ limit
           go true t = omega (arith, done .few, leaves-few (nodesOf (seedIn count n1)) count, all, leaves-are, ltb-true ((count + 1) / 2) limit t)
           go false t = omega (arith, done .sown .idle t, ltb-false ((count + 1) / 2) limit t)
 
@@ -318,17 +317,17 @@ module _ {s : Settings} {logs : List Float} {counts : List ℕ} {x : Flat} {n : 
               let two = tree-count nodes (sounds.sound seed (c .sound) .rooted) (omega (arith, seed-fits .0)) in
               omega (arith, leaves-are)
 
-      grows : Grows s logs counts2 z n2 q2 (sum .waiting) count (sum .bits) (limit - (count + 1) / 2) n st (splitsOf seed) (heldIn x)
+      grows : Grows s logs counts2 z n2 q2 r (limit - (count + 1) / 2) n st (splitsOf seed) (heldIn x)
       grows = record {
         fitting = done .sown .fitting;
         rows = rows-are;
         nodes = lists-are;
         room = rw tree-long (room-fewer (c .room) room-more);
         few = rw tree-long (omega (arith, room-more, c .fitting .settings .limit .1, seed-fits .1));
-        queued = λ some-more. subst (λ (w : State singles). Queued (sum .waiting) q2 (queueOf (w .tree))) state-is
+        queued = λ some-more. subst (λ (w : State singles). Queued (r .waiting) q2 (queueOf (w .tree))) state-is
             (done .sown .queued (lt-ltb ((count + 1) / 2) limit (omega arith)));
         queue-room = room-queue waiting-few (done .queue) (c .queue-room);
-        counted = sym tree-long;
+        counted = counted;
         summed = done .sown .summed ∙ ap (λ (w : State singles). w .bits) state-is;
         inv = subst (λ (b : Bool). Invariant b (splitsOf seed) (heldIn x) st) (uses-still s size)
             (seed-keeps (single-lawful .bounds) (jobIn s logs x) seed (heldIn x) (c .lawful) (c .sound));
@@ -341,7 +340,14 @@ module _ {s : Settings} {logs : List Float} {counts : List ℕ} {x : Flat} {n : 
       }
 
       pub seeded : Seeded s logs counts2 x z n n2 q q2 count r
-      seeded = record { grows = grows; leaves = leaves-are; size = size; queue = done .queue }
+      seeded =
+          let all : r .nodes ≡ count = counted ∙ tree-long in
+          record {
+            grows = subst (λ (k : ℕ). Grows s logs counts2 z n2 q2 r (limit - (k + 1) / 2) n st (splitsOf seed) (heldIn x)) (sym all) grows;
+            leaves = ap (λ (k : ℕ). (k + 1) / 2) all ∙ leaves-are;
+            size = size;
+            queue = done .queue;
+          }
 
       pub seeded-zeros : counts2 ≡ counts
       seeded-zeros = done .zeros ∙ same

@@ -25,6 +25,7 @@ use Rattle.checks.specs.Given.{settingsOf}
 use Rattle.checks.specs.declared.Settings.{Settings}
 use Rattle.layout.proofs.Queue.{same-itself, same-queue}
 use Rattle.layout.specs.Layout.{kindAt, propAt, gtAt, leAt, valAt, nodesHeld}
+use Rattle.layout.specs.declared.Tree.{Tree}
 use Rattle.layout.specs.Tree.{NodeLists, HasRoom, holding}
 use Rattle.layout.specs.Waiting.{QueueLists, QueueRoom, SameQueue, waitingFrom}
 use Rattle.layout.proofs.Held.{SameLengths, room-fewer, holding-lengths, holding-room, holding-none}
@@ -38,7 +39,6 @@ use Rattle.rows.proofs.Cells.{length-held}
 use Rattle.rows.proofs.Shapes.{size-same, size-then, count-still}
 use Rattle.tree.specs.Trees.{nodeAt, OfTree, SoundTree}
 use Rattle.tree.proofs.Entries.{nodes-each}
-use Rattle.plant.specs.declared.Sum.{Sum}
 use Rattle.state.specs.Fitting.{usesOf}
 use Rattle.seed.specs.Ordered.{seedIn}
 use Rattle.seed.specs.Kept.{infoAt}
@@ -101,29 +101,34 @@ module _ {s : Settings} {logs : List Float} {counts : List ℕ} {x : Flat} {n : 
   rows-long = length-held (x .props) (x .toks) (x .res)
 
   -- ---- before the first node
-  pub planted-none : (sum : Sum) → sum .waiting ≡ 0 → sum .bits ≡ singles .noTotal → PlantedTo s logs counts counts x x n n q q sum count 0 scored given
+  pub planted-none : (bits : Float) → bits ≡ singles .noTotal
+      → PlantedTo s logs counts counts x x n n q q (record { nodes = 0; waiting = 0; bits = bits }) count 0 scored given
   unfolding waitingFrom
-  planted-none sum none-waits nothing = record {
+  planted-none bits nothing = record {
     size = size-same x;
     queue = same-itself q;
     zeros = refl;
-    few = omega (arith, none-waits);
-    sown = subst (λ (st : State singles). Sown s logs counts x n q sum scored (usesOf s x) n st (drop (firstOf ks 0) (heldIn x)))
+    few = omega arith;
+    sown = subst (λ (st : State singles). Sown s logs counts x n q (record { nodes = 0; waiting = 0; bits = bits }) scored (usesOf s x) n st (drop (firstOf ks 0) (heldIn x)))
         (sym (seeded-none j seed given))
         (record {
           fitting = p .fitting;
           modes = refl;
           rows = rw (first-none ks);
           nodes = sym (holding-none n);
-          queued = λ t. rw none-waits (record { many = refl; words = refl; values = refl; gains = refl });
-          idle = λ t. none-waits;
+          queued = λ t. record { many = refl; words = refl; values = refl; gains = refl };
+          idle = λ t. refl;
+          counted = refl;
           summed = nothing;
         });
   }
 
-  -- ---- node i
-  module _ {counts' : List ℕ} {y : Flat} {n' : NodeLists} {q' : QueueLists} {sum : Sum} (i : ℕ) (inside : i < count)
-      (done : PlantedTo s logs counts counts' x y n n' q q' sum count i scored given) where
+  -- ---- node i, the next
+  module _ {counts' : List ℕ} {y : Flat} {n' : NodeLists} {q' : QueueLists} {tree : Tree} (inside : tree .nodes < count)
+      (done : PlantedTo s logs counts counts' x y n n' q q' tree count (tree .nodes) scored given) where
+    abbrev i : ℕ
+    i = tree .nodes
+
     here : length (to i .tree) ≡ i
     here = seeded-length j seed given i (omega (arith, long))
 
@@ -158,7 +163,7 @@ module _ {s : Settings} {logs : List Float} {counts : List ℕ} {x : Flat} {n : 
     size : rowCount y ≡ rowCount x
     size = count-still (done .size)
 
-    pub node-fits : NodeFits s logs counts' y n' q' sum i scored
+    pub node-fits : NodeFits s logs counts' y n' q' tree scored
     node-fits = record {
       fitting = done .sown .fitting;
       logs-small = subst (λ (k : ℕ). LogsWithin k logs) (sym size) (p .logs-small);
@@ -179,7 +184,6 @@ module _ {s : Settings} {logs : List Float} {counts : List ℕ} {x : Flat} {n : 
 
     next-is : NextIs n' i n (to i) (mine i)
     next-is = record {
-      counted = here;
       first = ap (λ (s : Span). s .first) span-is ∙ sym gone;
       end = ap (λ (s : Span). s .end) span-is ∙ first-more ks i ∙ (λ t. sym gone t + sym (mine-length j seed given (p .sound) i) t);
       bare = λ e. split-empty j seed given (p .sound) i (is-leaf ∙ rw e);
@@ -191,18 +195,18 @@ module _ {s : Settings} {logs : List Float} {counts : List ℕ} {x : Flat} {n : 
         ap (drop (firstOf ks i)) (p .rows) ∙ rows-left j seed given (p .sound) count i inside (omega (arith, ap length (p .rows), rows-long, end-inside))
         ∙ ap (λ (l : List Row). mine i ++ drop (firstOf ks (suc i)) l) (sym (p .rows))
 
-    module _ {counts'' : List ℕ} {z : Flat} {n'' : NodeLists} {q'' : QueueLists} {sum' : Sum} {depth : ℕ} (deep : depth ≡ getD (depthsOf nodes) i 0)
-        (planted : NodePlanted s logs counts' counts'' y z n' n'' q' q'' sum sum' i depth scored) where
+    module _ {counts'' : List ℕ} {z : Flat} {n'' : NodeLists} {q'' : QueueLists} {tree' : Tree} {depth : ℕ} (deep : depth ≡ getD (depthsOf nodes) i 0)
+        (planted : NodePlanted s logs counts' counts'' y z n' n'' q' q'' tree tree' depth scored) where
       state-is : withSeedNode j (nodeAt (n' .words) (n' .values) i) (infoAt n' i) depth (mine i) (to i) ≡ to (suc i)
       state-is = (λ t. withSeedNode j (node-is t) (info-is t) (deep t) (mine i) (to i)) ∙ sym (seeded-more j seed given i (omega (arith, long)))
 
-      gained : Sown s logs counts'' z n'' q'' sum' scored (usesOf s x) n (to (suc i)) (drop (firstOf ks (suc i)) (heldIn x))
+      gained : Sown s logs counts'' z n'' q'' tree' scored (usesOf s x) n (to (suc i)) (drop (firstOf ks (suc i)) (heldIn x))
       gained =
-          subst (λ (st : State singles). Sown s logs counts'' z n'' q'' sum' scored (usesOf s x) n st (drop (firstOf ks (suc i)) (heldIn x))) state-is
+          subst (λ (st : State singles). Sown s logs counts'' z n'' q'' tree' scored (usesOf s x) n st (drop (firstOf ks (suc i)) (heldIn x))) state-is
           (planted .sown (usesOf s x) n (to i) (mine i) (drop (firstOf ks (suc i)) (heldIn x))
-          (subst (λ (l : List Row). Sown s logs counts' y n' q' sum scored (usesOf s x) n (to i) l) left-is (done .sown)) next-is)
+          (subst (λ (l : List Row). Sown s logs counts' y n' q' tree scored (usesOf s x) n (to i) l) left-is (done .sown)) next-is)
 
-      next : PlantedTo s logs counts counts'' x z n n'' q q'' sum' count (suc i) scored given
+      next : PlantedTo s logs counts counts'' x z n n'' q q'' tree' count (suc i) scored given
       next = record {
         size = size-then (done .size) (planted .size);
         queue = same-queue (done .queue) (planted .queue);
@@ -211,19 +215,19 @@ module _ {s : Settings} {logs : List Float} {counts : List ℕ} {x : Flat} {n : 
         sown = gained;
       }
 
-      pub planted-more : PlantedTo s logs counts counts'' x z n n'' q q'' sum' count (i + 1) scored given
-      planted-more = subst (λ (k : ℕ). PlantedTo s logs counts counts'' x z n n'' q q'' sum' count k scored given) (sym (add-one i)) next
+      pub planted-more : PlantedTo s logs counts counts'' x z n n'' q q'' tree' count (tree' .nodes) scored given
+      planted-more = subst (λ (k : ℕ). PlantedTo s logs counts counts'' x z n n'' q q'' tree' count k scored given) (sym (planted .counted ∙ add-one i)) next
 
 -- ---- what the walk keeps
-pub record Walked (s : Settings) (logs : List Float) (counts counts' : List ℕ) (x y : Flat) (n n' : NodeLists) (q q' : QueueLists) (sum : Sum) (count i : ℕ)
+pub record Walked (s : Settings) (logs : List Float) (counts counts' : List ℕ) (x y : Flat) (n n' : NodeLists) (q q' : QueueLists) (tree : Tree) (count : ℕ)
     (scored : Bool) (depths : List ℕ) : Type 0 where
-  pub inside : i ≤ count
+  pub inside : tree .nodes ≤ count
   pub deep : (k : ℕ) → k < count → getD depths k 0 ≡ getD (depthsOf (nodesOf (seedIn count n))) k 0
-  pub planted : (given : List Row) → Plants s logs counts x n q count scored given → PlantedTo s logs counts counts' x y n n' q q' sum count i scored given
+  pub planted : (given : List Row) → Plants s logs counts x n q count scored given → PlantedTo s logs counts counts' x y n n' q q' tree count (tree .nodes) scored given
 
-module _ {s : Settings} {logs : List Float} {counts counts' : List ℕ} {x y : Flat} {n n' : NodeLists} {q q' : QueueLists} {sum : Sum} {count i : ℕ}
+module _ {s : Settings} {logs : List Float} {counts counts' : List ℕ} {x y : Flat} {n n' : NodeLists} {q q' : QueueLists} {tree : Tree} {count : ℕ}
     {scored : Bool} {depths : List ℕ} {given : List Row}
-    (p : Plants s logs counts x n q count scored given) (w : Walked s logs counts counts' x y n n' q q' sum count i scored depths) where
+    (p : Plants s logs counts x n q count scored given) (w : Walked s logs counts counts' x y n n' q q' tree count scored depths) where
   -- every list is as long as before
   pub walked-size : SameSize x y
   walked-size = w .planted given p .size
@@ -237,8 +241,8 @@ module _ {s : Settings} {logs : List Float} {counts counts' : List ℕ} {x y : F
   pub walked-lists : SameLengths n n'
   walked-lists =
       let done = w .planted given p in
-      let few = seeded-length (j p) (seedIn count n) given i (omega (arith, w .inside, seed-length count n (p .room))) in
-      subst (SameLengths n) (sym (done .sown .nodes)) (holding-lengths (to p i .tree) n (room-fewer (p .room) (omega (arith, w .inside))))
+      let few = seeded-length (j p) (seedIn count n) given (tree .nodes) (omega (arith, w .inside, seed-length count n (p .room))) in
+      subst (SameLengths n) (sym (done .sown .nodes)) (holding-lengths (to p (tree .nodes) .tree) n (room-fewer (p .room) (omega (arith, w .inside))))
 
 -- the depths as they were computed stand in front of the list
 pub depths-deep : {s : Settings} {logs : List Float} {counts : List ℕ} {x : Flat} {n : NodeLists} {q : QueueLists} {count : ℕ} {scored : Bool}

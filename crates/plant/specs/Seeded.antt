@@ -1,5 +1,5 @@
 -- What planting a seed asks for, and what it leaves: the lists that growth starts from (document 01, "Deepening"). Assumes nothing.
-use Prim.Native.Nat.{ℕ, _+_, _-_, _*_, _≤_, max}
+use Prim.Native.Nat.{ℕ, _+_, _-_, _*_, _/_, _≤_, max}
 use mathlib.Core.Path.{_≡_}
 use mathlib.Core.Bool.{Bool, not}
 use mathlib.Core.List.{List}
@@ -14,13 +14,13 @@ use Rattle.model.proofs.Lawful.{JobFits}
 use Rattle.model.proofs.Bounded.{LogsWithin}
 use Rattle.model.proofs.SingleLawful.{single-lawful}
 use Rattle.checks.specs.declared.Settings.{Settings}
+use Rattle.layout.specs.declared.Tree.{Tree}
 use Rattle.layout.specs.Tree.{NodeLists, HasRoom}
 use Rattle.layout.specs.Waiting.{QueueLists, QueueRoom, SameQueue}
 use Rattle.rows.specs.Flat.{Flat, heldIn, rowCount, SameSize}
 use Rattle.state.specs.Fitting.{Fitting}
 use Rattle.state.specs.Grows.{jobIn, Grows}
 use Rattle.seed.specs.Ordered.{seedIn}
-use Rattle.plant.specs.declared.Planted.{Planted}
 
 -- what the checks of deepening ensure: 1 to 7, the rooms of a seed of `count` nodes, and a sound seed
 pub record Seedable (s : Settings) (logs : List Float) (counts : List ℕ) (x : Flat) (n : NodeLists) (q : QueueLists) (rows count : ℕ) : Type 0 where
@@ -39,9 +39,9 @@ splitsOf seed k = not (isLeaf (getD (nodesOf seed) k leaf))
 
 -- The lists hold the model's state of the seed, and there is room for as many splits as the limit allows. Rows and queue have as many entries as they had
 pub record Seeded (s : Settings) (logs : List Float) (counts : List ℕ) (x y : Flat) (n n' : NodeLists) (q q' : QueueLists) (count : ℕ)
-    (r : Planted) : Type 0 where
-  pub grows : Grows s logs counts y n' q' (r .waiting) count (r .bits) (s .«max_leaves» - r .leaves) n (seedState (jobIn s logs x) (seedIn count n) (heldIn x))
+    (r : Tree) : Type 0 where
+  pub grows : Grows s logs counts y n' q' r (s .«max_leaves» - (r .nodes + 1) / 2) n (seedState (jobIn s logs x) (seedIn count n) (heldIn x))
       (splitsOf (seedIn count n)) (heldIn x)
-  pub leaves : r .leaves ≡ leafCount (nodesOf (seedIn count n))
+  pub leaves : (r .nodes + 1) / 2 ≡ leafCount (nodesOf (seedIn count n))
   pub size : SameSize x y
   pub queue : SameQueue q q'

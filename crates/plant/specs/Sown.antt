@@ -23,6 +23,7 @@ use Rattle.checks.specs.declared.Settings.{Settings}
 use Rattle.layout.specs.declared.Leaf.{Leaf}
 use Rattle.layout.specs.Values.{offerIs}
 use Rattle.layout.specs.Layout.{kindAt}
+use Rattle.layout.specs.declared.Tree.{Tree}
 use Rattle.layout.specs.Tree.{NodeLists, holding, HasRoom, put, leafWith}
 use Rattle.layout.specs.Waiting.{QueueLists, Queued, QueueRoom, SameQueue, queueOf, waits}
 use Rattle.lent.specs.Lists.{spanAt}
@@ -35,7 +36,6 @@ use Rattle.state.specs.Fitting.{usesOf, Fitting}
 use Rattle.leaf.specs.Made.{MadeLeaf}
 use Rattle.seed.specs.Ordered.{seedIn}
 use Rattle.seed.specs.Kept.{infoAt}
-use Rattle.plant.specs.declared.Sum.{Sum}
 
 -- the model's state after the first i nodes of the seed
 unfoldable pub seededTo : Job singles → List (Record singles) → List Row → ℕ → State singles
@@ -44,69 +44,72 @@ seededTo j seed rows i =
     seedFrom j nodes (depthsOf nodes) rows 0 (take i seed) (record { rows = []; tree = []; bits = singles .noTotal })
 
 -- The lists hold the state `st`, over what was lent; behind its rows stand those of the leaves still to come. What waits is kept only if leaves are scored
-pub record Sown (s : Settings) (logs : List Float) (counts : List ℕ) (x : Flat) (n : NodeLists) (q : QueueLists) (sum : Sum) (scored uses : Bool)
+pub record Sown (s : Settings) (logs : List Float) (counts : List ℕ) (x : Flat) (n : NodeLists) (q : QueueLists) (tree : Tree) (scored uses : Bool)
     (lent : NodeLists) (st : State singles) (left : List Row) : Type 0 where
   pub fitting : Fitting s logs counts x
   pub modes : usesOf s x ≡ uses
   pub rows : heldIn x ≡ st .rows ++ left
   pub nodes : n ≡ holding (st .tree) lent
-  pub queued : scored ≡ true → Queued (sum .waiting) q (queueOf (st .tree))
-  pub idle : scored ≡ false → sum .waiting ≡ 0
-  pub summed : sum .bits ≡ st .bits
+  pub queued : scored ≡ true → Queued (tree .waiting) q (queueOf (st .tree))
+  pub idle : scored ≡ false → tree .waiting ≡ 0
+  pub counted : tree .nodes ≡ length (st .tree)
+  pub summed : tree .bits ≡ st .bits
 
 -- ---- one node
 
--- a leaf over the rows from first to end can be evaluated as node i, and there is room for it, and in the queue if it is scored
-pub record LeafReady (s : Settings) (logs : List Float) (counts : List ℕ) (x : Flat) (n : NodeLists) (q : QueueLists) (sum : Sum) (i first end : ℕ)
+-- a leaf over the rows from first to end can be evaluated as the next node, and there is room for it, and in the queue if it is scored
+pub record LeafReady (s : Settings) (logs : List Float) (counts : List ℕ) (x : Flat) (n : NodeLists) (q : QueueLists) (tree : Tree) (first end : ℕ)
     (scored : Bool) : Type 0 where
   pub fitting : Fitting s logs counts x
   pub logs-small : LogsWithin (rowCount x) logs
   pub spanned : Spanned (span first end) x
-  pub room : HasRoom (i + 1) n
-  pub few : i < maxNodes
-  pub queue-room : scored ≡ true → QueueRoom (sum .waiting + 1) q
+  pub room : HasRoom (tree .nodes + 1) n
+  pub few : tree .nodes < maxNodes
+  pub queue-room : scored ≡ true → QueueRoom (tree .waiting + 1) q
 
 -- it was: what it came to is written, waits if it offers a split, and its cost is added
-pub record LeafPlanted (s : Settings) (logs : List Float) (counts counts' : List ℕ) (x y : Flat) (n n' : NodeLists) (q q' : QueueLists) (sum sum' : Sum)
-    (i first end depth : ℕ) (scored : Bool) : Type 0 where
+pub record LeafPlanted (s : Settings) (logs : List Float) (counts counts' : List ℕ) (x y : Flat) (n n' : NodeLists) (q q' : QueueLists) (tree tree' : Tree)
+    (first end depth : ℕ) (scored : Bool) : Type 0 where
   pub leaf : Leaf
   pub made : MadeLeaf scored s logs depth (span first end) x y leaf
-  pub nodes : n' ≡ put i (leafWith (leaf .info) first end) n
-  pub queued : (leaves : List (Waiting singles)) → Queued (sum .waiting) q leaves → Queued (sum' .waiting) q' (leaves ++ waits i depth (offerIs (leaf .offer)))
-  pub many : sum' .waiting ≡ sum .waiting + length (waits i depth (offerIs (leaf .offer)))
+  pub nodes : n' ≡ put (tree .nodes) (leafWith (leaf .info) first end) n
+  pub queued : (leaves : List (Waiting singles)) → Queued (tree .waiting) q leaves
+      → Queued (tree' .waiting) q' (leaves ++ waits (tree .nodes) depth (offerIs (leaf .offer)))
+  pub counted : tree' .nodes ≡ tree .nodes + 1
+  pub many : tree' .waiting ≡ tree .waiting + length (waits (tree .nodes) depth (offerIs (leaf .offer)))
   pub queue : SameQueue q q'
-  pub summed : sum' .bits ≡ add binary64 (sum .bits) (leaf .info .cost)
+  pub summed : tree' .bits ≡ add binary64 (tree .bits) (leaf .info .cost)
   pub zeros : counts' ≡ counts
 
--- node i can be planted: its span is one of the lists, and there is room for it, and in the queue if it is a leaf that is scored
-pub record NodeFits (s : Settings) (logs : List Float) (counts : List ℕ) (x : Flat) (n : NodeLists) (q : QueueLists) (sum : Sum) (i : ℕ)
+-- the next node can be planted: its span is one of the lists, and there is room for it, and in the queue if it is a leaf that is scored
+pub record NodeFits (s : Settings) (logs : List Float) (counts : List ℕ) (x : Flat) (n : NodeLists) (q : QueueLists) (tree : Tree)
     (scored : Bool) : Type 0 where
   pub fitting : Fitting s logs counts x
   pub logs-small : LogsWithin (rowCount x) logs
-  pub spanned : Spanned (spanAt (n .spans) i) x
-  pub room : HasRoom (i + 1) n
-  pub few : i < maxNodes
-  pub queue-room : scored ≡ true → eqb (kindAt (n .words) i) 1 ≡ false → QueueRoom (sum .waiting + 1) q
+  pub spanned : Spanned (spanAt (n .spans) (tree .nodes)) x
+  pub room : HasRoom (tree .nodes + 1) n
+  pub few : tree .nodes < maxNodes
+  pub queue-room : scored ≡ true → eqb (kindAt (n .words) (tree .nodes)) 1 ≡ false → QueueRoom (tree .waiting + 1) q
 
 -- node i is the next of the state, and its span holds the rows `mine`; a split has none
 pub record NextIs (n : NodeLists) (i : ℕ) (lent : NodeLists) (st : State singles) (mine : List Row) : Type 0 where
-  pub counted : length (st .tree) ≡ i
   pub first : spanAt (n .spans) i .first ≡ length (st .rows)
   pub end : spanAt (n .spans) i .end ≡ length (st .rows) + length mine
   pub bare : eqb (kindAt (n .words) i) 1 ≡ true → mine ≡ []
   pub room : HasRoom (i + 1) lent
 
--- every state that the lists held has gained node i, as the model gains it
-pub record NodePlanted (s : Settings) (logs : List Float) (counts counts' : List ℕ) (x y : Flat) (n n' : NodeLists) (q q' : QueueLists) (sum sum' : Sum)
-    (i depth : ℕ) (scored : Bool) : Type 0 where
+-- every state that the lists held has gained the next node, as the model gains it
+pub record NodePlanted (s : Settings) (logs : List Float) (counts counts' : List ℕ) (x y : Flat) (n n' : NodeLists) (q q' : QueueLists) (tree tree' : Tree)
+    (depth : ℕ) (scored : Bool) : Type 0 where
   pub size : SameSize x y
   pub queue : SameQueue q q'
   pub zeros : counts' ≡ counts
-  pub risen : sum' .waiting ≤ sum .waiting + cond (eqb (kindAt (n .words) i) 1) 0 1
-  pub sown : (uses : Bool) (lent : NodeLists) (st : State singles) (mine left : List Row) → Sown s logs counts x n q sum scored uses lent st (mine ++ left)
-      → NextIs n i lent st mine
-      → Sown s logs counts' y n' q' sum' scored uses lent
-      (withSeedNode (jobOf single (settingsOf s) logs uses) (nodeAt (n .words) (n .values) i) (infoAt n i) depth mine st) left
+  pub counted : tree' .nodes ≡ tree .nodes + 1
+  pub risen : tree' .waiting ≤ tree .waiting + cond (eqb (kindAt (n .words) (tree .nodes)) 1) 0 1
+  pub sown : (uses : Bool) (lent : NodeLists) (st : State singles) (mine left : List Row) → Sown s logs counts x n q tree scored uses lent st (mine ++ left)
+      → NextIs n (tree .nodes) lent st mine
+      → Sown s logs counts' y n' q' tree' scored uses lent
+      (withSeedNode (jobOf single (settingsOf s) logs uses) (nodeAt (n .words) (n .values) (tree .nodes)) (infoAt n (tree .nodes)) depth mine st) left
 
 -- ---- all nodes
 
@@ -129,11 +132,11 @@ pub record Plantable (s : Settings) (logs : List Float) (counts : List ℕ) (x :
   pub plants : Plants s logs counts x n q count scored given
 
 -- the first i nodes of the seed are planted
-pub record PlantedTo (s : Settings) (logs : List Float) (counts counts' : List ℕ) (x y : Flat) (n n' : NodeLists) (q q' : QueueLists) (sum : Sum)
+pub record PlantedTo (s : Settings) (logs : List Float) (counts counts' : List ℕ) (x y : Flat) (n n' : NodeLists) (q q' : QueueLists) (tree : Tree)
     (count i : ℕ) (scored : Bool) (given : List Row) : Type 0 where
   pub size : SameSize x y
   pub queue : SameQueue q q'
   pub zeros : counts' ≡ counts
-  pub few : sum .waiting ≤ leafCount (take i (nodesOf (seedIn count n)))
-  pub sown : Sown s logs counts' y n' q' sum scored (usesOf s x) n (seededTo (jobOf single (settingsOf s) logs (usesOf s x)) (seedIn count n) given i)
+  pub few : tree .waiting ≤ leafCount (take i (nodesOf (seedIn count n)))
+  pub sown : Sown s logs counts' y n' q' tree scored (usesOf s x) n (seededTo (jobOf single (settingsOf s) logs (usesOf s x)) (seedIn count n) given i)
       (drop (firstOf (leafNumbers (nodesOf (seedIn count n)) given) i) (heldIn x))

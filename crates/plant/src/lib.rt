@@ -9,24 +9,12 @@ ghost use Rattle.rows.specs.Flat.{flat};
 ghost use Rattle.plant.specs.Sown.{LeafReady, LeafPlanted, NodeFits, NodePlanted, Plants, Plantable, PlantedTo};
 ghost use Rattle.plant.specs.Seeded.{Seedable, Seeded};
 use checks::Settings;
+use layout::Tree;
 
 // Most nodes of a sound seed.
 const MAX_NODES: usize = 8191;
 
-// What was planted: how many leaves wait, how many there are, and the estimated bits.
-pub struct Planted {
-    pub waiting: usize,
-    pub leaves: usize,
-    pub bits: f64,
-}
-
-// How many leaves wait and the estimated bits, so far.
-struct Sum {
-    waiting: usize,
-    bits: f64,
-}
-
-// A leaf with rows: it takes its mode and is evaluated at its depth. Its cost is added, and it waits if it offers a split.
+// The next node, a leaf with rows: it takes its mode and is evaluated at its depth. Its cost is added, and it waits if it offers a split.
 fn plant_leaf(
     props: &[i32],
     tok: &mut [u8],
@@ -41,22 +29,21 @@ fn plant_leaf(
     counts: &mut [u32],
     logs: &[f32],
     s: Settings,
-    i: usize,
     first: usize,
     end: usize,
     depth: u32,
     score_split: bool,
-    sum: Sum,
-) -> Sum
+    tree: Tree,
+) -> Tree
     requires { ⌜ LeafReady s (now logs) (now counts) (flat (now props) (now tok) (now res)) (nodeLists (now words) (now values) (now costs) (now spans))
-        (queueLists (now «queue_words») (now «queue_values») (now «queue_gains»)) sum i first end «score_split» ⌝ }
+        (queueLists (now «queue_words») (now «queue_values») (now «queue_gains»)) tree first end «score_split» ⌝ }
     ensures { λ r. ⌜ LeafPlanted s (now (logs .entry)) (now (counts .entry)) (now (counts .exit))
         (flat (now (props .entry)) (now (tok .entry)) (now (res .entry))) (flat (now (props .entry)) (now (tok .exit)) (now (res .entry)))
         (nodeLists (now (words .entry)) (now (values .entry)) (now (costs .entry)) (now (spans .entry)))
         (nodeLists (now (words .exit)) (now (values .exit)) (now (costs .exit)) (now (spans .exit)))
         (queueLists (now («queue_words» .entry)) (now («queue_values» .entry)) (now («queue_gains» .entry)))
         (queueLists (now («queue_words» .exit)) (now («queue_values» .exit)) (now («queue_gains» .exit)))
-        sum r i first end depth «score_split» ⌝ }
+        tree r first end depth «score_split» ⌝ }
 {
     let leaf = leaf::make_leaf(
         props,
@@ -72,21 +59,25 @@ fn plant_leaf(
     );
     let info = leaf.info;
     let offer = leaf.offer;
-    nodes::put_leaf(words, values, costs, spans, i, info, first, end);
+    nodes::put_leaf(words, values, costs, spans, tree.nodes, info, first, end);
     let waiting = queue::enqueue(
         queue_words,
         queue_values,
         queue_gains,
-        sum.waiting,
-        i,
+        tree.waiting,
+        tree.nodes,
         depth,
         offer,
     );
-    let bits = sum.bits + info.cost as f64;
-    Sum { waiting, bits }
+    let bits = tree.bits + info.cost as f64;
+    Tree {
+        nodes: tree.nodes + 1,
+        waiting,
+        bits,
+    }
 }
 
-// Node i of the seed, whose span already stands in the span list.
+// The next node of the seed, whose span already stands in the span list.
 fn plant_node(
     props: &[i32],
     tok: &mut [u8],
@@ -101,26 +92,30 @@ fn plant_node(
     counts: &mut [u32],
     logs: &[f32],
     s: Settings,
-    i: usize,
     depth: u32,
     score_split: bool,
-    sum: Sum,
-) -> Sum
+    tree: Tree,
+) -> Tree
     requires { ⌜ NodeFits s (now logs) (now counts) (flat (now props) (now tok) (now res)) (nodeLists (now words) (now values) (now costs) (now spans))
-        (queueLists (now «queue_words») (now «queue_values») (now «queue_gains»)) sum i «score_split» ⌝ }
+        (queueLists (now «queue_words») (now «queue_values») (now «queue_gains»)) tree «score_split» ⌝ }
     ensures { λ r. ⌜ NodePlanted s (now (logs .entry)) (now (counts .entry)) (now (counts .exit))
         (flat (now (props .entry)) (now (tok .entry)) (now (res .entry))) (flat (now (props .entry)) (now (tok .exit)) (now (res .entry)))
         (nodeLists (now (words .entry)) (now (values .entry)) (now (costs .entry)) (now (spans .entry)))
         (nodeLists (now (words .exit)) (now (values .exit)) (now (costs .exit)) (now (spans .exit)))
         (queueLists (now («queue_words» .entry)) (now («queue_values» .entry)) (now («queue_gains» .entry)))
         (queueLists (now («queue_words» .exit)) (now («queue_values» .exit)) (now («queue_gains» .exit)))
-        sum r i depth «score_split» ⌝ }
+        tree r depth «score_split» ⌝ }
 {
+    let i = tree.nodes;
     let first = spans[i * 2] as usize;
     let end = spans[i * 2 + 1] as usize;
     if (words[i * 5] == 1) | (first == end) {
         seed::keep_node(words, values, costs, spans, i);
-        return sum;
+        return Tree {
+            nodes: i + 1,
+            waiting: tree.waiting,
+            bits: tree.bits,
+        };
     }
     plant_leaf(
         props,
@@ -136,12 +131,11 @@ fn plant_node(
         counts,
         logs,
         s,
-        i,
         first,
         end,
         depth,
         score_split,
-        sum,
+        tree,
     )
 }
 
@@ -162,7 +156,7 @@ fn plant_nodes(
     s: Settings,
     count: usize,
     score_split: bool,
-) -> Sum
+) -> Tree
     requires { ⌜ Plantable s (now logs) (now counts) (flat (now props) (now tok) (now res)) (nodeLists (now words) (now values) (now costs) (now spans))
         (queueLists (now «queue_words») (now «queue_values») (now «queue_gains»)) count «score_split» ⌝ }
     ensures { λ r. ⌜ ((given : List Row)
@@ -179,13 +173,15 @@ fn plant_nodes(
 {
     let mut depths = [0u32; MAX_NODES];
     seed::seed_depths(words, count, &mut depths);
-    let mut sum = Sum {
+    let mut tree = Tree {
+        nodes: 0,
         waiting: 0,
         bits: 0.0,
     };
-    for i in 0..count {
+    while tree.nodes < count {
+        let i = tree.nodes;
         let depth = depths[i];
-        sum = plant_node(
+        tree = plant_node(
             props,
             tok,
             res,
@@ -199,13 +195,12 @@ fn plant_nodes(
             counts,
             logs,
             s,
-            i,
             depth,
             score_split,
-            sum,
+            tree,
         );
     }
-    sum
+    tree
 }
 
 // The seed of `count` nodes, planted. Every node but the first is one of a split's two children, so there is one leaf more than splits.
@@ -226,7 +221,7 @@ pub fn plant_seed(
     s: Settings,
     rows: usize,
     count: usize,
-) -> Planted
+) -> Tree
     requires { ⌜ Seedable s (now logs) (now counts) (flat (now props) (now tok) (now res)) (nodeLists (now words) (now values) (now costs) (now spans))
         (queueLists (now «queue_words») (now «queue_values») (now «queue_gains»)) rows count ⌝ }
     ensures { λ r. ⌜ Seeded s (now (logs .entry)) (now (counts .exit))
@@ -241,7 +236,7 @@ pub fn plant_seed(
     let leaves = (count + 1) / 2;
     let score_split = leaves < s.max_leaves as usize;
     seed::order_by_leaf(props, tok, res, words, values, spans, counts, rows, count);
-    let sum = plant_nodes(
+    plant_nodes(
         props,
         tok,
         res,
@@ -257,10 +252,5 @@ pub fn plant_seed(
         s,
         count,
         score_split,
-    );
-    Planted {
-        waiting: sum.waiting,
-        leaves,
-        bits: sum.bits,
-    }
+    )
 }

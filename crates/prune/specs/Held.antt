@@ -9,8 +9,8 @@ use Rattle.model.specs.Single.{singles}
 use Rattle.model.specs.Grow.{Entry, noEntry, treeNodes}
 use Rattle.model.specs.Prune.{prunedTree, prunedBits}
 use Rattle.model.proofs.Family.{Family}
+use Rattle.layout.specs.declared.Tree.{Tree}
 use Rattle.layout.specs.Tree.{NodeLists, holding, HasRoom}
-use Rattle.prune.specs.declared.Pruned.{Pruned}
 use Rattle.prune.specs.Prices.{IsNumber}
 
 -- the lists hold the tree, over those lent; no cost is NaN
@@ -35,7 +35,8 @@ abbrev pub prunedEntries : Float → List (Entry singles) → List (Entry single
 prunedEntries price tree = prunedTree {M = singles} price tree ++ replicate (length tree - length (prunedTree {M = singles} price tree)) noEntry
 
 -- what pruning answers and leaves
-pub record PrunedAs (price : Float) (tree : List (Entry singles)) (lent y : NodeLists) (r : Pruned) : Type 0 where
+pub record PrunedAs (price : Float) (tree : List (Entry singles)) (lent y : NodeLists) (r : Tree) : Type 0 where
   pub lists : y ≡ holding (prunedEntries price tree) lent
   pub nodes : r .nodes ≡ length (prunedTree {M = singles} price tree)
+  pub none-wait : r .waiting ≡ 0
   pub bits : r .bits ≡ prunedBits {M = singles} price tree

@@ -12,6 +12,7 @@ ghost use Rattle.layout.specs.Tree.{NodeLists, nodeLists};
 ghost use Rattle.prune.specs.Prices.{splitPriced, leafPriced, pricedAt, IsNumber, HasNode, Priceable, AllPriceable, ShowsTree, IsPriced, PricedAs};
 ghost use Rattle.prune.specs.Held.{HoldsTree, Prunable, PrunedAs};
 use layout::NodeInfo;
+use layout::Tree;
 
 // A node's words are kind, property, gt, le and predictor; its values are threshold and offset.
 const NODE_WORDS: usize = 5;
@@ -20,12 +21,6 @@ const NODE_VALUES: usize = 2;
 
 // Most nodes of a tree.
 const MAX_NODES: usize = 8191;
-
-// How many nodes are left, and the estimated bits.
-pub struct Pruned {
-    pub nodes: usize,
-    pub bits: f64,
-}
 
 // What a node has become: a split, or else a leaf; the bits of the leaves under it; and these with a price for each split that is kept.
 struct Priced {
@@ -154,7 +149,8 @@ fn price_nodes(
     bits[0]
 }
 
-// Folds each split whose own cost is at most what its two sides and the price come to, and renumbers what is left from the root, gt first.
+// Folds each split whose own cost is at most what its two sides and the price come to, and renumbers what is left from
+// the root, gt first. No leaf waits any more.
 pub fn prune_tree(
     words: &mut [u32],
     values: &mut [i32],
@@ -162,7 +158,7 @@ pub fn prune_tree(
     spans: &mut [u32],
     count: usize,
     price: f32,
-) -> Pruned
+) -> Tree
     requires { ⌜ Prunable (nodeLists (now words) (now values) (now costs) (now spans)) count price ⌝ }
     ensures { λ r. ⌜ ((tree : List (Entry singles)) (lent : NodeLists)
         → HoldsTree (nodeLists (now (words .entry)) (now (values .entry)) (now (costs .entry)) (now (spans .entry))) count price tree lent
@@ -184,5 +180,9 @@ pub fn prune_tree(
         nodes,
         count,
     );
-    Pruned { nodes, bits }
+    Tree {
+        nodes,
+        waiting: 0,
+        bits,
+    }
 }

@@ -19,6 +19,7 @@ use Rattle.model.proofs.Growing.{Sized}
 use Rattle.model.proofs.SingleLawful.{single-lawful}
 use Rattle.checks.specs.Given.{settingsOf}
 use Rattle.checks.specs.declared.Settings.{Settings}
+use Rattle.layout.specs.declared.Tree.{Tree}
 use Rattle.layout.specs.Tree.{NodeLists, holding, HasRoom}
 use Rattle.layout.specs.Waiting.{QueueLists, Queued, QueueRoom, queueOf}
 use Rattle.rows.specs.Flat.{Flat, heldIn, rowCount}
@@ -34,17 +35,16 @@ Number c = T (not (isNan c))
 
 -- The lists hold the state `st`, over what was `lent`, and there is room for `more` splits. What waits is looked at only if there are more splits to make
 pub record Grows (s : Settings) (logs : List Float) (counts : List ℕ) (x : Flat) (lists : NodeLists) (q : QueueLists)
-    (waiting count : ℕ) (bits : Float) (more : ℕ)
-    (lent : NodeLists) (st : State singles) (seeds : ℕ → Bool) (given : List Row) : Type 0 where
+    (tree : Tree) (more : ℕ) (lent : NodeLists) (st : State singles) (seeds : ℕ → Bool) (given : List Row) : Type 0 where
   pub fitting : Fitting s logs counts x
   pub rows : heldIn x ≡ st .rows
   pub nodes : lists ≡ holding (st .tree) lent
   pub room : HasRoom (length (st .tree) + 2 * more) lent
   pub few : length (st .tree) + 2 * more ≤ maxNodes
-  pub queued : 0 < more → Queued waiting q (queueOf (st .tree))
-  pub queue-room : QueueRoom (waiting + more) q
-  pub counted : count ≡ length (st .tree)
-  pub summed : bits ≡ st .bits
+  pub queued : 0 < more → Queued (tree .waiting) q (queueOf (st .tree))
+  pub queue-room : QueueRoom (tree .waiting + more) q
+  pub counted : tree .nodes ≡ length (st .tree)
+  pub summed : tree .bits ≡ st .bits
   pub inv : Invariant (usesOf s x) seeds given st
   pub healthy : Healthy (single-lawful .bounds) seeds given st
   pub sized : Sized Number (rowCount x) st
@@ -53,9 +53,9 @@ pub record Grows (s : Settings) (logs : List Float) (counts : List ℕ) (x : Fla
 
 -- there is such a state
 pub record Growable (s : Settings) (logs : List Float) (counts : List ℕ) (x : Flat) (lists : NodeLists) (q : QueueLists)
-    (waiting count : ℕ) (bits : Float) (more : ℕ) : Type 0 where
+    (tree : Tree) (more : ℕ) : Type 0 where
   pub lent : NodeLists
   pub state : State singles
   pub seeds : ℕ → Bool
   pub given : List Row
-  pub grows : Grows s logs counts x lists q waiting count bits more lent state seeds given
+  pub grows : Grows s logs counts x lists q tree more lent state seeds given

@@ -37,8 +37,18 @@ grow-from-seed-requires c κs =
     let summed = c .before .before .before .before .before .before .before .before .before .before .before .before .before .flat-bits in
     accepted-seedable (x cleared) (start cleared .pre) (summed .last .1 .1 .0) (summed .ensures .1 ∙ cleared .clear .ensures)
 
-abbrev after-grow-from-seed : tie.After-slice-known16 → tie.After-grow-from-seed
-after-grow-from-seed c = c .before .before .before .before .before .before .before .before .before .before .before .before .before .before .before .before .before .before
+answer-requires : tie.Need-answer-requires
+answer-requires c κs = c .before .before .before .before .before .before .before .before .before .before .before .before .before .before .before .before .before .before .grow-from-seed .ensures .0 .few
+
+-- ---- from the end back to each call
+abbrev after-grow-from-seed : tie.After-answer → tie.After-grow-from-seed
+after-grow-from-seed c = c .before .before .before .before .before .before .before .before .before .before .before .before .before .before .before .before .before .before .before
+
+abbrev after-flat-bits : tie.After-answer → tie.After-flat-bits
+after-flat-bits c = c .before .before .before .before .before .before .before .before .before .before .before .before .before .before .before .before .before .before .before .before .before .before .before .before .before .before .before .before .before .before .before .before .before
+
+abbrev after-clear : tie.After-answer → tie.After-clear
+after-clear c = c .before .before .before .before .before .before .before .before .before .before .before .before .before .before .before .before .before .before .before .before .before .before .before .before .before .before .before .before .before .before .before .before .before .before .before .before .before .before .before
 
 same-length : tie.Need-same-length
 same-length c = after-grow-from-seed c .grow-from-seed .kept .0
@@ -71,18 +81,18 @@ same-length-10 : tie.Need-same-length-10
 same-length-10 c = after-grow-from-seed c .grow-from-seed .kept .1 .1 .1 .1 .1 .1 .1 .1 .1 .0
 
 same-length-11 : tie.Need-same-length-11
-same-length-11 c = c .before .before .before .before .before .before .before .before .before .before .before .before .before .before .before .before .before .before .grow-from-seed .kept .1 .1 .1 .1 .1 .1 .1 .1 .1 .1 .0 ∙ c .before .before .before .before .before .before .before .before .before .before .before .before .before .before .before .before .before .before .before .before .before .before .before .before .before .before .before .before .before .before .before .before .flat-bits .kept .1 .1 .0 ∙ c .before .before .before .before .before .before .before .before .before .before .before .before .before .before .before .before .before .before .before .before .before .before .before .before .before .before .before .before .before .before .before .before .before .before .before .before .before .before .clear .kept .0
+same-length-11 c = after-grow-from-seed c .grow-from-seed .kept .1 .1 .1 .1 .1 .1 .1 .1 .1 .1 .0 ∙ after-flat-bits c .flat-bits .kept .1 .1 .0 ∙ after-clear c .clear .kept .0
 
 returns : tie.Need-returns
 unfolding deepened finished resultOf
 returns c =
-    let cleared = c .before .before .before .before .before .before .before .before .before .before .before .before .before .before .before .before .before .before .before .before .before .before .before .before .before .before .before .before .before .before .before .before .before .before .before .before .before .before in
-    let summed = c .before .before .before .before .before .before .before .before .before .before .before .before .before .before .before .before .before .before .before .before .before .before .before .before .before .before .before .before .before .before .before .before .flat-bits in
+    let cleared = after-clear c in
+    let summed = after-flat-bits c .flat-bits in
     let grown = after-grow-from-seed c .grow-from-seed in
     let given = start cleared .args in
     let made = deepenedIn (given .s) (given .logs .now) (given .count) (x cleared .rows) (x cleared .nodes) in
     let f = grown .ensures .0 in (
-      made-answer (grown .result .nodes) (grown .result .leaves) (grown .result .bits) (summed .result) made (f .counted) (f .leaves) (f .summed) (summed .ensures .0 (given .res .now)),
+      made-answer f (summed .ensures .0 (given .res .now)) (c .answer .ensures),
       made-lists (x cleared) made (flat (grown .last .0) (grown .last .1 .0) (grown .last .1 .1 .0))
           (nodeLists (grown .last .1 .1 .1 .0) (grown .last .1 .1 .1 .1 .0) (grown .last .1 .1 .1 .1 .1 .0) (grown .last .1 .1 .1 .1 .1 .1 .0))
           (queueLists (grown .last .1 .1 .1 .1 .1 .1 .1 .0) (grown .last .1 .1 .1 .1 .1 .1 .1 .1 .0) (grown .last .1 .1 .1 .1 .1 .1 .1 .1 .1 .0)) (grown .last .1 .1 .1 .1 .1 .1 .1 .1 .1 .1 .0) (grown .result)
@@ -97,6 +107,7 @@ deepen-rows-spec =
     clear-requires
     flat-bits-requires
     grow-from-seed-requires
+    answer-requires
     same-length
     same-length-2
     same-length-3

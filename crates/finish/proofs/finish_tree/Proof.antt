@@ -4,8 +4,6 @@ use mathlib.Core.Bool.{Bool, cond, _&&_}
 use mathlib.Core.List.{List}
 use Rattle.model.specs.Rows.{Row}
 use Rattle.model.specs.Settle.{settled as modes}
-use native.Mathlib.Omega.{arith}
-use borrow.Author.Needs.{needs}
 use lib.Dec.{ltb}
 use lib.ListN.{length}
 use Rattle.layout.specs.Tree.{NodeLists, nodeLists}
@@ -15,7 +13,7 @@ use Rattle.settle.specs.Leaves.{HoldsLeaves}
 use Rattle.state.specs.Fitting.{usesOf}
 use Rattle.finish.specs.Finished.{cutTree, Cut}
 use Rattle.checks.proofs.Ranges.{given}
-use Rattle.finish.proofs.Finishing.{grew-holds, grew-prunable, clear-counts, cut-leaves, few-kept, behind, finished-lists}
+use Rattle.finish.proofs.Finishing.{grew-holds, grew-prunable, clear-counts, cut-leaves, behind, finished-lists}
 use Rattle.finish.proofs.finish_tree.Statement.{statement}
 use Rattle.finish.proofs.finish_tree.Tie as tie
 
@@ -41,15 +39,6 @@ settle-if-requires c κs =
     let pruned = c .before .before .before .before .before .before .before .before .before .before .before .before in
     let g = start pruned .pre .grew in
     rw (flag pruned) (settleable (cut-leaves g (left pruned)) (start pruned .args .counts .now) (λ e. clear-counts g))
-
-cast-t32 : tie.Need-cast-t32
-cast-t32 c = let pruned = c .before .before .before .before .before .before .before .before .before .before .before .before .before .before .before .before .before in record { fits = omega (arith, few-kept (start pruned .pre .grew) (left pruned)) }
-
-add-t21 : tie.Need-add-t21
-add-t21 c = let pruned = c .before .before .before .before .before .before .before .before .before .before .before .before .before .before .before .before .before in record { fits = omega (arith, few-kept (start pruned .pre .grew) (left pruned)) }
-
-cast-t34 : tie.Need-cast-t34
-cast-t34 c = let pruned = c .before .before .before .before .before .before .before .before .before .before .before .before .before .before .before .before .before in record { fits = omega (arith, few-kept (start pruned .pre .grew) (left pruned)) }
 
 abbrev after-settle-if : tie.After-slice-known10 → tie.After-settle-if
 after-settle-if c = c .before .before .before .before
@@ -99,9 +88,6 @@ finish-tree-spec =
     (tie.spec
     prune-if-requires
     settle-if-requires
-    cast-t32
-    add-t21
-    cast-t34
     same-length
     same-length-2
     same-length-3

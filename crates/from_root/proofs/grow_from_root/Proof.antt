@@ -7,8 +7,7 @@ use Rattle.model.proofs.Root.{noSeeds}
 use Rattle.layout.specs.Tree.{nodeLists}
 use Rattle.rows.specs.Flat.{flat, heldIn}
 use Rattle.state.specs.Grows.{jobIn}
-use Rattle.finish.proofs.Finishing.{clear-same}
-use Rattle.from_root.proofs.Planting.{finished-from}
+use Rattle.finish.proofs.Finishing.{finished-from, clear-same}
 use Rattle.from_root.proofs.grow_from_root.Statement.{statement}
 use Rattle.from_root.proofs.grow_from_root.Tie as tie
 

@@ -87,7 +87,7 @@ returns c =
     let q' : QueueLists = queueLists (put-in .last .0) (put-in .last .1 .0) (put-in .last .1 .1 .0) in
     let counts : List ℕ = made .make-leaf .last .1 .1 .1 .1 .1 .1 .1 .1 .1 .0 in (
       subst
-          (λ (m : NodeLists). Grows (given .s) (given .logs .now) counts y m q' (put-in .result) 1 (c .as-total .result) (given .s .«max_leaves» - 1) n
+          (λ (m : NodeLists). Grows (given .s) (given .logs .now) counts y m q' (record { nodes = 1; waiting = put-in .result; bits = c .as-total .result }) (given .s .«max_leaves» - 1) n
           (rootState (jobIn (given .s) (given .logs .now) x) (heldIn x)) noSeeds (heldIn x))
           (sym (written .ensures))
           (planted (start made .pre) (made .make-leaf .ensures .0) q' (put-in .result) (c .as-total .result) (put-in .ensures .1 .1) (put-in .ensures .0 [] (none-queued q))

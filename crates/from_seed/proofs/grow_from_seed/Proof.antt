@@ -9,7 +9,7 @@ use Rattle.state.specs.Grows.{jobIn}
 use Rattle.finish.proofs.Finishing.{clear-same}
 use Rattle.seed.specs.Ordered.{seedIn}
 use Rattle.plant.specs.Seeded.{splitsOf}
-use Rattle.from_seed.proofs.FromSeed.{seed-growable, seed-grows, seed-finished}
+use Rattle.from_seed.proofs.FromSeed.{seed-few, seed-growable, seed-grows, seed-finished}
 use Rattle.from_seed.proofs.grow_from_seed.Statement.{statement}
 use Rattle.from_seed.proofs.grow_from_seed.Tie as tie
 
@@ -25,49 +25,56 @@ cast-leaves-left : tie.Need-cast-leaves-left
 cast-leaves-left c = record { fits = omega (arith, c .before .before .before .before .before .before .before .before .before .before .before .before .before .before .before .before .before .before .before .before .before .before .before .before .before .before .before .before .before .before .before .before .before .before .before .before .before .before .before .pre .fitting .settings .limit) }
 
 leaves-left-requires : tie.Need-leaves-left-requires
-leaves-left-requires c κs = search needs
+leaves-left-requires c κs = seed-few (c .before .before .before .before .before .before .before .before .before .before .before .before .before .before .before .before .before .before .before .plant-seed .ensures .0)
 
 grow-and-finish-requires : tie.Need-grow-and-finish-requires
 grow-and-finish-requires c κs = seed-growable (c .before .before .before .before .before .before .before .before .before .before .before .before .before .before .before .before .before .before .before .before .before .before .before .before .before .before .before .before .before .before .before .plant-seed .ensures .0) (c .before .before .before .before .before .before .before .before .before .before .before .leaves-left .ensures)
 
+-- ---- from the end back to each call
+abbrev after-grow-and-finish : tie.After-slice-known21 → tie.After-grow-and-finish
+after-grow-and-finish c = c .before .before .before .before .before .before .before .before .before .before .before .before .before .before .before .before .before .before
+
+abbrev after-plant-seed : tie.After-slice-known21 → tie.After-plant-seed
+after-plant-seed c = c .before .before .before .before .before .before .before .before .before .before .before .before .before .before .before .before .before .before .before .before .before .before .before .before .before .before .before .before .before .before .before .before .before .before .before .before .before .before .before .before .before .before .before .before .before .before .before .before .before .before
+
 same-length : tie.Need-same-length
-same-length c = c .before .before .before .before .before .before .before .before .before .before .before .before .before .before .before .before .before .before .grow-and-finish .kept .0 ∙ c .before .before .before .before .before .before .before .before .before .before .before .before .before .before .before .before .before .before .before .before .before .before .before .before .before .before .before .before .before .before .before .before .before .before .before .before .before .before .before .before .before .before .before .before .before .before .before .before .before .before .plant-seed .kept .0
+same-length c = after-grow-and-finish c .grow-and-finish .kept .0 ∙ after-plant-seed c .plant-seed .kept .0
 
 same-length-2 : tie.Need-same-length-2
-same-length-2 c = c .before .before .before .before .before .before .before .before .before .before .before .before .before .before .before .before .before .before .grow-and-finish .kept .1 .0 ∙ c .before .before .before .before .before .before .before .before .before .before .before .before .before .before .before .before .before .before .before .before .before .before .before .before .before .before .before .before .before .before .before .before .before .before .before .before .before .before .before .before .before .before .before .before .before .before .before .before .before .before .plant-seed .kept .1 .0
+same-length-2 c = after-grow-and-finish c .grow-and-finish .kept .1 .0 ∙ after-plant-seed c .plant-seed .kept .1 .0
 
 same-length-3 : tie.Need-same-length-3
-same-length-3 c = c .before .before .before .before .before .before .before .before .before .before .before .before .before .before .before .before .before .before .grow-and-finish .kept .1 .1 .0 ∙ c .before .before .before .before .before .before .before .before .before .before .before .before .before .before .before .before .before .before .before .before .before .before .before .before .before .before .before .before .before .before .before .before .before .before .before .before .before .before .before .before .before .before .before .before .before .before .before .before .before .before .plant-seed .kept .1 .1 .0
+same-length-3 c = after-grow-and-finish c .grow-and-finish .kept .1 .1 .0 ∙ after-plant-seed c .plant-seed .kept .1 .1 .0
 
 same-length-4 : tie.Need-same-length-4
-same-length-4 c = c .before .before .before .before .before .before .before .before .before .before .before .before .before .before .before .before .before .before .grow-and-finish .kept .1 .1 .1 .0 ∙ c .before .before .before .before .before .before .before .before .before .before .before .before .before .before .before .before .before .before .before .before .before .before .before .before .before .before .before .before .before .before .before .before .before .before .before .before .before .before .before .before .before .before .before .before .before .before .before .before .before .before .plant-seed .kept .1 .1 .1 .0
+same-length-4 c = after-grow-and-finish c .grow-and-finish .kept .1 .1 .1 .0 ∙ after-plant-seed c .plant-seed .kept .1 .1 .1 .0
 
 same-length-5 : tie.Need-same-length-5
-same-length-5 c = c .before .before .before .before .before .before .before .before .before .before .before .before .before .before .before .before .before .before .grow-and-finish .kept .1 .1 .1 .1 .0 ∙ c .before .before .before .before .before .before .before .before .before .before .before .before .before .before .before .before .before .before .before .before .before .before .before .before .before .before .before .before .before .before .before .before .before .before .before .before .before .before .before .before .before .before .before .before .before .before .before .before .before .before .plant-seed .kept .1 .1 .1 .1 .0
+same-length-5 c = after-grow-and-finish c .grow-and-finish .kept .1 .1 .1 .1 .0 ∙ after-plant-seed c .plant-seed .kept .1 .1 .1 .1 .0
 
 same-length-6 : tie.Need-same-length-6
-same-length-6 c = c .before .before .before .before .before .before .before .before .before .before .before .before .before .before .before .before .before .before .grow-and-finish .kept .1 .1 .1 .1 .1 .0 ∙ c .before .before .before .before .before .before .before .before .before .before .before .before .before .before .before .before .before .before .before .before .before .before .before .before .before .before .before .before .before .before .before .before .before .before .before .before .before .before .before .before .before .before .before .before .before .before .before .before .before .before .plant-seed .kept .1 .1 .1 .1 .1 .0
+same-length-6 c = after-grow-and-finish c .grow-and-finish .kept .1 .1 .1 .1 .1 .0 ∙ after-plant-seed c .plant-seed .kept .1 .1 .1 .1 .1 .0
 
 same-length-7 : tie.Need-same-length-7
-same-length-7 c = c .before .before .before .before .before .before .before .before .before .before .before .before .before .before .before .before .before .before .grow-and-finish .kept .1 .1 .1 .1 .1 .1 .0 ∙ c .before .before .before .before .before .before .before .before .before .before .before .before .before .before .before .before .before .before .before .before .before .before .before .before .before .before .before .before .before .before .before .before .before .before .before .before .before .before .before .before .before .before .before .before .before .before .before .before .before .before .plant-seed .kept .1 .1 .1 .1 .1 .1 .0
+same-length-7 c = after-grow-and-finish c .grow-and-finish .kept .1 .1 .1 .1 .1 .1 .0 ∙ after-plant-seed c .plant-seed .kept .1 .1 .1 .1 .1 .1 .0
 
 same-length-8 : tie.Need-same-length-8
-same-length-8 c = c .before .before .before .before .before .before .before .before .before .before .before .before .before .before .before .before .before .before .grow-and-finish .kept .1 .1 .1 .1 .1 .1 .1 .0 ∙ c .before .before .before .before .before .before .before .before .before .before .before .before .before .before .before .before .before .before .before .before .before .before .before .before .before .before .before .before .before .before .before .before .before .before .before .before .before .before .before .before .before .before .before .before .before .before .before .before .before .before .plant-seed .kept .1 .1 .1 .1 .1 .1 .1 .0
+same-length-8 c = after-grow-and-finish c .grow-and-finish .kept .1 .1 .1 .1 .1 .1 .1 .0 ∙ after-plant-seed c .plant-seed .kept .1 .1 .1 .1 .1 .1 .1 .0
 
 same-length-9 : tie.Need-same-length-9
-same-length-9 c = c .before .before .before .before .before .before .before .before .before .before .before .before .before .before .before .before .before .before .grow-and-finish .kept .1 .1 .1 .1 .1 .1 .1 .1 .0 ∙ c .before .before .before .before .before .before .before .before .before .before .before .before .before .before .before .before .before .before .before .before .before .before .before .before .before .before .before .before .before .before .before .before .before .before .before .before .before .before .before .before .before .before .before .before .before .before .before .before .before .before .plant-seed .kept .1 .1 .1 .1 .1 .1 .1 .1 .0
+same-length-9 c = after-grow-and-finish c .grow-and-finish .kept .1 .1 .1 .1 .1 .1 .1 .1 .0 ∙ after-plant-seed c .plant-seed .kept .1 .1 .1 .1 .1 .1 .1 .1 .0
 
 same-length-10 : tie.Need-same-length-10
-same-length-10 c = c .before .before .before .before .before .before .before .before .before .before .before .before .before .before .before .before .before .before .grow-and-finish .kept .1 .1 .1 .1 .1 .1 .1 .1 .1 .0 ∙ c .before .before .before .before .before .before .before .before .before .before .before .before .before .before .before .before .before .before .before .before .before .before .before .before .before .before .before .before .before .before .before .before .before .before .before .before .before .before .before .before .before .before .before .before .before .before .before .before .before .before .plant-seed .kept .1 .1 .1 .1 .1 .1 .1 .1 .1 .0
+same-length-10 c = after-grow-and-finish c .grow-and-finish .kept .1 .1 .1 .1 .1 .1 .1 .1 .1 .0 ∙ after-plant-seed c .plant-seed .kept .1 .1 .1 .1 .1 .1 .1 .1 .1 .0
 
 same-length-11 : tie.Need-same-length-11
-same-length-11 c = c .before .before .before .before .before .before .before .before .before .before .before .before .before .before .before .before .before .before .grow-and-finish .kept .1 .1 .1 .1 .1 .1 .1 .1 .1 .1 .0 ∙ c .before .before .before .before .before .before .before .before .before .before .before .before .before .before .before .before .before .before .before .before .before .before .before .before .before .before .before .before .before .before .before .before .before .before .before .before .before .before .before .before .before .before .before .before .before .before .before .before .before .before .plant-seed .kept .1 .1 .1 .1 .1 .1 .1 .1 .1 .1 .0
+same-length-11 c = after-grow-and-finish c .grow-and-finish .kept .1 .1 .1 .1 .1 .1 .1 .1 .1 .1 .0 ∙ after-plant-seed c .plant-seed .kept .1 .1 .1 .1 .1 .1 .1 .1 .1 .1 .0
 
 returns : tie.Need-returns
 returns c =
-    let planted = c .before .before .before .before .before .before .before .before .before .before .before .before .before .before .before .before .before .before .before .before .before .before .before .before .before .before .before .before .before .before .before .before .before .before .before .before .before .before .before .before .before .before .before .before .before .before .before .before .before .before in
+    let planted = after-plant-seed c in
     let seeding = planted .plant-seed in
-    let grown = c .before .before .before .before .before .before .before .before .before .before .before .before .before .before .before .before .before .before .grow-and-finish in
+    let grown = after-grow-and-finish c .grow-and-finish in
     let left = c .before .before .before .before .before .before .before .before .before .before .before .before .before .before .before .before .before .before .before .before .before .before .before .before .before .before .before .before .before .before .leaves-left .ensures in
     let given = start planted .args in
     let x = flat (given .props .now) (given .tok .now) (given .res .now) in

@@ -1,5 +1,5 @@
 -- `grow::split_leaf` meets its contract: one split of the code is one step of the model. Assumes nothing.
-use mathlib.Core.Path.{_≡_, ap, subst, _∙_}
+use mathlib.Core.Path.{_≡_, refl, ap, subst, _∙_}
 use Prim.Native.Nat.{_+_}
 use native.Mathlib.Omega.{arith}
 use lib.IntN.{ℤ}
@@ -7,6 +7,7 @@ use lib.Dec.{ltb}
 use mir.Syntax.{w32}
 use mir.Val.{toZ, ofZ}
 use mir.ValLaws.{toZ-ofZ}
+use Rattle.layout.specs.declared.Tree.{Tree}
 use Rattle.layout.specs.Tree.{NodeLists, nodeLists}
 use Rattle.layout.specs.Waiting.{QueueLists, queueLists}
 use Rattle.rows.specs.Cells.{span}
@@ -32,12 +33,11 @@ module _ (start : tie.Start) where
   abbrev queue : QueueLists
   queue = queueLists (start .args .queue-words .now) (start .args .queue-values .now) (start .args .queue-gains .now)
 
-  abbrev held : Growable (start .args .s) (start .args .logs .now) (start .args .counts .now) x lists queue
-      (start .args .waiting) (start .args .count) (start .args .bits) (start .args .left)
+  abbrev held : Growable (start .args .s) (start .args .logs .now) (start .args .counts .now) x lists queue (start .args .tree) (start .args .left)
   held = start .pre .growable
 
-  grows : Grows (start .args .s) (start .args .logs .now) (start .args .counts .now) x lists queue
-      (start .args .waiting) (start .args .count) (start .args .bits) (start .args .left) (held .lent) (held .state) (held .seeds) (held .given)
+  grows : Grows (start .args .s) (start .args .logs .now) (start .args .counts .now) x lists queue (start .args .tree) (start .args .left)
+      (held .lent) (held .state) (held .seeds) (held .given)
   grows = held .grows
 
 -- the rows after the split, with the threshold as it was read
@@ -72,7 +72,7 @@ module _ (c : tie.After-split-rows) where
   abbrev Stored : ℤ → NodeLists
   Stored val =
       let r = c .split-rows .result in
-      splitNodes (p .node) (p .prop) val (begun .args .count) (r .gt .info) (r .le .info) (b .first) (r .at) (b .end) (lists begun)
+      splitNodes (p .node) (p .prop) val (begun .args .tree .nodes) (r .gt .info) (r .le .info) (b .first) (r .at) (b .end) (lists begun)
 
 pending-at-requires : tie.Need-pending-at-requires
 pending-at-requires c κs =
@@ -146,20 +146,23 @@ requeue-requires c κs =
     let few = choosing.few-nodes (grows start) (start .args .k) (start .pre .one-more) (start .pre .some-wait) (start .pre .best) in
     (inside, few, choosing.queue-room (grows start) (start .args .k) (start .pre .one-more) (start .pre .some-wait) (start .pre .best))
 
+add-t41 : tie.Need-add-t41
+add-t41 c =
+    let start = begun (c .before .before .before .before .before .before .before .before .before .before .before .before .before .before .before .before .before .before .before .before .before .before .before .before .before .before .before .before .before .before .before .before) in
+    let few = choosing.few-nodes (grows start) (start .args .k) (start .pre .one-more) (start .pre .some-wait) (start .pre .best) in
+    record { fits = omega (arith, few) }
+
 grown-bits-requires : tie.Need-grown-bits-requires
 grown-bits-requires c κs =
-    let on1 = c .before .before .before .before .before .before .before .before .before .before .before .before .before in
-    let on2 = on1 .before .before .before .before .before .before .before .before .before .before .before .before .before in
-    let rowed = on2 .before .before .before .before .before in
-    let bounded = rowed .before .before .before .before .before .before in
-    let pended = bounded .before .before .before .before in
-    let start = pended .before .before .before .before .before .before .before .before .before .before .before in
+    let rowed = c .before .before .before .before .before .before .before .before .before .before .before .before .before .before .before .before .before .before .before .before .before .before .before .before .before .before .before .before .before .before .before .before in
+    let bounded = rowed .before .before .before .before .before .before .bounds-of in
+    let start = begun rowed in
     coding.growth-fits (grows start) (start .args .k) (start .pre .one-more) (start .pre .some-wait) (start .pre .best)
-    (pended .pending-at .result) (pended .pending-at .ensures)
-    (bounded .bounds-of .result .first) (bounded .bounds-of .result .end) (bounded .bounds-of .ensures .0) (bounded .bounds-of .ensures .1) (cut rowed)
+    (p rowed) (pended rowed .pending-at .ensures)
+    (b rowed .first) (b rowed .end) (bounded .ensures .0) (bounded .ensures .1) (cut rowed)
 
 abbrev after-split-rows : tie.After-grown-bits → tie.After-split-rows
-after-split-rows c = c .before .before .before .before .before .before .before .before .before .before .before .before .before .before .before .before .before .before .before .before .before .before .before .before .before .before .before .before .before .before .before .before
+after-split-rows c = c .before .before .before .before .before .before .before .before .before .before .before .before .before .before .before .before .before .before .before .before .before .before .before .before .before .before .before .before .before .before .before .before .before
 
 same-length : tie.Need-same-length
 same-length c = after-split-rows c .split-rows .kept .0
@@ -171,7 +174,7 @@ same-length-3 : tie.Need-same-length-3
 same-length-3 c = after-split-rows c .split-rows .kept .1 .1 .0
 
 abbrev after-split-nodes : tie.After-grown-bits → tie.After-split-nodes
-after-split-nodes c = c .before .before .before .before .before .before .before .before .before .before .before .before .before .before .before .before .before
+after-split-nodes c = c .before .before .before .before .before .before .before .before .before .before .before .before .before .before .before .before .before .before
 
 same-length-4 : tie.Need-same-length-4
 same-length-4 c = after-split-nodes c .split-nodes .kept .0
@@ -186,7 +189,7 @@ same-length-7 : tie.Need-same-length-7
 same-length-7 c = after-split-nodes c .split-nodes .kept .1 .1 .1 .0
 
 abbrev after-requeue : tie.After-grown-bits → tie.After-requeue
-after-requeue c = c .before .before .before .before .before .before
+after-requeue c = c .before .before .before .before .before .before .before
 
 same-length-8 : tie.Need-same-length-8
 same-length-8 c = after-requeue c .requeue .kept .0
@@ -202,23 +205,22 @@ same-length-11 c = after-split-rows c .split-rows .kept .1 .1 .1 .0
 
 returns : tie.Need-returns
 returns c =
-    let again = c .before .before .before .before .before .before in
-    let nodes = again .before .before .before .before .before .before .before .before .before .before .before in
-    let on1 = nodes .before .before .before .before .before .before .before .before .before .before .before .before .before in
-    let rowed = on1 .before .before in
-    let bounded = rowed .before .before .before .before .before .before in
-    let pended = bounded .before .before .before .before in
-    let start = pended .before .before .before .before .before .before .before .before .before .before .before in
-    let last = nodes .split-nodes .last in
+    let again = after-requeue c .requeue in
+    let nodes = after-split-nodes c .split-nodes in
+    let rowed = after-split-rows c in
+    let bounded = rowed .before .before .before .before .before .before .bounds-of in
+    let start = begun rowed in
+    let last = nodes .last in
     let lists' = nodeLists (last .0) (last .1 .0) (last .1 .1 .0) (last .1 .1 .1 .0) in
-    let q' = queueLists (again .requeue .last .0) (again .requeue .last .1 .0) (again .requeue .last .1 .1 .0) in
-    let stored : lists' ≡ Stored rowed (p rowed .val) = nodes .split-nodes .ensures ∙ ap (Stored rowed) (same-val rowed) in (
+    let q' = queueLists (again .last .0) (again .last .1 .0) (again .last .1 .1 .0) in
+    let tree' : Tree = record { nodes = start .args .tree .nodes + 2; waiting = again .result; bits = c .grown-bits .result } in
+    let stored : lists' ≡ Stored rowed (p rowed .val) = nodes .ensures ∙ ap (Stored rowed) (same-val rowed) in (
       λ lent st seeds rows g.
           coding.grows-on g (start .args .k) (start .pre .one-more) (start .pre .some-wait) (start .pre .best)
-          (pended .pending-at .result) (pended .pending-at .ensures)
-          (bounded .bounds-of .result .first) (bounded .bounds-of .result .end) (bounded .bounds-of .ensures .0) (bounded .bounds-of .ensures .1)
-          {y = y rowed} (cut rowed) {lists' = lists'} {q' = q'} stored
-          (again .requeue .ensures .0) (again .requeue .ensures .1 .0) (again .requeue .ensures .1 .1) (c .grown-bits .ensures),
+          (p rowed) (pended rowed .pending-at .ensures)
+          (b rowed .first) (b rowed .end) (bounded .ensures .0) (bounded .ensures .1)
+          {y = y rowed} (cut rowed) {lists' = lists'} {q' = q'} {tree' = tree'} refl stored
+          (again .ensures .0) (again .ensures .1 .0) (again .ensures .1 .1) (c .grown-bits .ensures),
       rowed .split-rows .ensures .1,
     )
 
@@ -235,6 +237,7 @@ split-leaf-spec =
     split-rows-requires
     split-nodes-requires
     requeue-requires
+    add-t41
     grown-bits-requires
     same-length
     same-length-2

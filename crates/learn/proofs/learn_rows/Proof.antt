@@ -35,8 +35,18 @@ grow-from-root-requires c κs =
     let summed = c .before .before .before .before .before .before .before .before .before .before .before .before .before .flat-bits in
     accepted-plantable (x cleared) (start cleared .pre .accepted) (summed .last .1 .1 .0) (summed .ensures .1 ∙ cleared .clear .ensures)
 
-abbrev after-grow-from-root : tie.After-slice-known16 → tie.After-grow-from-root
-after-grow-from-root c = c .before .before .before .before .before .before .before .before .before .before .before .before .before .before .before .before .before .before
+answer-requires : tie.Need-answer-requires
+answer-requires c κs = c .before .before .before .before .before .before .before .before .before .before .before .before .before .before .before .before .before .before .grow-from-root .ensures .0 .few
+
+-- ---- from the end back to each call
+abbrev after-grow-from-root : tie.After-answer → tie.After-grow-from-root
+after-grow-from-root c = c .before .before .before .before .before .before .before .before .before .before .before .before .before .before .before .before .before .before .before
+
+abbrev after-flat-bits : tie.After-answer → tie.After-flat-bits
+after-flat-bits c = c .before .before .before .before .before .before .before .before .before .before .before .before .before .before .before .before .before .before .before .before .before .before .before .before .before .before .before .before .before .before .before .before .before
+
+abbrev after-clear : tie.After-answer → tie.After-clear
+after-clear c = c .before .before .before .before .before .before .before .before .before .before .before .before .before .before .before .before .before .before .before .before .before .before .before .before .before .before .before .before .before .before .before .before .before .before .before .before .before .before .before
 
 same-length : tie.Need-same-length
 same-length c = after-grow-from-root c .grow-from-root .kept .0
@@ -69,18 +79,18 @@ same-length-10 : tie.Need-same-length-10
 same-length-10 c = after-grow-from-root c .grow-from-root .kept .1 .1 .1 .1 .1 .1 .1 .1 .1 .0
 
 same-length-11 : tie.Need-same-length-11
-same-length-11 c = c .before .before .before .before .before .before .before .before .before .before .before .before .before .before .before .before .before .before .grow-from-root .kept .1 .1 .1 .1 .1 .1 .1 .1 .1 .1 .0 ∙ c .before .before .before .before .before .before .before .before .before .before .before .before .before .before .before .before .before .before .before .before .before .before .before .before .before .before .before .before .before .before .before .before .flat-bits .kept .1 .1 .0 ∙ c .before .before .before .before .before .before .before .before .before .before .before .before .before .before .before .before .before .before .before .before .before .before .before .before .before .before .before .before .before .before .before .before .before .before .before .before .before .before .clear .kept .0
+same-length-11 c = after-grow-from-root c .grow-from-root .kept .1 .1 .1 .1 .1 .1 .1 .1 .1 .1 .0 ∙ after-flat-bits c .flat-bits .kept .1 .1 .0 ∙ after-clear c .clear .kept .0
 
 returns : tie.Need-returns
 unfolding learned finished resultOf
 returns c =
-    let cleared = c .before .before .before .before .before .before .before .before .before .before .before .before .before .before .before .before .before .before .before .before .before .before .before .before .before .before .before .before .before .before .before .before .before .before .before .before .before .before in
-    let summed = c .before .before .before .before .before .before .before .before .before .before .before .before .before .before .before .before .before .before .before .before .before .before .before .before .before .before .before .before .before .before .before .before .flat-bits in
+    let cleared = after-clear c in
+    let summed = after-flat-bits c .flat-bits in
     let grown = after-grow-from-root c .grow-from-root in
     let given = start cleared .args in
     let made = resultIn (given .s) (given .logs .now) (x cleared .rows) in
     let f = grown .ensures .0 in (
-      made-answer (grown .result .nodes) (grown .result .leaves) (grown .result .bits) (summed .result) made (f .counted) (f .leaves) (f .summed) (summed .ensures .0 (given .res .now)),
+      made-answer f (summed .ensures .0 (given .res .now)) (c .answer .ensures),
       made-lists (x cleared) made (flat (grown .last .0) (grown .last .1 .0) (grown .last .1 .1 .0))
           (nodeLists (grown .last .1 .1 .1 .0) (grown .last .1 .1 .1 .1 .0) (grown .last .1 .1 .1 .1 .1 .0) (grown .last .1 .1 .1 .1 .1 .1 .0))
           (queueLists (grown .last .1 .1 .1 .1 .1 .1 .1 .0) (grown .last .1 .1 .1 .1 .1 .1 .1 .1 .0) (grown .last .1 .1 .1 .1 .1 .1 .1 .1 .1 .0)) (grown .last .1 .1 .1 .1 .1 .1 .1 .1 .1 .1 .0) (grown .result)
@@ -95,6 +105,7 @@ learn-rows-spec =
     clear-requires
     flat-bits-requires
     grow-from-root-requires
+    answer-requires
     same-length
     same-length-2
     same-length-3

@@ -1,5 +1,6 @@
 -- `plant::plant_leaf` meets its contract: what the leaf came to is written, waits if it offers a split, and its cost is added. Assumes nothing.
 use mathlib.Core.Path.{refl}
+use native.Mathlib.Omega.{arith}
 use Rattle.plant.proofs.Planting.{made-widens, offer-room}
 use borrow.Author.Needs.{needs}
 use Rattle.plant.proofs.plant_leaf.Statement.{statement}
@@ -31,14 +32,17 @@ float-to-float-bits c =
     let made = making (putting (c .before .before .before .before .before .before)) in
     made-widens (made .make-leaf .ensures .0) (entry made .pre .fitting) (entry made .pre .spanned)
 
-abbrev after-make-leaf : tie.After-struct-known2 → tie.After-make-leaf
-after-make-leaf c = c .before .before .before .before .before .before .before .before .before .before .before .before .before .before .before .before .before .before .before .before .before .before .before .before .before .before .before .before
+abbrev after-make-leaf : tie.After-struct-known3 → tie.After-make-leaf
+after-make-leaf c = c .before .before .before .before .before .before .before .before .before .before .before .before .before .before .before .before .before .before .before .before .before .before .before .before .before .before .before .before .before
+
+add-t44 : tie.Need-add-t44
+add-t44 c = record { fits = omega (arith, entry (after-make-leaf c) .pre .few) }
 
 same-length : tie.Need-same-length
 same-length c = after-make-leaf c .make-leaf .kept .1 .0
 
-abbrev after-put-leaf : tie.After-struct-known2 → tie.After-put-leaf
-after-put-leaf c = c .before .before .before .before .before .before .before .before .before .before .before .before .before .before .before .before .before .before
+abbrev after-put-leaf : tie.After-struct-known3 → tie.After-put-leaf
+after-put-leaf c = c .before .before .before .before .before .before .before .before .before .before .before .before .before .before .before .before .before .before .before
 
 same-length-2 : tie.Need-same-length-2
 same-length-2 c = after-put-leaf c .put-leaf .kept .0
@@ -52,8 +56,8 @@ same-length-4 c = after-put-leaf c .put-leaf .kept .1 .1 .0
 same-length-5 : tie.Need-same-length-5
 same-length-5 c = after-put-leaf c .put-leaf .kept .1 .1 .1 .0
 
-abbrev after-enqueue : tie.After-struct-known2 → tie.After-enqueue
-after-enqueue c = c .before .before .before .before .before .before .before
+abbrev after-enqueue : tie.After-struct-known3 → tie.After-enqueue
+after-enqueue c = c .before .before .before .before .before .before .before .before
 
 same-length-6 : tie.Need-same-length-6
 same-length-6 c = after-enqueue c .enqueue .kept .0
@@ -69,14 +73,14 @@ same-length-9 c = after-make-leaf c .make-leaf .kept .1 .1 .1 .1 .1 .1 .1 .1 .1 
 
 returns : tie.Need-returns
 returns c =
-    let queued = c .before .before .before .before .before .before .before in
-    let made = making (putting queued) .make-leaf in
-    let learnt = queued .enqueue .ensures in
+    let made = after-make-leaf c .make-leaf in
+    let learnt = after-enqueue c .enqueue .ensures in
     record {
       leaf = made .result;
       made = made .ensures .0;
-      nodes = putting queued .put-leaf .ensures;
+      nodes = after-put-leaf c .put-leaf .ensures;
       queued = learnt .0;
+      counted = refl;
       many = learnt .1 .0;
       queue = learnt .1 .1;
       summed = refl;
@@ -91,6 +95,7 @@ plant-leaf-spec =
     put-leaf-requires
     enqueue-requires
     float-to-float-bits
+    add-t44
     same-length
     same-length-2
     same-length-3

@@ -62,6 +62,9 @@ slice-read-if1 c = search needs
 keep-node-requires : tie.Need-keep-node-requires
 keep-node-requires c κs = search needs
 
+add-t39 : tie.Need-add-t39
+add-t39 c = search needs
+
 abbrev after-keep-node : tie.After-slice-known13 → tie.After-keep-node
 after-keep-node c = c .before .before .before .before .before .before .before
 
@@ -81,14 +84,14 @@ returns : tie.Need-returns
 returns c =
     let done = c .before .before .before .before .before .before .before in
     let start = empty (kept done) .args in
-    kept-planted (start .i) (start .depth) (kept done .if1 .taken) (done .keep-node .ensures)
+    kept-planted (start .depth) (kept done .if1 .taken) (done .keep-node .ensures)
 
 plant-leaf-requires : tie.Need-plant-leaf-requires
 plant-leaf-requires c κs =
     let other = c .before .before .before .before .before .before .before .before .before in
     let start = busy other in
     let words = start .args .words .now in
-    let i = start .args .i in
+    let i = start .args .tree .nodes in
     let first = getD (start .args .spans .now) (i * 2) 0 in
     let end = getD (start .args .spans .now) (i * 2 + 1) 0 in
     let tests = neither (eqb (kindAt words i) 1) (eqb first end) .0 (other .if1 .left) in
@@ -153,6 +156,7 @@ plant-node-spec =
     mul-if1-2
     slice-read-if1
     keep-node-requires
+    add-t39
     same-length
     same-length-2
     same-length-3

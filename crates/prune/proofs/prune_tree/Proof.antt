@@ -1,5 +1,5 @@
 -- `prune::prune_tree` meets its contract: the three passes are the model's pruning. Assumes nothing.
-use mathlib.Core.Path.{_∙_}
+use mathlib.Core.Path.{refl, _∙_}
 use native.Mathlib.Omega.{arith}
 use Rattle.prune.proofs.Bridge.{shows-tree, all-priceable, shows-nodes, walkable, found-is, movable, moved-lists}
 use borrow.Author.Needs.{needs}
@@ -72,7 +72,7 @@ returns c tree lent h =
     let move-nodes = later .move-nodes in
     let priced = price-nodes .ensures tree (shows-tree h) in
     let done = order-nodes .ensures _ (shows-nodes h priced) in
-    record { lists = move-nodes .ensures ∙ moved-lists h priced done; nodes = found-is h priced done; bits = priced .bits-are }
+    record { lists = move-nodes .ensures ∙ moved-lists h priced done; nodes = found-is h priced done; none-wait = refl; bits = priced .bits-are }
 
 pub prune-tree-spec : {M : Type 1} → statement M
 prune-tree-spec =
