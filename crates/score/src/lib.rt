@@ -195,7 +195,7 @@ fn score_in(
         cands,
         logs,
     );
-    cost::clear(room);
+    lists::clear_u32(room);
     score
 }
 

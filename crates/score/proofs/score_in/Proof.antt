@@ -50,8 +50,8 @@ score-split-plan-requires c κs = let s = c .before .before .before .before .bef
     let extras = c .before .before .before .set-extras in
     ready _ _ _ _ _ _ _ _ _ _ (s .pre .0) _ _ (s .pre .1 .0) _ (s .pre .1 .1 .0) _ (s .pre .1 .1 .1) _ (c .before .before .before .before .before .before .before .before .before .before .before .scan-split-plan .ensures) _ (c .before .before .before .before .before .before .before .accumulate .ensures) _ (omega (arith, s .pre .0 .few-preds, extras .kept)) (extras .ensures)
 
-clear-requires : tie.Need-clear-requires
-clear-requires c κs = search needs
+clear-u32-requires : tie.Need-clear-u32-requires
+clear-u32-requires c κs = search needs
 
 same-length : tie.Need-same-length
 same-length c = search needs
@@ -62,7 +62,7 @@ returns c = let s = c .before .before .before .before .before .before .before .b
     let left = c .before .before .before .before .before .before .before .before .before .before .before .before .accumulate .ensures in
     let score = c .before .before .before .before .score-split-plan in (
       scored _ _ _ _ _ _ _ _ _ _ (s .pre .0) _ _ (s .pre .1 .0) _ (s .pre .1 .1 .0) _ (s .pre .1 .1 .1) _ counted _ left (scoreIs (score .result)) (score .ensures),
-      cleared _ _ _ _ _ _ _ _ _ _ (s .pre .0) _ _ (s .pre .1 .0) _ (s .pre .1 .1 .0) _ (s .pre .1 .1 .1) _ counted _ left _ (c .before .before .clear .ensures),
+      cleared _ _ _ _ _ _ _ _ _ _ (s .pre .0) _ _ (s .pre .1 .0) _ (s .pre .1 .1 .0) _ (s .pre .1 .1 .1) _ counted _ left _ (c .before .before .clear-u32 .ensures),
     )
 
 pub score-in-spec : {M : Type 1} → statement M
@@ -78,6 +78,6 @@ score-in-spec =
     slice-aggregate-score-split-plan
     cast-score-split-plan
     score-split-plan-requires
-    clear-requires
+    clear-u32-requires
     same-length
     returns)
