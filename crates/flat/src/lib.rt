@@ -115,6 +115,6 @@ pub fn flat_cost(
     let mut sizes = [0u32; 4];
     count_groups(props, tok, rows, alphabet, hist, &mut sizes);
     let total = groups_cost(hist, &sizes, alphabet, weighted, allowed, logs);
-    cost::clear(hist);
+    lists::clear_u32(hist);
     total
 }
