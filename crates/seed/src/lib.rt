@@ -53,7 +53,7 @@ pub fn order_by_leaf(
     tree::leaf_numbers(words, values, count as u32, props, &mut counts[..rows]);
     order::order_by_number(props, tok, res, &mut counts[..space], count);
     pair_spans(&counts[rows..space], spans, count);
-    order::clear(&mut counts[rows..space]);
+    lists::clear_u32(&mut counts[rows..space]);
 }
 
 // ---- the nodes

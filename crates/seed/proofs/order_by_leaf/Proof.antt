@@ -82,20 +82,20 @@ pair-spans-requires c κs =
       room = pre .spans-there;
     }
 
-mul-clear : tie.Need-mul-clear
-mul-clear c = search needs
+mul-clear-u32 : tie.Need-mul-clear-u32
+mul-clear-u32 c = search needs
 
-sub-clear : tie.Need-sub-clear
-sub-clear c = search needs
+sub-clear-u32 : tie.Need-sub-clear-u32
+sub-clear-u32 c = search needs
 
-part-clear-start : tie.Need-part-clear-start
-part-clear-start c = search needs
+part-clear-u32-start : tie.Need-part-clear-u32-start
+part-clear-u32-start c = search needs
 
-part-clear-end : tie.Need-part-clear-end
-part-clear-end c = search needs
+part-clear-u32-end : tie.Need-part-clear-u32-end
+part-clear-u32-end c = search needs
 
-clear-requires : tie.Need-clear-requires
-clear-requires c κs = search needs
+clear-u32-requires : tie.Need-clear-u32-requires
+clear-u32-requires c κs = search needs
 
 abbrev after-order-by-number : tie.After-slice-known8 → tie.After-order-by-number
 after-order-by-number c = c .before .before .before .before .before .before .before .before .before .before .before .before .before .before .before .before
@@ -133,8 +133,8 @@ returns c =
         spans-are = spans-of pre (numbers read) long is (rows done) (space done) (kept .1 .1 .1 .0) ordered
             (c .before .before .before .before .before .before .pair-spans .ensures);
       },
-      space-clear pre (numbers read) long is (rows done) (space done) (kept .1 .1 .1 .0) ordered (c .before .before .clear .last .0)
-          (c .before .before .clear .ensures),
+      space-clear pre (numbers read) long is (rows done) (space done) (kept .1 .1 .1 .0) ordered (c .before .before .clear-u32 .last .0)
+          (c .before .before .clear-u32 .ensures),
     )
 
 pub order-by-leaf-spec : {M : Type 1} → statement M
@@ -155,11 +155,11 @@ order-by-leaf-spec =
     part-pair-spans-start
     part-pair-spans-end
     pair-spans-requires
-    mul-clear
-    sub-clear
-    part-clear-start
-    part-clear-end
-    clear-requires
+    mul-clear-u32
+    sub-clear-u32
+    part-clear-u32-start
+    part-clear-u32-end
+    clear-u32-requires
     same-length
     same-length-2
     same-length-3
