@@ -1,6 +1,5 @@
 // Even sampling (document 01, "Even sampling"; the Rust's `evenly_sampled_indices`).
 ghost use mathlib.Core.Path.{_≡_};
-ghost use Prim.Native.Nat.{min};
 ghost use Rattle.model.specs.Lists.{writtenOver};
 ghost use Rattle.model.specs.Sampling.{evenSample};
 ghost use Rattle.model.specs.Operations.{sample};
@@ -12,12 +11,6 @@ const MAX_ROWS: usize = 65536;
 pub enum Sampled {
     Picked(u32),
     Refused { number: u32, place: u32 },
-}
-
-fn smaller(a: usize, b: usize) -> usize
-    ensures { λ r. ⌜ r ≡ min a b ⌝ }
-{
-    if a < b { a } else { b }
 }
 
 // Row numbers spread evenly. The product stays below 2^32 (65,535 * 65,536) and is formed in 64 bits, as sizes are; where none is picked nothing is divided.
@@ -40,7 +33,7 @@ pub fn evenly_sampled_indices(rows: usize, target: usize, out: &mut [u32]) -> Sa
             place: 0,
         };
     }
-    let picked = smaller(rows, target);
+    let picked = lists::smaller(rows, target);
     if out.len() < picked {
         return Sampled::Refused {
             number: 7,
