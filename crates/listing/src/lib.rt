@@ -3,7 +3,6 @@ mod put;
 mod signed;
 
 ghost use mathlib.Core.Path.{_≡_};
-ghost use Prim.Native.Nat.{min};
 ghost use lib.ListN.{length};
 ghost use Rattle.listing.specs.Text.{over, Counts};
 ghost use Rattle.listing.specs.Listing.{partOf, partText, headerIn, restIn};
@@ -16,12 +15,6 @@ use signed::residual_at;
 pub struct Listed {
     pub taken: usize,
     pub written: usize,
-}
-
-fn smaller(a: usize, b: usize) -> usize
-    ensures { λ r. ⌜ r ≡ min a b ⌝ }
-{
-    if a < b { a } else { b }
 }
 
 // Writes the header at the front of out, if there is room, and answers its length, or 0.
@@ -43,7 +36,7 @@ pub fn list_part(input: &[u8], out: &mut [u8]) -> Listed
     ensures { λ _. ⌜ now (out .exit) ≡ over (now (out .entry)) 0 (partText (now (input .entry)) (length (now (out .entry)))) ⌝ }
     ensures { λ r. ⌜ Counts (r .written) (now (out .exit)) ⌝ }
 {
-    let taken = smaller(input.len() / 4, out.len() / 40);
+    let taken = lists::smaller(input.len() / 4, out.len() / 40);
     let mut at: usize = 0;
     for i in 0..taken {
         at = line(out, at, residual_at(input, 4 * i));
