@@ -2,9 +2,8 @@
 // Rust's rebase_zero.
 ghost use mathlib.Core.Path.{_≡_};
 ghost use mathlib.Core.Bool.{true, cond};
-ghost use mathlib.Core.List.{_++_};
 ghost use Prim.Native.Nat.{suc, _*_, _≤_, _<_};
-ghost use lib.ListN.{length, getD, drop, replicate};
+ghost use lib.ListN.{length, getD};
 ghost use lib.Seq.{slice};
 ghost use lib.IntN.{pos};
 ghost use lib.Signed.{ltZ};
@@ -93,16 +92,6 @@ fn first_best(counts: &[u32], n: usize) -> usize
     best
 }
 
-// Sets the first n counts to 0.
-fn clear(counts: &mut [u32], n: usize)
-    requires { ⌜ n ≤ length (now counts) ⌝ }
-    ensures { λ _. ⌜ now (counts .exit) ≡ replicate n 0 ++ drop n (now (counts .entry)) ⌝ }
-{
-    for i in 0..n {
-        counts[i] = 0;
-    }
-}
-
 // The commonest residual of a span, the smallest at a tie. Only the counts in use are cleared, so
 // that a small span stays cheap.
 fn commonest(
@@ -121,7 +110,7 @@ fn commonest(
 {
     tally(res, first, end, low, counts);
     let best = first_best(counts, width);
-    clear(counts, width);
+    lists::clear_first_u32(counts, width);
     low + best as i32
 }
 

@@ -29,8 +29,8 @@ tally-requires c κs =
 first-best-requires : tie.Need-first-best-requires
 first-best-requires c κs = search needs
 
-clear-requires : tie.Need-clear-requires
-clear-requires c κs = search needs
+clear-first-u32-requires : tie.Need-clear-first-u32-requires
+clear-first-u32-requires c κs = search needs
 
 module _ (c : tie.After-first-best) where
   abbrev start : tie.Start
@@ -80,7 +80,7 @@ returns c =
     let clear = start there .pre .1 .1 in (
       rw (toZ-ofZ w32 (low there) (start there .fits .low), toZ-pos w32 (best there) (small there), toZ-ofZ w32 (low there +ℤ pos (best there)) (sum there))
           (ap (λ (n : ℕ). low there +ℤ pos n) (best-is there) ∙ oftenest-counted (low there) width (values there) counts (narrow .near) (narrow .narrow) clear),
-      c .before .before .clear .ensures
+      c .before .before .clear-first-u32 .ensures
           ∙ ap (λ (l : List ℕ). replicate width 0 ++ drop width l) (counted there)
           ∙ cleared (low there) width (values there) counts (narrow .near) (narrow .narrow) clear,
     )
@@ -88,4 +88,4 @@ returns c =
 pub commonest-spec : {M : Type 1} → statement M
 commonest-spec =
     tie.close
-    (tie.spec tally-requires first-best-requires clear-requires cast-result add-result same-length returns)
+    (tie.spec tally-requires first-best-requires clear-first-u32-requires cast-result add-result same-length returns)
