@@ -2,7 +2,7 @@
 ghost use mathlib.Core.Path.{_≡_};
 ghost use mathlib.Core.Bool.{false, not};
 ghost use mathlib.Core.Option.{none};
-ghost use Prim.Native.Nat.{_/_, _<_, max};
+ghost use Prim.Native.Nat.{_/_, _<_};
 ghost use lib.ListN.{length};
 ghost use lib.IntN.{pos};
 ghost use lib.Ieee.{fin};
@@ -169,21 +169,15 @@ pub fn logs_fit(logs: &[f32], rows: usize) -> bool
 
 // ---- 7: the rooms
 
-fn larger(a: usize, b: usize) -> usize
-    ensures { λ r. ⌜ r ≡ max a b ⌝ }
-{
-    if a < b { b } else { a }
-}
-
 // How many numbers of count space a job asks for.
 pub fn counts_wanted(s: Settings) -> usize
     requires { ⌜ InRange single (settingsOf s) ⌝ }
     ensures { λ r. ⌜ r ≡ countsWanted (settingsOf s) ⌝ }
 {
     let a = s.alphabet as usize;
-    let sides = larger(s.side_preds as usize, 1);
+    let sides = lists::larger(s.side_preds as usize, 1);
     let scored = 14 * a + sides * a * (s.max_candidates as usize + 2);
-    4096 + larger(56 * a, scored)
+    4096 + lists::larger(56 * a, scored)
 }
 
 pub fn rooms_fit(s: Settings, rooms: Rooms) -> bool
