@@ -1,6 +1,6 @@
 // The lent lists of learning and deepening as one value (specs/), how many entries of nodes and queue they make, and what both answer.
 ghost use mathlib.Core.Path.{_≡_};
-ghost use Prim.Native.Nat.{_/_, _≤_, min};
+ghost use Prim.Native.Nat.{_/_, _≤_};
 ghost use Rattle.model.specs.Settings.{maxNodes};
 ghost use Rattle.model.specs.Operations.{accepted};
 ghost use Rattle.lent.specs.Lists.{nodesLent, leavesLent};
@@ -27,26 +27,20 @@ const NODE_VALUES: usize = 2;
 
 const LEAF_WORDS: usize = 3;
 
-fn smaller(a: usize, b: usize) -> usize
-    ensures { λ r. ⌜ r ≡ min a b ⌝ }
-{
-    if a < b { a } else { b }
-}
-
 // How many nodes have all their words, values and costs.
 pub fn node_room(words: &[u32], values: &[i32], costs: &[f32]) -> usize
     ensures { λ r. ⌜ r ≡ nodesLent (now (words .entry)) (now (values .entry)) (now (costs .entry)) ⌝ }
 {
-    let held = smaller(words.len() / NODE_WORDS, values.len() / NODE_VALUES);
-    smaller(held, costs.len())
+    let held = lists::smaller(words.len() / NODE_WORDS, values.len() / NODE_VALUES);
+    lists::smaller(held, costs.len())
 }
 
 // How many waiting leaves have all their words, a threshold and a gain.
 pub fn queue_room(words: &[u32], values: &[i32], gains: &[f32]) -> usize
     ensures { λ r. ⌜ r ≡ leavesLent (now (words .entry)) (now (values .entry)) (now (gains .entry)) ⌝ }
 {
-    let held = smaller(words.len() / LEAF_WORDS, values.len());
-    smaller(held, gains.len())
+    let held = lists::smaller(words.len() / LEAF_WORDS, values.len());
+    lists::smaller(held, gains.len())
 }
 
 // The answer for a finished tree. Each split has two children, so there is one leaf more than splits.
