@@ -1,5 +1,5 @@
 -- Entries gathered into a list one after the other, and copied back with blanks behind them. Assumes nothing.
-use mathlib.Core.Path.{_≡_, refl, sym, ap, _∙_}
+use mathlib.Core.Path.{_≡_, refl, ap, _∙_}
 use Prim.Native.Nat.{ℕ, zero, suc, _+_, _-_, _*_, _≤_, _<_}
 use native.Mathlib.Nat.{zero-add, zero-mul, mul-one}
 use native.Mathlib.Numerals.{add-one}
@@ -7,7 +7,7 @@ use native.Mathlib.Omega.{arith}
 use mathlib.Core.Bool.{Bool, true, false}
 use mathlib.Core.List.{List, [], _∷_, _++_}
 use lib.ListN.{length, getD, set, take, drop, replicate}
-use lib.Seq.{paste, paste-suc, take-at, drop-drop, take-append-add, drop-append-add, take-all}
+use lib.Seq.{paste, take-at, drop-drop, take-append-add, drop-append-add, take-all}
 use Rattle.model.specs.Lists.{range}
 use Rattle.model.proofs.Places.{length-range, range-more}
 use Rattle.layout.specs.Tree.{laid}
@@ -17,12 +17,6 @@ use Rattle.moves.specs.Moves.{wordsFrom, wordCells, gathered, compacted}
 module _ {A : Type 0} where
   pub one-store : (l : List A) (q : ℕ) (a : A) → q < length l → set l q a ≡ paste l (q * 1) (a ∷ []) 1
   one-store l q a h = rw mul-one (set-paste l q a h)
-
-  -- one number more is copied
-  pub copy-more : (z : A) (s d now : List A) (k : ℕ) → k < length d → k < length s → now ≡ paste d 0 s k → set now k (getD s k z) ≡ paste d 0 s (k + 1)
-  copy-more z s d now k hd hs e = let h : 0 + k < length d = omega arith in
-      ap (λ (l : List A). set l k (getD s k z)) e ∙ ap (λ (j : ℕ). set (paste d 0 s k) j (getD s k z)) (sym (zero-add k)) ∙ paste-suc d 0 s k z h hs
-      ∙ ap (paste d 0 s) (sym (add-one k))
 
   drop-blank : (k n : ℕ) (b : A) → drop k (replicate n b) ≡ replicate (n - k) b
   drop-blank zero n b = let e : n - 0 ≡ n = omega arith in rw e

@@ -153,34 +153,6 @@ fn gather_spans(spans: &[u32], order: &[u32], n: usize, count: usize, moved: &mu
     }
 }
 
-// The first n numbers of one list over those of another.
-fn copy_words(from: &[u32], n: usize, to: &mut [u32])
-    requires { ⌜ (n ≤ length (now from)) × (n ≤ length (now to)) ⌝ }
-    ensures { λ _. ⌜ now (to .exit) ≡ paste (now (to .entry)) 0 (now (from .entry)) n ⌝ }
-{
-    for k in 0..n {
-        to[k] = from[k];
-    }
-}
-
-fn copy_values(from: &[i32], n: usize, to: &mut [i32])
-    requires { ⌜ (n ≤ length (now from)) × (n ≤ length (now to)) ⌝ }
-    ensures { λ _. ⌜ now (to .exit) ≡ paste (now (to .entry)) 0 (now (from .entry)) n ⌝ }
-{
-    for k in 0..n {
-        to[k] = from[k];
-    }
-}
-
-fn copy_costs(from: &[f32], n: usize, to: &mut [f32])
-    requires { ⌜ (n ≤ length (now from)) × (n ≤ length (now to)) ⌝ }
-    ensures { λ _. ⌜ now (to .exit) ≡ paste (now (to .entry)) 0 (now (from .entry)) n ⌝ }
-{
-    for k in 0..n {
-        to[k] = from[k];
-    }
-}
-
 // Each list goes by way of a list of zeros, which leaves the entries that are vacated blank.
 fn move_words(
     words: &mut [u32],
@@ -197,7 +169,7 @@ fn move_words(
 {
     let mut moved = [0u32; MAX_WORDS];
     gather_words(words, splits, order, places, n, count, &mut moved);
-    copy_words(&moved, count * NODE_WORDS, words);
+    lists::copy_u32(&moved, count * NODE_WORDS, words);
 }
 
 fn move_values(values: &mut [i32], splits: &[bool], order: &[u32], n: usize, count: usize)
@@ -208,7 +180,7 @@ fn move_values(values: &mut [i32], splits: &[bool], order: &[u32], n: usize, cou
 {
     let mut moved = [0i32; MAX_VALUES];
     gather_values(values, splits, order, n, count, &mut moved);
-    copy_values(&moved, count * NODE_VALUES, values);
+    lists::copy_i32(&moved, count * NODE_VALUES, values);
 }
 
 fn move_costs(costs: &mut [f32], order: &[u32], n: usize, count: usize)
@@ -218,7 +190,7 @@ fn move_costs(costs: &mut [f32], order: &[u32], n: usize, count: usize)
 {
     let mut moved = [0.0f32; MAX_NODES];
     gather_costs(costs, order, n, count, &mut moved);
-    copy_costs(&moved, count, costs);
+    lists::copy_f32(&moved, count, costs);
 }
 
 fn move_spans(spans: &mut [u32], order: &[u32], n: usize, count: usize)
@@ -228,7 +200,7 @@ fn move_spans(spans: &mut [u32], order: &[u32], n: usize, count: usize)
 {
     let mut moved = [0u32; MAX_VALUES];
     gather_spans(spans, order, n, count, &mut moved);
-    copy_words(&moved, count * SPAN_ROWS, spans);
+    lists::copy_u32(&moved, count * SPAN_ROWS, spans);
 }
 
 // Records and spans go with the nodes.

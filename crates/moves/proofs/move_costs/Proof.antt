@@ -23,11 +23,11 @@ slice-aggregate-gather-costs c = search needs
 gather-costs-requires : tie.Need-gather-costs-requires
 gather-costs-requires c κs = search needs
 
-slice-aggregate-copy-costs : tie.Need-slice-aggregate-copy-costs
-slice-aggregate-copy-costs c = search needs
+slice-aggregate-copy-f32 : tie.Need-slice-aggregate-copy-f32
+slice-aggregate-copy-f32 c = search needs
 
-copy-costs-requires : tie.Need-copy-costs-requires
-copy-costs-requires c κs = search needs
+copy-f32-requires : tie.Need-copy-f32-requires
+copy-f32-requires c κs = search needs
 
 same-length : tie.Need-same-length
 same-length c = search needs
@@ -37,11 +37,11 @@ returns c =
     let start = c .before .before .before .before .before .before .before .before .before .before .before in
     let args = c .before .before .before .before .before .before .before .before .before .before .before .args in
     let gather-costs = c .before .before .before .before .before .before .gather-costs in
-    let copy-costs = c .before .before .copy-costs in
+    let copy-f32 = c .before .before .copy-f32 in
     let one : args .count ≡ args .count * 1 = omega arith in
     let few = start .pre .0 .few in
     let most = start .pre .0 .most in
-    copy-costs .ensures ∙ ap (λ (m : List Float). paste (args .costs .now) 0 m (args .count)) (gather-costs .ensures)
+    copy-f32 .ensures ∙ ap (λ (m : List Float). paste (args .costs .now) 0 m (args .count)) (gather-costs .ensures)
     ∙ (ap (λ (k : ℕ). paste (args .costs .now) 0
     (gathered 1 (costCells (args .costs .now) (args .order .now)) (args .n) (replicate 8191 (ofBits binary32 0))) k) one
     ∙ compacts 1 (costCells (args .costs .now) (args .order .now)) (λ q. refl) (ofBits binary32 0) (args .n) (args .count) 8191 (args .costs .now) few
@@ -54,7 +54,7 @@ move-costs-spec =
     (tie.spec
     slice-aggregate-gather-costs
     gather-costs-requires
-    slice-aggregate-copy-costs
-    copy-costs-requires
+    slice-aggregate-copy-f32
+    copy-f32-requires
     same-length
     returns)

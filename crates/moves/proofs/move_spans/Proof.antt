@@ -18,14 +18,14 @@ gather-spans-requires c κs =
     let start = c .before .before .before .before in
     (start .pre .0, (start .pre .1, omega (arith, start .pre .0 .few, start .pre .0 .most)))
 
-slice-aggregate-copy-words : tie.Need-slice-aggregate-copy-words
-slice-aggregate-copy-words c = search needs
+slice-aggregate-copy-u32 : tie.Need-slice-aggregate-copy-u32
+slice-aggregate-copy-u32 c = search needs
 
-mul-copy-words : tie.Need-mul-copy-words
-mul-copy-words c = search needs
+mul-copy-u32 : tie.Need-mul-copy-u32
+mul-copy-u32 c = search needs
 
-copy-words-requires : tie.Need-copy-words-requires
-copy-words-requires c κs = search needs
+copy-u32-requires : tie.Need-copy-u32-requires
+copy-u32-requires c κs = search needs
 
 same-length : tie.Need-same-length
 same-length c = search needs
@@ -35,10 +35,10 @@ returns c =
     let start = c .before .before .before .before .before .before .before .before .before .before .before in
     let args = c .before .before .before .before .before .before .before .before .before .before .before .args in
     let gather-spans = c .before .before .before .before .before .before .gather-spans in
-    let copy-words = c .before .before .copy-words in
+    let copy-u32 = c .before .before .copy-u32 in
     let few = start .pre .0 .few in
     let most = start .pre .0 .most in
-    copy-words .ensures ∙ ap (λ (m : List ℕ). paste (args .spans .now) 0 m (args .count * 2)) (gather-spans .ensures)
+    copy-u32 .ensures ∙ ap (λ (m : List ℕ). paste (args .spans .now) 0 m (args .count * 2)) (gather-spans .ensures)
     ∙ compacts 2 (spanCells (args .spans .now) (args .order .now)) (λ q. refl) 0 (args .n) (args .count) 16382 (args .spans .now) few (omega arith)
 
 pub move-spans-spec : {M : Type 1} → statement M
@@ -47,8 +47,8 @@ move-spans-spec =
     (tie.spec
     slice-aggregate-gather-spans
     gather-spans-requires
-    slice-aggregate-copy-words
-    mul-copy-words
-    copy-words-requires
+    slice-aggregate-copy-u32
+    mul-copy-u32
+    copy-u32-requires
     same-length
     returns)

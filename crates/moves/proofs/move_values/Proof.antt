@@ -19,14 +19,14 @@ gather-values-requires c κs =
     let start = c .before .before .before .before in
     (start .pre .0, (start .pre .1 .0, start .pre .1 .1, omega (arith, start .pre .0 .few, start .pre .0 .most)))
 
-slice-aggregate-copy-values : tie.Need-slice-aggregate-copy-values
-slice-aggregate-copy-values c = search needs
+slice-aggregate-copy-i32 : tie.Need-slice-aggregate-copy-i32
+slice-aggregate-copy-i32 c = search needs
 
-mul-copy-values : tie.Need-mul-copy-values
-mul-copy-values c = search needs
+mul-copy-i32 : tie.Need-mul-copy-i32
+mul-copy-i32 c = search needs
 
-copy-values-requires : tie.Need-copy-values-requires
-copy-values-requires c κs = search needs
+copy-i32-requires : tie.Need-copy-i32-requires
+copy-i32-requires c κs = search needs
 
 same-length : tie.Need-same-length
 same-length c = search needs
@@ -38,7 +38,7 @@ returns c =
     let gather-values = c .before .before .before .before .before .gather-values in
     let few = start .pre .0 .few in
     let most = start .pre .0 .most in
-    c .before .copy-values .ensures ∙ ap (λ (m : List ℤ). paste (args .values .now) 0 m (args .count * 2)) (gather-values .ensures)
+    c .before .copy-i32 .ensures ∙ ap (λ (m : List ℤ). paste (args .values .now) 0 m (args .count * 2)) (gather-values .ensures)
     ∙ compacts 2 (valueCells (args .values .now) (args .splits .now) (args .order .now)) (λ q. refl) (pos 0) (args .n) (args .count) 16382
     (args .values .now) few (omega arith)
 
@@ -48,8 +48,8 @@ move-values-spec =
     (tie.spec
     slice-aggregate-gather-values
     gather-values-requires
-    slice-aggregate-copy-values
-    mul-copy-values
-    copy-values-requires
+    slice-aggregate-copy-i32
+    mul-copy-i32
+    copy-i32-requires
     same-length
     returns)

@@ -18,14 +18,14 @@ gather-words-requires c κs =
     let start = c .before .before .before .before .before .before in
     (start .pre, omega (arith, start .pre .renumbers .few, start .pre .renumbers .most))
 
-slice-aggregate-copy-words : tie.Need-slice-aggregate-copy-words
-slice-aggregate-copy-words c = search needs
+slice-aggregate-copy-u32 : tie.Need-slice-aggregate-copy-u32
+slice-aggregate-copy-u32 c = search needs
 
-mul-copy-words : tie.Need-mul-copy-words
-mul-copy-words c = search needs
+mul-copy-u32 : tie.Need-mul-copy-u32
+mul-copy-u32 c = search needs
 
-copy-words-requires : tie.Need-copy-words-requires
-copy-words-requires c κs = search needs
+copy-u32-requires : tie.Need-copy-u32-requires
+copy-u32-requires c κs = search needs
 
 same-length : tie.Need-same-length
 same-length c = search needs
@@ -35,10 +35,10 @@ returns c =
     let start = c .before .before .before .before .before .before .before .before .before .before .before .before .before in
     let args = c .before .before .before .before .before .before .before .before .before .before .before .before .before .args in
     let gather-words = c .before .before .before .before .before .before .gather-words in
-    let copy-words = c .before .before .copy-words in
+    let copy-u32 = c .before .before .copy-u32 in
     let few = start .pre .renumbers .few in
     let most = start .pre .renumbers .most in
-    copy-words .ensures ∙ ap (λ (m : List ℕ). paste (args .words .now) 0 m (args .count * 5)) (gather-words .ensures)
+    copy-u32 .ensures ∙ ap (λ (m : List ℕ). paste (args .words .now) 0 m (args .count * 5)) (gather-words .ensures)
     ∙ compacts 5 (wordCells (args .words .now) (args .splits .now) (args .order .now) (args .places .now))
     (words-wide (args .words .now) (args .splits .now) (args .order .now) (args .places .now)) 0 (args .n) (args .count) 40955 (args .words .now) few
     (omega arith)
@@ -49,8 +49,8 @@ move-words-spec =
     (tie.spec
     slice-aggregate-gather-words
     gather-words-requires
-    slice-aggregate-copy-words
-    mul-copy-words
-    copy-words-requires
+    slice-aggregate-copy-u32
+    mul-copy-u32
+    copy-u32-requires
     same-length
     returns)
