@@ -1,3 +1,2 @@
 pub mod Best
-pub mod Moves
 pub mod Queues

@@ -6,7 +6,7 @@ use native.Mathlib.Nat.{mul-one, mul-le-mul-right, suc-mul}
 use native.Mathlib.Numerals.{add-one}
 use native.Mathlib.Omega.{arith}
 use lib.ListN.{length, set, take, drop, length-append, length-drop, take-append-drop, length-set}
-use lib.Seq.{paste, take-all, take-at, drop-at, take-take, take-paste, length-take-le, drop-append-le}
+use lib.Seq.{paste, take-all, take-at, drop-at, take-take, take-paste, length-paste, length-take-le, drop-append-le}
 use lib.IntN.{ℤ}
 use lib.Ieee.{Float}
 use Rattle.model.specs.Single.{singles}
@@ -15,8 +15,13 @@ use Rattle.layout.specs.Tree.{laid}
 use Rattle.layout.specs.Waiting.{QueueLists, queueLists, Queued, QueueRoom, SameQueue, without, waitWords, waitValues, waitGains}
 use Rattle.layout.proofs.Cells.{laid-append, laid-one, laid-length, laid-take, set-paste, stores-three}
 use Rattle.layout.proofs.Queue.{length-without}
-use Rattle.queue.specs.Moved.{moveUp}
-use Rattle.queue.proofs.Moves.{moved-length}
+use Rattle.lists.specs.Moved.{moveUp}
+
+-- cells that move up leave a list as long as it was
+moved-length : {A : Type 0} (at w m : ℕ) (l : List A) → at + w + m ≤ length l → length (moveUp at w m l) ≡ length l
+moved-length at w m l room =
+    let len : length (drop (at + w) l) ≡ length l - (at + w) = length-drop (at + w) l in
+    length-paste l at (drop (at + w) l) m (omega arith) (omega arith)
 
 -- ---- entries of equal size at the front of a list
 module _ {E A : Type 0} (f : E → List A) (w : ℕ) (each : (e : E) → length (f e) ≡ w) (t : List E) (l : List A) where

@@ -9,7 +9,6 @@ ghost use Rattle.model.specs.Single.{singles};
 ghost use Rattle.model.specs.Lent.{Waiting};
 ghost use Rattle.layout.specs.Values.{offerIs};
 ghost use Rattle.layout.specs.Waiting.{firstBest, queueLists, Queued, QueueRoom, SameQueue, without, waits};
-ghost use Rattle.queue.specs.Moved.{moveUp};
 ghost use Rattle.queue.specs.Room.{RoomFor};
 use layout::Offer;
 
@@ -45,34 +44,6 @@ pub fn greatest(gains: &[f32], waiting: usize) -> usize
     best
 }
 
-// Takes w cells out at `at`, and moves the m cells behind them up.
-fn move_up_u32(l: &mut [u32], at: usize, w: usize, m: usize)
-    requires { ⌜ at + w + m ≤ length (now l) ⌝ }
-    ensures { λ _. ⌜ now (l .exit) ≡ moveUp at w m (now (l .entry)) ⌝ }
-{
-    for j in 0..m {
-        l[at + j] = l[at + j + w];
-    }
-}
-
-fn move_up_i32(l: &mut [i32], at: usize, w: usize, m: usize)
-    requires { ⌜ at + w + m ≤ length (now l) ⌝ }
-    ensures { λ _. ⌜ now (l .exit) ≡ moveUp at w m (now (l .entry)) ⌝ }
-{
-    for j in 0..m {
-        l[at + j] = l[at + j + w];
-    }
-}
-
-fn move_up_f32(l: &mut [f32], at: usize, w: usize, m: usize)
-    requires { ⌜ at + w + m ≤ length (now l) ⌝ }
-    ensures { λ _. ⌜ now (l .exit) ≡ moveUp at w m (now (l .entry)) ⌝ }
-{
-    for j in 0..m {
-        l[at + j] = l[at + j + w];
-    }
-}
-
 // Takes the leaf at place k out; those behind it keep their order.
 pub fn unqueue(words: &mut [u32], values: &mut [i32], gains: &mut [f32], waiting: usize, k: usize)
     requires { ⌜ (k < waiting) × QueueRoom waiting (queueLists (now words) (now values) (now gains)) ⌝ }
@@ -82,9 +53,9 @@ pub fn unqueue(words: &mut [u32], values: &mut [i32], gains: &mut [f32], waiting
         (queueLists (now (words .exit)) (now (values .exit)) (now (gains .exit))) ⌝ }
 {
     let m = waiting - 1 - k;
-    move_up_u32(words, k * 3, 3, m * 3);
-    move_up_i32(values, k, 1, m);
-    move_up_f32(gains, k, 1, m);
+    lists::move_up_u32(words, k * 3, 3, m * 3);
+    lists::move_up_i32(values, k, 1, m);
+    lists::move_up_f32(gains, k, 1, m);
 }
 
 // Puts a leaf behind the others, if it offers a split, and returns how many wait.
