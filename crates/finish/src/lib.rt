@@ -3,8 +3,7 @@ ghost use mathlib.Core.Path.{_≡_};
 ghost use mathlib.Core.Bool.{Bool, cond};
 ghost use mathlib.Core.List.{List};
 ghost use Prim.Native.Nat.{ℕ};
-ghost use lib.ListN.{length, replicate};
-ghost use lib.IntN.{ℤ, pos};
+ghost use lib.IntN.{ℤ};
 ghost use lib.Ieee.{Float};
 ghost use Rattle.model.specs.Single.{singles};
 ghost use Rattle.model.specs.Rows.{Row};
@@ -94,30 +93,14 @@ fn finish_tree(
     }
 }
 
-fn clear_values(values: &mut [i32])
-    ensures { λ _. ⌜ now (values .exit) ≡ replicate (length (now (values .entry))) (pos 0) ⌝ }
-{
-    for i in 0..values.len() {
-        values[i] = 0;
-    }
-}
-
-fn clear_gains(gains: &mut [f32])
-    ensures { λ _. ⌜ now (gains .exit) ≡ replicate (length (now (gains .entry))) (singles .nought) ⌝ }
-{
-    for i in 0..gains.len() {
-        gains[i] = 0.0;
-    }
-}
-
 // Nothing waits any more.
 fn clear_queue(words: &mut [u32], values: &mut [i32], gains: &mut [f32])
     ensures { λ _. ⌜ queueLists (now (words .exit)) (now (values .exit)) (now (gains .exit))
         ≡ clearQueue (queueLists (now (words .entry)) (now (values .entry)) (now (gains .entry))) ⌝ }
 {
-    cost::clear(words);
-    clear_values(values);
-    clear_gains(gains);
+    lists::clear_u32(words);
+    lists::clear_i32(values);
+    lists::clear_f32(gains);
 }
 
 pub fn grow_and_finish(

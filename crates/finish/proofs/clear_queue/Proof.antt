@@ -4,14 +4,14 @@ use borrow.Author.Needs.{needs}
 use Rattle.finish.proofs.clear_queue.Statement.{statement}
 use Rattle.finish.proofs.clear_queue.Tie as tie
 
-clear-requires : tie.Need-clear-requires
-clear-requires c κs = search needs
+clear-u32-requires : tie.Need-clear-u32-requires
+clear-u32-requires c κs = search needs
 
-clear-values-requires : tie.Need-clear-values-requires
-clear-values-requires c κs = search needs
+clear-i32-requires : tie.Need-clear-i32-requires
+clear-i32-requires c κs = search needs
 
-clear-gains-requires : tie.Need-clear-gains-requires
-clear-gains-requires c κs = search needs
+clear-f32-requires : tie.Need-clear-f32-requires
+clear-f32-requires c κs = search needs
 
 same-length : tie.Need-same-length
 same-length c = search needs
@@ -24,15 +24,15 @@ same-length-3 c = search needs
 
 returns : tie.Need-returns
 unfolding clearQueue
-returns c = rw (c .before .before .before .before .before .before .before .before .before .clear .ensures, c .before .before .before .before .before .clear-values .ensures, c .before .before .clear-gains .ensures)
+returns c = rw (c .before .before .before .before .before .before .before .before .before .clear-u32 .ensures, c .before .before .before .before .before .clear-i32 .ensures, c .before .before .clear-f32 .ensures)
 
 pub clear-queue-spec : {M : Type 1} → statement M
 clear-queue-spec =
     tie.close
     (tie.spec
-    clear-requires
-    clear-values-requires
-    clear-gains-requires
+    clear-u32-requires
+    clear-i32-requires
+    clear-f32-requires
     same-length
     same-length-2
     same-length-3
