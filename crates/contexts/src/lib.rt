@@ -54,7 +54,7 @@ fn number_leaves(words: &[u32], contexts: &mut [u32], queue: &mut [u32]) -> u32
     ensures { λ r. ⌜ OfTree (now (words .entry)) (length (now (contexts .entry))) (λ (t : List (Record singles)).
         (r ≡ leafCount (nodesOf t)) × (now (contexts .exit) ≡ contextsOf (nodesOf t))) ⌝ }
 {
-    tree::fill(contexts, NO_CONTEXT);
+    lists::fill_u32(contexts, NO_CONTEXT);
     breadth::breadth_order(words, queue);
     let mut next = LeafContext(0);
     for k in 0..queue.len() {
@@ -95,6 +95,6 @@ pub fn leaf_contexts(
         };
     }
     let leaves = number_leaves(words, &mut contexts[..n], &mut queue[..n]);
-    tree::fill(queue, 0);
+    lists::clear_u32(queue);
     Contexts::Counted(leaves)
 }

@@ -79,8 +79,8 @@ number-leaves-requires c κs =
     let one = length-take-le (start .count) (start .contexts .now) (r .0) in
     record { sound = rw one (sound (c .before .before .before)); queue-there = length-take-le (start .count) (start .queue .now) (r .1) ∙ sym one }
 
-fill-requires : tie.Need-fill-requires
-fill-requires c κs = search needs
+clear-u32-requires : tie.Need-clear-u32-requires
+clear-u32-requires c κs = search needs
 
 same-length : tie.Need-same-length
 same-length c = search needs
@@ -95,10 +95,10 @@ returns-4 c costs =
     let fine = after .before .before .before in
     let h = held (fine .before .before .before .before) in
     let one = length-take-le (start .count) (start .contexts .now) (room fine .0) in
-    let fill = c .before .before .fill in
+    let clear = c .before .before .clear-u32 in
     sym (counted (start .words .now) (start .values .now) costs (start .count) _ h (sound (fine .before) .faultless (start .values .now) costs h) _ _ _ (fine .if2 .left)
     (rw one at (after .number-leaves .ensures (start .values .now) costs (rw one h))) (after .number-leaves .kept .1 .0 ∙ one)
-    (fill .ensures ∙ ap (λ (n : ℕ). replicate n 0) (length-front (start .queue .now) (after .number-leaves .last .1 .1 .0) (start .count) (after .number-leaves .kept .1 .1 .0))))
+    (clear .ensures ∙ ap (λ (n : ℕ). replicate n 0) (length-front (start .queue .now) (after .number-leaves .last .1 .1 .0) (start .count) (after .number-leaves .kept .1 .1 .0))))
 
 pub leaf-contexts-spec : {M : Type 1} → statement M
 leaf-contexts-spec =
@@ -116,7 +116,7 @@ leaf-contexts-spec =
     slice-relend-prefix-number-leaves-2
     slice-aggregate-number-leaves-2
     number-leaves-requires
-    fill-requires
+    clear-u32-requires
     same-length
     same-length-2
     returns-4)

@@ -38,8 +38,8 @@ ordered : (c : tie.After-slice-known4 Inv-loop μ-loop) → OfTree (words c) (le
 ordered c = subst (λ (n : ℕ). OfTree (words c) n (λ (t : List (Record singles)). order c ≡ breadthOrder (nodesOf t))) (sym (c .before .before .breadth-order .kept .1 .0))
     (c .before .before .breadth-order .ensures)
 
-fill-requires : tie.Need-fill-requires Inv-loop μ-loop
-fill-requires c κs = tt
+fill-u32-requires : tie.Need-fill-u32-requires Inv-loop μ-loop
+fill-u32-requires c κs = tt
 
 breadth-order-requires : tie.Need-breadth-order-requires Inv-loop μ-loop
 breadth-order-requires c κs =
@@ -48,7 +48,7 @@ breadth-order-requires c κs =
 
 loop-holds : tie.Need-loop-holds Inv-loop μ-loop
 loop-holds c =
-    let fill = c .before .before .before .before .before .before .fill in
+    let fill = c .before .before .before .before .before .before .fill-u32 in
     (omega arith, numbered-first (words c) (length (order c)) (sound c) (order c) refl (ordered c) (fill .last .0) (fill .ensures ∙ ap (λ (n : ℕ). replicate n noContext) (sym (many c))))
 
 mul-t13 : tie.Need-mul-t13 Inv-loop μ-loop
@@ -102,7 +102,7 @@ number-leaves-spec =
     (tie.spec
     Inv-loop
     μ-loop
-    fill-requires
+    fill-u32-requires
     breadth-order-requires
     loop-holds
     mul-t13
