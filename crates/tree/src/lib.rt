@@ -4,7 +4,7 @@ ghost use mathlib.Core.Path.{_≡_};
 ghost use Prim.Native.Nat.{ℕ, _+_, _<_};
 ghost use mathlib.Core.Bool.{cond};
 ghost use mathlib.Core.List.{List};
-ghost use lib.ListN.{length, getD, replicate};
+ghost use lib.ListN.{length, getD};
 ghost use lib.IntN.{ℤ};
 ghost use lib.Ieee.{Float};
 ghost use lib.Dec.{eqb};
@@ -209,14 +209,6 @@ pub fn fault_of(words: &[u32], count: u32) -> Fault
     lowest_fault(words, count, &parents)
 }
 
-pub fn fill(list: &mut [u32], value: u32)
-    ensures { λ _. ⌜ now (list .exit) ≡ replicate (length (now (list .entry))) value ⌝ }
-{
-    for k in 0..list.len() {
-        list[k] = value;
-    }
-}
-
 // The children of a split lie one deeper than it.
 fn lower_children(words: &[u32], node: NodeNumber, out: &mut [u32])
     requires { ⌜ Deepens (now words) (node .0) (now out) ⌝ }
@@ -237,7 +229,7 @@ pub fn depths(words: &[u32], count: u32, out: &mut [u32])
     requires { ⌜ Measurable (now words) count (now out) ⌝ }
     ensures { λ _. ⌜ OfTree (now (words .entry)) count (λ (t : List (Record singles)). now (out .exit) ≡ depthsOf (nodesOf t)) ⌝ }
 {
-    fill(out, 0);
+    lists::clear_u32(out);
     for i in 0..count {
         lower_children(words, NodeNumber(i), out);
     }

@@ -23,15 +23,15 @@ Inv-loop words count out₀ i₀ out i = (i ≤ count) × (length out ≡ count)
 abbrev μ-loop : tie.MeasureT-loop
 μ-loop words count out₀ i₀ out i = count - i
 
-fill-requires : tie.Need-fill-requires Inv-loop μ-loop
-fill-requires c κs = tt
+clear-u32-requires : tie.Need-clear-u32-requires Inv-loop μ-loop
+clear-u32-requires c κs = tt
 
 loop-holds : tie.Need-loop-holds Inv-loop μ-loop
 loop-holds c =
     let start = c .before .before .before .before .before .before in
-    let zeros = c .before .before .fill .ensures ∙ ap (λ (n : ℕ). replicate n 0) (start .pre .places) in (
+    let zeros = c .before .before .clear-u32 .ensures ∙ ap (λ (n : ℕ). replicate n 0) (start .pre .places) in (
       omega arith,
-      c .before .before .fill .kept .0 ∙ start .pre .places,
+      c .before .before .clear-u32 .kept .0 ∙ start .pre .places,
       rw zeros (zeros-at-most (start .args .count)),
       λ values costs held. rw zeros (depths-first (start .args .words .now) values costs (start .args .count) held),
     )
@@ -85,7 +85,7 @@ depths-spec =
     (tie.spec
     Inv-loop
     μ-loop
-    fill-requires
+    clear-u32-requires
     loop-holds
     lower-children-requires
     add-i
