@@ -84,13 +84,6 @@ pub fn missed(c: Check) -> Check {
     }
 }
 
-// Every entry of a list holds the job's fill beforehand.
-pub fn fill(list: &mut [u32], value: u32) {
-    for i in 0..list.len() {
-        list[i] = value;
-    }
-}
-
 // The words from a place on become a list's entries, as signed numbers.
 pub fn put_numbers(list: &mut [i32], b: &[u8], first: usize) {
     let mut at = first;

@@ -3,7 +3,6 @@ use crate::bytes::Check;
 use crate::bytes::after;
 use crate::bytes::expect;
 use crate::bytes::expect_list;
-use crate::bytes::fill;
 use crate::bytes::long;
 use crate::bytes::missed;
 use crate::bytes::signed;
@@ -95,7 +94,8 @@ pub fn sampling(b: &[u8], job: usize, answer: Check) -> Check {
         return missed(answer);
     }
     let n = entries as usize;
+    // Every entry of a list holds the job's fill beforehand.
     let mut out = rooms::sample();
-    fill(&mut out, value);
+    lists::fill_u32(&mut out, value);
     sample_into(b, answer, rows, target, entries, &mut out[..n])
 }

@@ -3,7 +3,6 @@ use crate::bytes::Check;
 use crate::bytes::after;
 use crate::bytes::expect;
 use crate::bytes::expect_list;
-use crate::bytes::fill;
 use crate::bytes::missed;
 use crate::bytes::signed;
 use crate::bytes::word;
@@ -172,10 +171,11 @@ fn number_in(
     if queue > ENTRIES {
         return missed(answer);
     }
+    // Every entry of a list holds the job's fill beforehand.
     let mut context_list = rooms::entries();
-    fill(&mut context_list, value);
+    lists::fill_u32(&mut context_list, value);
     let mut queue_list = rooms::entries();
-    fill(&mut queue_list, value);
+    lists::fill_u32(&mut queue_list, value);
     let n = contexts as usize;
     let q = queue as usize;
     number(

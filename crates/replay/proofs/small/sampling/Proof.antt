@@ -38,11 +38,11 @@ cast-n c = search needs
 sample-requires : tie.Need-sample-requires
 sample-requires c κs = search needs
 
-slice-aggregate-fill : tie.Need-slice-aggregate-fill
-slice-aggregate-fill c = search needs
+slice-aggregate-fill-u32 : tie.Need-slice-aggregate-fill-u32
+slice-aggregate-fill-u32 c = search needs
 
-fill-requires : tie.Need-fill-requires
-fill-requires c κs = search needs
+fill-u32-requires : tie.Need-fill-u32-requires
+fill-u32-requires c κs = search needs
 
 array-borrow-prefix-out : tie.Need-array-borrow-prefix-out
 array-borrow-prefix-out c = search needs
@@ -71,8 +71,8 @@ sampling-spec =
     returns
     cast-n
     sample-requires
-    slice-aggregate-fill
-    fill-requires
+    slice-aggregate-fill-u32
+    fill-u32-requires
     array-borrow-prefix-out
     slice-aggregate-sample-into
     sample-into-requires

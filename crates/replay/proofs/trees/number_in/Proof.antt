@@ -20,20 +20,20 @@ returns-2 c = search needs
 entries-requires : tie.Need-entries-requires
 entries-requires c κs = search needs
 
-slice-aggregate-fill : tie.Need-slice-aggregate-fill
-slice-aggregate-fill c = search needs
+slice-aggregate-fill-u32 : tie.Need-slice-aggregate-fill-u32
+slice-aggregate-fill-u32 c = search needs
 
-fill-requires : tie.Need-fill-requires
-fill-requires c κs = search needs
+fill-u32-requires : tie.Need-fill-u32-requires
+fill-u32-requires c κs = search needs
 
 entries-requires-2 : tie.Need-entries-requires-2
 entries-requires-2 c κs = search needs
 
-slice-aggregate-fill-2 : tie.Need-slice-aggregate-fill-2
-slice-aggregate-fill-2 c = search needs
+slice-aggregate-fill-u32-2 : tie.Need-slice-aggregate-fill-u32-2
+slice-aggregate-fill-u32-2 c = search needs
 
-fill-requires-2 : tie.Need-fill-requires-2
-fill-requires-2 c κs = search needs
+fill-u32-requires-2 : tie.Need-fill-u32-requires-2
+fill-u32-requires-2 c κs = search needs
 
 array-borrow-prefix-context-list : tie.Need-array-borrow-prefix-context-list
 array-borrow-prefix-context-list c = search needs
@@ -62,11 +62,11 @@ number-in-spec =
     missed-requires-2
     returns-2
     entries-requires
-    slice-aggregate-fill
-    fill-requires
+    slice-aggregate-fill-u32
+    fill-u32-requires
     entries-requires-2
-    slice-aggregate-fill-2
-    fill-requires-2
+    slice-aggregate-fill-u32-2
+    fill-u32-requires-2
     array-borrow-prefix-context-list
     slice-aggregate-number
     array-borrow-prefix-queue-list
