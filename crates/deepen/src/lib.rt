@@ -152,7 +152,7 @@ pub fn deepen_ma_tree(
     let nodes = count as usize;
     let rooms = Rooms {
         nodes: lent::node_room(words, values, costs),
-        spans: spans.len() / 2,
+        spans: spans.len() / layout::SPAN_ROWS,
         queue: lent::queue_room(queue_words, queue_values, queue_gains),
         counts: counts.len(),
     };

@@ -134,9 +134,9 @@ fn pending_at(words: &[u32], values: &[i32], k: usize) -> Pending
     requires { ⌜ (k * 3 + 3 ≤ length (now words)) × (k < length (now values)) ⌝ }
     ensures { λ r. ⌜ PendingAt (now (words .entry)) (now (values .entry)) k r ⌝ }
 {
-    let node = words[k * 3] as usize;
-    let prop = words[k * 3 + 1];
-    let depth = words[k * 3 + 2];
+    let node = words[k * layout::LEAF_WORDS] as usize;
+    let prop = words[k * layout::LEAF_WORDS + 1];
+    let depth = words[k * layout::LEAF_WORDS + 2];
     let val = values[k];
     Pending {
         node,
@@ -156,8 +156,8 @@ fn bounds_of(spans: &[u32], i: usize) -> Bounds
     requires { ⌜ i * 2 + 2 ≤ length (now spans) ⌝ }
     ensures { λ r. ⌜ (r .first ≡ getD (now (spans .entry)) (i * 2) 0) × (r .end ≡ getD (now (spans .entry)) (i * 2 + 1) 0) ⌝ }
 {
-    let first = spans[i * 2] as usize;
-    let end = spans[i * 2 + 1] as usize;
+    let first = spans[i * layout::SPAN_ROWS] as usize;
+    let end = spans[i * layout::SPAN_ROWS + 1] as usize;
     Bounds { first, end }
 }
 

@@ -95,7 +95,7 @@ pub fn learn_ma_tree_in_place(
 {
     let rooms = Rooms {
         nodes: lent::node_room(words, values, costs),
-        spans: spans.len() / 2,
+        spans: spans.len() / layout::SPAN_ROWS,
         queue: lent::queue_room(queue_words, queue_values, queue_gains),
         counts: counts.len(),
     };

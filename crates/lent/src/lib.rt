@@ -21,17 +21,14 @@ pub enum Learned {
     },
 }
 
-const NODE_WORDS: usize = 5;
-
-const NODE_VALUES: usize = 2;
-
-const LEAF_WORDS: usize = 3;
-
 // How many nodes have all their words, values and costs.
 pub fn node_room(words: &[u32], values: &[i32], costs: &[f32]) -> usize
     ensures { λ r. ⌜ r ≡ nodesLent (now (words .entry)) (now (values .entry)) (now (costs .entry)) ⌝ }
 {
-    let held = lists::smaller(words.len() / NODE_WORDS, values.len() / NODE_VALUES);
+    let held = lists::smaller(
+        words.len() / layout::NODE_WORDS,
+        values.len() / layout::NODE_VALUES,
+    );
     lists::smaller(held, costs.len())
 }
 
@@ -39,7 +36,7 @@ pub fn node_room(words: &[u32], values: &[i32], costs: &[f32]) -> usize
 pub fn queue_room(words: &[u32], values: &[i32], gains: &[f32]) -> usize
     ensures { λ r. ⌜ r ≡ leavesLent (now (words .entry)) (now (values .entry)) (now (gains .entry)) ⌝ }
 {
-    let held = lists::smaller(words.len() / LEAF_WORDS, values.len());
+    let held = lists::smaller(words.len() / layout::LEAF_WORDS, values.len());
     lists::smaller(held, gains.len())
 }
 

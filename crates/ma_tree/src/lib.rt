@@ -79,9 +79,9 @@ fn work<'n, 'a>(
         (listsNow (nodes .exit) (props .exit) (tok .exit) (res .exit) (spans .exit)
         («queue_words» .exit) («queue_values» .exit) («queue_gains» .exit) (counts .exit)) r ⌝ }
 {
-    let mut words = [0u32; 40955];
-    let mut values = [0i32; 16382];
-    let mut costs = [0f32; 8191];
+    let mut words = [0u32; layout::MAX_WORDS];
+    let mut values = [0i32; layout::MAX_VALUES];
+    let mut costs = [0f32; layout::MAX_NODES];
     let room = nodes.len();
     let n = numbers::to_copy(room);
     records::from_records(nodes, n, &mut words[..], &mut values[..], &mut costs[..]);
@@ -211,9 +211,9 @@ pub extern "C" fn ostrovuc_leaf_contexts<'n, 'a>(
     ensures { λ r. ⌜ Numbering (now (nodes .entry)) count
         (contextsNow (contexts .entry) (queue .entry)) r (contextsNow (contexts .exit) (queue .exit)) ⌝ }
 {
-    let mut words = [0u32; 40955];
-    let mut values = [0i32; 16382];
-    let mut costs = [0f32; 8191];
+    let mut words = [0u32; layout::MAX_WORDS];
+    let mut values = [0i32; layout::MAX_VALUES];
+    let mut costs = [0f32; layout::MAX_NODES];
     let n = numbers::to_copy(nodes.len());
     records::from_records(nodes, n, &mut words[..], &mut values[..], &mut costs[..]);
     numbers::contexts_on(n, count, &words[..], &values[..], contexts, queue)

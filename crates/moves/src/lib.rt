@@ -12,26 +12,12 @@ ghost use Rattle.layout.specs.Tree.{nodeLists, rowsPerSpan};
 ghost use Rattle.moves.specs.Moves.{wordsFrom, valuesFrom, spanFrom, wordCells, valueCells, costCells, spanCells, gathered, compacted, compactedLists};
 ghost use Rattle.moves.specs.Moves.{Renumbers, WordsMovable, AllWordsMovable, AllMovable};
 
-// A node's words are kind, property, gt, le and predictor; its values are threshold and offset; its span is two rows.
-const NODE_WORDS: usize = 5;
-
-const NODE_VALUES: usize = 2;
-
-const SPAN_ROWS: usize = 2;
-
-// Most nodes of a tree, and their words, values and rows.
-const MAX_NODES: usize = 8191;
-
-const MAX_WORDS: usize = 40955;
-
-const MAX_VALUES: usize = 16382;
-
 // Stores the words of entry q.
 fn put_words(kind: u32, prop: u32, gt: u32, le: u32, pred: u32, q: usize, moved: &mut [u32])
     requires { ⌜ q * wordsPerNode + wordsPerNode ≤ length (now moved) ⌝ }
     ensures { λ _. ⌜ now (moved .exit) ≡ paste (now (moved .entry)) (q * wordsPerNode) (kind ∷ prop ∷ gt ∷ le ∷ pred ∷ []) wordsPerNode ⌝ }
 {
-    let at = q * NODE_WORDS;
+    let at = q * layout::NODE_WORDS;
     moved[at] = kind;
     moved[at + 1] = prop;
     moved[at + 2] = gt;
@@ -45,7 +31,7 @@ fn move_node_words(words: &[u32], kept: bool, places: &[u32], i: usize, q: usize
     ensures { λ _. ⌜ now (moved .exit)
         ≡ paste (now (moved .entry)) (q * wordsPerNode) (wordsFrom (now (words .entry)) kept (now (places .entry)) i) wordsPerNode ⌝ }
 {
-    let at = i * NODE_WORDS;
+    let at = i * layout::NODE_WORDS;
     let pred = words[at + 4];
     if kept {
         let gt = words[at + 2] as usize;
@@ -83,7 +69,7 @@ fn threshold_of(values: &[i32], kept: bool, i: usize) -> i32
     ensures { λ r. ⌜ r ≡ cond kept (valAt (now (values .entry)) i) (pos 0) ⌝ }
 {
     if kept {
-        return values[i * NODE_VALUES];
+        return values[i * layout::NODE_VALUES];
     }
     0
 }
@@ -93,9 +79,9 @@ fn move_node_values(values: &[i32], kept: bool, i: usize, q: usize, moved: &mut 
     requires { ⌜ (i * valuesPerNode + valuesPerNode ≤ length (now values)) × (q * valuesPerNode + valuesPerNode ≤ length (now moved)) ⌝ }
     ensures { λ _. ⌜ now (moved .exit) ≡ paste (now (moved .entry)) (q * valuesPerNode) (valuesFrom (now (values .entry)) kept i) valuesPerNode ⌝ }
 {
-    let to = q * NODE_VALUES;
+    let to = q * layout::NODE_VALUES;
     moved[to] = threshold_of(values, kept, i);
-    moved[to + 1] = values[i * NODE_VALUES + 1];
+    moved[to + 1] = values[i * layout::NODE_VALUES + 1];
 }
 
 // Their values, in the same way.
@@ -135,8 +121,8 @@ fn move_node_span(spans: &[u32], i: usize, q: usize, moved: &mut [u32])
     requires { ⌜ (i * rowsPerSpan + rowsPerSpan ≤ length (now spans)) × (q * rowsPerSpan + rowsPerSpan ≤ length (now moved)) ⌝ }
     ensures { λ _. ⌜ now (moved .exit) ≡ paste (now (moved .entry)) (q * rowsPerSpan) (spanFrom (now (spans .entry)) i) rowsPerSpan ⌝ }
 {
-    let from = i * SPAN_ROWS;
-    let to = q * SPAN_ROWS;
+    let from = i * layout::SPAN_ROWS;
+    let to = q * layout::SPAN_ROWS;
     moved[to] = spans[from];
     moved[to + 1] = spans[from + 1];
 }
@@ -167,9 +153,9 @@ fn move_words(
         ≡ compacted wordsPerNode (wordCells (now (words .entry)) (now (splits .entry)) (now (order .entry)) (now (places .entry))) 0 n count
         (now (words .entry)) ⌝ }
 {
-    let mut moved = [0u32; MAX_WORDS];
+    let mut moved = [0u32; layout::MAX_WORDS];
     gather_words(words, splits, order, places, n, count, &mut moved);
-    lists::copy_u32(&moved, count * NODE_WORDS, words);
+    lists::copy_u32(&moved, count * layout::NODE_WORDS, words);
 }
 
 fn move_values(values: &mut [i32], splits: &[bool], order: &[u32], n: usize, count: usize)
@@ -178,9 +164,9 @@ fn move_values(values: &mut [i32], splits: &[bool], order: &[u32], n: usize, cou
     ensures { λ _. ⌜ now (values .exit)
         ≡ compacted valuesPerNode (valueCells (now (values .entry)) (now (splits .entry)) (now (order .entry))) (pos 0) n count (now (values .entry)) ⌝ }
 {
-    let mut moved = [0i32; MAX_VALUES];
+    let mut moved = [0i32; layout::MAX_VALUES];
     gather_values(values, splits, order, n, count, &mut moved);
-    lists::copy_i32(&moved, count * NODE_VALUES, values);
+    lists::copy_i32(&moved, count * layout::NODE_VALUES, values);
 }
 
 fn move_costs(costs: &mut [f32], order: &[u32], n: usize, count: usize)
@@ -188,7 +174,7 @@ fn move_costs(costs: &mut [f32], order: &[u32], n: usize, count: usize)
     requires { ⌜ count ≤ length (now costs) ⌝ }
     ensures { λ _. ⌜ now (costs .exit) ≡ compacted 1 (costCells (now (costs .entry)) (now (order .entry))) (singles .nought) n count (now (costs .entry)) ⌝ }
 {
-    let mut moved = [0.0f32; MAX_NODES];
+    let mut moved = [0.0f32; layout::MAX_NODES];
     gather_costs(costs, order, n, count, &mut moved);
     lists::copy_f32(&moved, count, costs);
 }
@@ -198,9 +184,9 @@ fn move_spans(spans: &mut [u32], order: &[u32], n: usize, count: usize)
     requires { ⌜ count * rowsPerSpan ≤ length (now spans) ⌝ }
     ensures { λ _. ⌜ now (spans .exit) ≡ compacted rowsPerSpan (spanCells (now (spans .entry)) (now (order .entry))) 0 n count (now (spans .entry)) ⌝ }
 {
-    let mut moved = [0u32; MAX_VALUES];
+    let mut moved = [0u32; layout::MAX_SPAN_ROWS];
     gather_spans(spans, order, n, count, &mut moved);
-    lists::copy_u32(&moved, count * SPAN_ROWS, spans);
+    lists::copy_u32(&moved, count * layout::SPAN_ROWS, spans);
 }
 
 // Records and spans go with the nodes.

@@ -24,18 +24,18 @@ pub fn put_leaf(
     ensures { λ _. ⌜ nodeLists (now (words .exit)) (now (values .exit)) (now (costs .exit)) (now (spans .exit))
         ≡ put i (leafWith info first end) (nodeLists (now (words .entry)) (now (values .entry)) (now (costs .entry)) (now (spans .entry))) ⌝ }
 {
-    let at = i * 5;
+    let at = i * layout::NODE_WORDS;
     words[at] = 0;
     words[at + 1] = 0;
     words[at + 2] = 0;
     words[at + 3] = 0;
     words[at + 4] = info.pred;
     let offset = info.offset;
-    values[i * 2] = 0;
-    values[i * 2 + 1] = offset;
+    values[i * layout::NODE_VALUES] = 0;
+    values[i * layout::NODE_VALUES + 1] = offset;
     costs[i] = info.cost;
-    spans[i * 2] = first as u32;
-    spans[i * 2 + 1] = end as u32;
+    spans[i * layout::SPAN_ROWS] = first as u32;
+    spans[i * layout::SPAN_ROWS + 1] = end as u32;
 }
 
 // Node i becomes a split over the nodes gt and gt + 1. Its predictor, its offset, its cost and its span stay.
@@ -44,10 +44,10 @@ pub fn put_split(words: &mut [u32], values: &mut [i32], i: usize, prop: u32, val
     ensures { λ _. ⌜ now (words .exit) ≡ paste (now (words .entry)) (i * 5) (1 ∷ prop ∷ gt ∷ (gt + 1) ∷ []) 4 ⌝ }
     ensures { λ _. ⌜ now (values .exit) ≡ set (now (values .entry)) (i * 2) val ⌝ }
 {
-    let at = i * 5;
+    let at = i * layout::NODE_WORDS;
     words[at] = 1;
     words[at + 1] = prop;
     words[at + 2] = gt;
     words[at + 3] = gt + 1;
-    values[i * 2] = val;
+    values[i * layout::NODE_VALUES] = val;
 }

@@ -23,19 +23,15 @@ use checks::Rooms;
 use checks::Settings;
 use lent::Learned;
 
-// Most nodes of a tree.
-const MAX_NODES: usize = 8191;
-
-// A node's words and values.
-const NODE_WORDS: usize = 5;
-
-const NODE_VALUES: usize = 2;
-
 // How many records are copied.
 pub fn to_copy(room: usize) -> usize
     ensures { λ r. ⌜ r ≡ copied room ⌝ }
 {
-    if room < MAX_NODES { room } else { MAX_NODES }
+    if room < layout::MAX_NODES {
+        room
+    } else {
+        layout::MAX_NODES
+    }
 }
 
 // A seed of more nodes than any sound tree has: 8 for its count, if none of 1 to 7 comes before.
@@ -61,7 +57,7 @@ fn refuse_large_seed<'a>(
 {
     let rooms = Rooms {
         nodes: room,
-        spans: spans.len() / 2,
+        spans: spans.len() / layout::SPAN_ROWS,
         queue: lent::queue_room(queue_words, queue_values, queue_gains),
         counts: counts.len(),
     };
@@ -104,7 +100,7 @@ pub fn work_on<'a, 'b>(
         (queueLists (now («queue_words» .exit)) (now («queue_values» .exit)) (now («queue_gains» .exit))) (now (counts .exit))) r) ⌝ }
 {
     if seeded {
-        if MAX_NODES < count as usize {
+        if layout::MAX_NODES < count as usize {
             return answers::learned_answer(refuse_large_seed(
                 room,
                 s,
@@ -124,8 +120,8 @@ pub fn work_on<'a, 'b>(
             props,
             tok,
             res,
-            &mut words[..n * NODE_WORDS],
-            &mut values[..n * NODE_VALUES],
+            &mut words[..n * layout::NODE_WORDS],
+            &mut values[..n * layout::NODE_VALUES],
             &mut costs[..n],
             spans,
             queue_words,
@@ -141,8 +137,8 @@ pub fn work_on<'a, 'b>(
         props,
         tok,
         res,
-        &mut words[..n * NODE_WORDS],
-        &mut values[..n * NODE_VALUES],
+        &mut words[..n * layout::NODE_WORDS],
+        &mut values[..n * layout::NODE_VALUES],
         &mut costs[..n],
         spans,
         queue_words,
@@ -172,8 +168,8 @@ pub fn contexts_on<'a, 'b>(
         ≡ leafContexts (map storedOf nodes) count (record { contexts = now (contexts .entry); queue = now (queue .entry) }) .lent) ⌝ }
 {
     answers::contexts_answer(contexts::leaf_contexts(
-        &words[..n * NODE_WORDS],
-        &values[..n * NODE_VALUES],
+        &words[..n * layout::NODE_WORDS],
+        &values[..n * layout::NODE_VALUES],
         count,
         contexts,
         queue,

@@ -11,9 +11,6 @@ ghost use Rattle.plant.specs.Seeded.{Seedable, Seeded};
 use checks::Settings;
 use layout::Tree;
 
-// Most nodes of a sound seed.
-const MAX_NODES: usize = 8191;
-
 // The next node, a leaf with rows: it takes its mode and is evaluated at its depth. Its cost is added, and it waits if it offers a split.
 fn plant_leaf(
     props: &[i32],
@@ -107,9 +104,9 @@ fn plant_node(
         tree r depth «score_split» ⌝ }
 {
     let i = tree.nodes;
-    let first = spans[i * 2] as usize;
-    let end = spans[i * 2 + 1] as usize;
-    if (words[i * 5] == 1) | (first == end) {
+    let first = spans[i * layout::SPAN_ROWS] as usize;
+    let end = spans[i * layout::SPAN_ROWS + 1] as usize;
+    if (words[i * layout::NODE_WORDS] == 1) | (first == end) {
         seed::keep_node(words, values, costs, spans, i);
         return Tree {
             nodes: i + 1,
@@ -171,7 +168,7 @@ fn plant_nodes(
         (queueLists (now («queue_words» .exit)) (now («queue_values» .exit)) (now («queue_gains» .exit)))
         r count count «score_split» given) ⌝ }
 {
-    let mut depths = [0u32; MAX_NODES];
+    let mut depths = [0u32; layout::MAX_NODES];
     seed::seed_depths(words, count, &mut depths);
     let mut tree = Tree {
         nodes: 0,

@@ -6,12 +6,6 @@ ghost use Rattle.model.specs.Tree.{Node};
 ghost use Rattle.layout.specs.Layout.{gtAt, leAt};
 ghost use Rattle.preorder.specs.Order.{pushed, heightAfter, Pushable, ShowsNodes, Walkable, Rooted, Ordered};
 
-// A node's words are kind, property, gt, le and predictor.
-const NODE_WORDS: usize = 5;
-
-// Most nodes of a tree.
-const MAX_NODES: usize = 8191;
-
 // The children of node i, if it is a split, go onto the stack, gt on top.
 fn push_children(words: &[u32], kept: bool, i: usize, depth: usize, stack: &mut [u32]) -> usize
     requires { ⌜ Pushable (now words) kept i depth (now stack) ⌝ }
@@ -19,7 +13,7 @@ fn push_children(words: &[u32], kept: bool, i: usize, depth: usize, stack: &mut 
     ensures { λ _. ⌜ now (stack .exit) ≡ pushed kept (gtAt (now (words .entry)) i) (leAt (now (words .entry)) i) depth (now (stack .entry)) ⌝ }
 {
     if kept {
-        let at = i * NODE_WORDS;
+        let at = i * layout::NODE_WORDS;
         stack[depth] = words[at + 3];
         stack[depth + 1] = words[at + 2];
         return depth + 2;
@@ -67,6 +61,6 @@ pub fn order_nodes(
     ensures { λ r. ⌜ ((nodes : List Node) → ShowsNodes nodes (now (words .entry)) (now (splits .entry)) count
         → Ordered nodes (now (order .exit)) (now (places .exit)) r) ⌝ }
 {
-    let mut stack = [0u32; MAX_NODES];
+    let mut stack = [0u32; layout::MAX_NODES];
     walk(words, splits, count, order, places, &mut stack)
 }

@@ -14,14 +14,6 @@ ghost use Rattle.prune.specs.Held.{HoldsTree, Prunable, PrunedAs};
 use layout::NodeInfo;
 use layout::Tree;
 
-// A node's words are kind, property, gt, le and predictor; its values are threshold and offset.
-const NODE_WORDS: usize = 5;
-
-const NODE_VALUES: usize = 2;
-
-// Most nodes of a tree.
-const MAX_NODES: usize = 8191;
-
 // What a node has become: a split, or else a leaf; the bits of the leaves under it; and these with a price for each split that is kept.
 struct Priced {
     split: bool,
@@ -37,8 +29,8 @@ fn info_of(words: &[u32], values: &[i32], costs: &[f32], i: usize) -> NodeInfo
 {
     NodeInfo {
         cost: costs[i],
-        pred: words[i * NODE_WORDS + 4],
-        offset: values[i * NODE_VALUES + 1],
+        pred: words[i * layout::NODE_WORDS + 4],
+        offset: values[i * layout::NODE_VALUES + 1],
     }
 }
 
@@ -85,7 +77,7 @@ fn price_node(
     ensures { λ r. ⌜ r ≡ pricedAt (now (words .entry)) (now (costs .entry)) price (now (bits .entry)) (now (priced .entry)) i ⌝ }
 {
     let info = info_of(words, values, costs, i);
-    let at = i * NODE_WORDS;
+    let at = i * layout::NODE_WORDS;
     if words[at] != 1 {
         return price_leaf(info);
     }
@@ -134,8 +126,8 @@ fn price_nodes(
     ensures { λ r. ⌜ ((tree : List (Entry singles)) → ShowsTree tree (now (words .entry)) (now (costs .entry)) count
         → PricedAs price tree r (now (splits .exit))) ⌝ }
 {
-    let mut bits = [0.0f64; MAX_NODES];
-    let mut priced = [0.0f64; MAX_NODES];
+    let mut bits = [0.0f64; layout::MAX_NODES];
+    let mut priced = [0.0f64; layout::MAX_NODES];
     price_all(
         words,
         values,
@@ -164,10 +156,10 @@ pub fn prune_tree(
         → HoldsTree (nodeLists (now (words .entry)) (now (values .entry)) (now (costs .entry)) (now (spans .entry))) count price tree lent
         → PrunedAs price tree lent (nodeLists (now (words .exit)) (now (values .exit)) (now (costs .exit)) (now (spans .exit))) r) ⌝ }
 {
-    let mut splits = [false; MAX_NODES];
+    let mut splits = [false; layout::MAX_NODES];
     let bits = price_nodes(words, values, costs, count, price, &mut splits);
-    let mut order = [0u32; MAX_NODES];
-    let mut places = [0u32; MAX_NODES];
+    let mut order = [0u32; layout::MAX_NODES];
+    let mut places = [0u32; layout::MAX_NODES];
     let nodes = preorder::order_nodes(words, &splits, count, &mut order, &mut places);
     moves::move_nodes(
         words,

@@ -53,7 +53,12 @@ pub fn unqueue(words: &mut [u32], values: &mut [i32], gains: &mut [f32], waiting
         (queueLists (now (words .exit)) (now (values .exit)) (now (gains .exit))) ⌝ }
 {
     let m = waiting - 1 - k;
-    lists::move_up_u32(words, k * 3, 3, m * 3);
+    lists::move_up_u32(
+        words,
+        k * layout::LEAF_WORDS,
+        layout::LEAF_WORDS,
+        m * layout::LEAF_WORDS,
+    );
     lists::move_up_i32(values, k, 1, m);
     lists::move_up_f32(gains, k, 1, m);
 }
@@ -78,7 +83,7 @@ pub fn enqueue(
     let Offer::Split { prop, val, gain } = offer else {
         return waiting;
     };
-    let at = waiting * 3;
+    let at = waiting * layout::LEAF_WORDS;
     words[at] = node as u32;
     words[at + 1] = prop;
     words[at + 2] = depth;

@@ -21,11 +21,6 @@ pub struct MaNode {
     pub info: NodeInfo,
 }
 
-// A node's words are kind, property, gt, le and predictor; its values are threshold and offset.
-const NODE_WORDS: usize = 5;
-
-const NODE_VALUES: usize = 2;
-
 // Record m goes to place i of the number lists.
 fn put_node<'a>(
     i: usize,
@@ -40,14 +35,14 @@ fn put_node<'a>(
     ensures { λ _. ⌜ now (values .exit) ≡ putValues i (m .val) (m .info .offset) (now (values .entry)) ⌝ }
     ensures { λ _. ⌜ now (costs .exit) ≡ set (now (costs .entry)) i (m .info .cost) ⌝ }
 {
-    let at = i * NODE_WORDS;
+    let at = i * layout::NODE_WORDS;
     words[at] = m.kind;
     words[at + 1] = m.prop;
     words[at + 2] = m.gt;
     words[at + 3] = m.le;
     let info = m.info;
     words[at + 4] = info.pred;
-    let value_at = i * NODE_VALUES;
+    let value_at = i * layout::NODE_VALUES;
     let val = m.val;
     values[value_at] = val;
     let offset = info.offset;
@@ -60,8 +55,8 @@ fn node_of<'a>(i: usize, words: &'a [u32], values: &'a [i32], costs: &'a [f32]) 
     requires { ⌜ HasPlace i (now words) (now values) (now costs) ⌝ }
     ensures { λ r. ⌜ r ≡ nodeOf (now (words .entry)) (now (values .entry)) (now (costs .entry)) i ⌝ }
 {
-    let at = i * NODE_WORDS;
-    let value_at = i * NODE_VALUES;
+    let at = i * layout::NODE_WORDS;
+    let value_at = i * layout::NODE_VALUES;
     let info = NodeInfo {
         cost: costs[i],
         pred: words[at + 4],

@@ -25,8 +25,8 @@ fn pair_spans(space: &[u32], spans: &mut [u32], count: usize)
     ensures { λ _. ⌜ Pairs count count (now (space .entry)) (now (spans .entry)) (now (spans .exit)) ⌝ }
 {
     for k in 0..count {
-        spans[k * 2] = space[k];
-        spans[k * 2 + 1] = space[count + k];
+        spans[k * layout::SPAN_ROWS] = space[k];
+        spans[k * layout::SPAN_ROWS + 1] = space[count + k];
     }
 }
 
@@ -66,11 +66,11 @@ fn keep_split(words: &mut [u32], values: &mut [i32], costs: &mut [f32], spans: &
         ≡ put i (seedSplit (nodeAt (now (words .entry)) (now (values .entry)) i) 0)
         (nodeLists (now (words .entry)) (now (values .entry)) (now (costs .entry)) (now (spans .entry))) ⌝ }
 {
-    words[i * 5 + 4] = 0;
-    values[i * 2 + 1] = 0;
+    words[i * layout::NODE_WORDS + 4] = 0;
+    values[i * layout::NODE_VALUES + 1] = 0;
     costs[i] = ieee::infinity();
-    spans[i * 2] = 0;
-    spans[i * 2 + 1] = 0;
+    spans[i * layout::SPAN_ROWS] = 0;
+    spans[i * layout::SPAN_ROWS + 1] = 0;
 }
 
 // A node without rows: a split, or a leaf that keeps its predictor and offset and costs nothing.
@@ -88,14 +88,14 @@ pub fn keep_node(
         (infoAt (nodeLists (now (words .entry)) (now (values .entry)) (now (costs .entry)) (now (spans .entry))) i))
         (nodeLists (now (words .entry)) (now (values .entry)) (now (costs .entry)) (now (spans .entry))) ⌝ }
 {
-    if words[i * 5] == 1 {
+    if words[i * layout::NODE_WORDS] == 1 {
         keep_split(words, values, costs, spans, i);
         return;
     }
     let info = NodeInfo {
         cost: 0.0,
-        pred: words[i * 5 + 4],
-        offset: values[i * 2 + 1],
+        pred: words[i * layout::NODE_WORDS + 4],
+        offset: values[i * layout::NODE_VALUES + 1],
     };
     nodes::put_leaf(words, values, costs, spans, i, info, 0, 0);
 }

@@ -9,11 +9,6 @@ ghost use Rattle.layout.specs.Tree.{NodeLists};
 ghost use Rattle.rows.specs.Flat.{flat, Changed};
 ghost use Rattle.settle.specs.Leaves.{leafTokens, LeafSettles, Settleable, HoldsLeaves};
 
-// A node's words are kind, property, gt, le and predictor; its span is two rows.
-const NODE_WORDS: usize = 5;
-
-const SPAN_ROWS: usize = 2;
-
 // The mode step on the span of node i, if it is a leaf.
 fn settle_leaf(
     words: &[u32],
@@ -28,10 +23,10 @@ fn settle_leaf(
     ensures { λ _. ⌜ now (tok .exit) ≡ leafTokens (now (words .entry)) (now (spans .entry)) uses (now (res .entry)) i (now (tok .entry)) ⌝ }
     ensures { λ _. ⌜ now (counts .exit) ≡ now (counts .entry) ⌝ }
 {
-    if words[i * NODE_WORDS] == 1 {
+    if words[i * layout::NODE_WORDS] == 1 {
         return;
     }
-    let at = i * SPAN_ROWS;
+    let at = i * layout::SPAN_ROWS;
     let first = spans[at] as usize;
     let end = spans[at + 1] as usize;
     mode::mode_step(uses, tok, res, first, end, counts);

@@ -22,25 +22,12 @@ pub mod answers;
 use answers::Fault;
 use answers::NodeNumber;
 
-// A node's words are kind, property, gt, le and predictor; its values are threshold and offset.
-const NODE_WORDS: usize = 5;
-
-const NODE_VALUES: usize = 2;
-
-// Properties of a row, and predictors.
-const NUM_MA_PROPS: usize = 24;
-
-const NUM_MA_PREDS: u32 = 14;
-
-// Most nodes of a sound tree.
-const MAX_NODES: usize = 8191;
-
 // How many nodes have all their words and values.
 pub fn nodes_held(words: &[u32], values: &[i32]) -> usize
     ensures { λ r. ⌜ r ≡ nodesHeld (now (words .entry)) (now (values .entry)) ⌝ }
 {
-    let by_words = words.len() / NODE_WORDS;
-    let by_values = values.len() / NODE_VALUES;
+    let by_words = words.len() / layout::NODE_WORDS;
+    let by_values = values.len() / layout::NODE_VALUES;
     if by_words < by_values {
         by_words
     } else {
@@ -52,7 +39,7 @@ pub fn is_split(words: &[u32], node: NodeNumber) -> bool
     requires { ⌜ HasWords (now words) (node .0) ⌝ }
     ensures { λ r. ⌜ r ≡ eqb (kindAt (now (words .entry)) (node .0)) 1 ⌝ }
 {
-    let at = node.0 as usize * NODE_WORDS;
+    let at = node.0 as usize * layout::NODE_WORDS;
     words[at] == 1
 }
 
@@ -60,7 +47,7 @@ pub fn gt_of(words: &[u32], node: NodeNumber) -> u32
     requires { ⌜ HasWords (now words) (node .0) ⌝ }
     ensures { λ r. ⌜ r ≡ gtAt (now (words .entry)) (node .0) ⌝ }
 {
-    let at = node.0 as usize * NODE_WORDS;
+    let at = node.0 as usize * layout::NODE_WORDS;
     words[at + 2]
 }
 
@@ -68,7 +55,7 @@ pub fn le_of(words: &[u32], node: NodeNumber) -> u32
     requires { ⌜ HasWords (now words) (node .0) ⌝ }
     ensures { λ r. ⌜ r ≡ leAt (now (words .entry)) (node .0) ⌝ }
 {
-    let at = node.0 as usize * NODE_WORDS;
+    let at = node.0 as usize * layout::NODE_WORDS;
     words[at + 3]
 }
 
@@ -79,14 +66,14 @@ fn is_orderly(words: &[u32], count: u32, node: NodeNumber) -> bool
     ensures { λ r. ⌜ ((values : List ℤ) → r ≡ isOrderlyAt (now (words .entry)) values count (node .0)) ⌝ }
 {
     let i = node.0;
-    let at = i as usize * NODE_WORDS;
+    let at = i as usize * layout::NODE_WORDS;
     if words[at] != 1 {
-        return words[at + 4] < NUM_MA_PREDS;
+        return words[at + 4] < layout::NUM_MA_PREDS;
     }
     let prop = words[at + 1] as usize;
     let gt = words[at + 2];
     let le = words[at + 3];
-    (prop < NUM_MA_PROPS) & (((i < gt) & (i < le)) & ((gt < count) & (le < count)))
+    (prop < layout::NUM_MA_PROPS) & (((i < gt) & (i < le)) & ((gt < count) & (le < count)))
 }
 
 // One step down from a split: a property above the value leads to gt, else to le.
@@ -95,9 +82,9 @@ fn towards(words: &[u32], values: &[i32], props: &[i32], node: NodeNumber) -> No
     ensures { λ r. ⌜ r .0 ≡ childAt (now (words .entry)) (now (values .entry)) (now (props .entry)) (node .0) ⌝ }
 {
     let i = node.0 as usize;
-    let at = i * NODE_WORDS;
+    let at = i * layout::NODE_WORDS;
     let prop = words[at + 1] as usize;
-    if values[i * NODE_VALUES] < props[prop] {
+    if values[i * layout::NODE_VALUES] < props[prop] {
         return NodeNumber(words[at + 2]);
     }
     NodeNumber(words[at + 3])
@@ -124,8 +111,8 @@ pub fn leaf_numbers(words: &[u32], values: &[i32], count: u32, props: &[i32], nu
 {
     let rows = number.len();
     for row in 0..rows {
-        let at = row * NUM_MA_PROPS;
-        let end = at + NUM_MA_PROPS;
+        let at = row * layout::NUM_MA_PROPS;
+        let end = at + layout::NUM_MA_PROPS;
         let leaf = leaf_reached(words, values, count, &props[at..end]);
         number[row] = leaf.0;
     }
@@ -201,10 +188,10 @@ pub fn fault_of(words: &[u32], count: u32) -> Fault
     requires { ⌜ HasNodes (now words) count ⌝ }
     ensures { λ r. ⌜ OfTree (now (words .entry)) count (λ (t : List (Record singles)). faultNamed r ≡ faultOf t) ⌝ }
 {
-    if (count == 0) | (MAX_NODES < count as usize) {
+    if (count == 0) | (layout::MAX_NODES < count as usize) {
         return Fault::At(0);
     }
-    let mut parents = [0u16; MAX_NODES];
+    let mut parents = [0u16; layout::MAX_NODES];
     count_parents(words, count, &mut parents);
     lowest_fault(words, count, &parents)
 }

@@ -9,11 +9,6 @@ use answers::Leaf;
 use records::MaNode;
 use tree::answers::NodeNumber;
 
-// Properties of a row, and predictors.
-const NUM_MA_PROPS: usize = 24;
-
-const NUM_MA_PREDS: u32 = 14;
-
 // A split's kind. Any other is a leaf's.
 const SPLIT: u32 = 1;
 
@@ -59,7 +54,7 @@ fn refuse(number: u32, node: NodeNumber) -> Way
 pub fn begin(room: usize, count: u32, props: &[i32]) -> Way
     ensures { λ r. ⌜ r ≡ begun room count (now (props .entry)) ⌝ }
 {
-    if props.len() != NUM_MA_PROPS {
+    if props.len() != layout::NUM_MA_PROPS {
         return refuse(9, NodeNumber(0));
     }
     if (count == 0) | (room < count as usize) {
@@ -74,7 +69,7 @@ fn end_at(m: MaNode, node: NodeNumber) -> Way
     ensures { λ r. ⌜ ((count : ℕ) (ps : List ℤ) → r ≡ stepped m (node .0) count ps) ⌝ }
 {
     let info = m.info;
-    if NUM_MA_PREDS <= info.pred {
+    if layout::NUM_MA_PREDS <= info.pred {
         return refuse(8, node);
     }
     Way {
@@ -100,7 +95,7 @@ fn follow(m: MaNode, node: NodeNumber, count: u32, props: &[i32]) -> Way
     let prop = m.prop as usize;
     let gt = m.gt;
     let le = m.le;
-    if !((prop < NUM_MA_PROPS) & (((i < gt) & (i < le)) & ((gt < count) & (le < count)))) {
+    if !((prop < layout::NUM_MA_PROPS) & (((i < gt) & (i < le)) & ((gt < count) & (le < count)))) {
         return refuse(8, node);
     }
     if m.val < props[prop] {
