@@ -18,8 +18,8 @@ use Rattle.model.proofs.Sound as model
 use Rattle.model.proofs.Sound.{Rooted}
 use Rattle.model.proofs.Slices.{slice-join, slice-ext}
 use Rattle.model.proofs.BreadthFirst.{childrenOf, Breadth, begun, order-done, inside, few, visit, all-visited}
-use Rattle.layout.specs.Layout.{kindAt, gtAt, leAt, nodesHeld, storedIn}
-use Rattle.tree.specs.Trees.{nodeAt, OfTree, SoundTree}
+use Rattle.layout.specs.Layout.{kindAt, gtAt, leAt, nodesHeld, storedIn, nodeAt}
+use Rattle.tree.specs.Trees.{OfTree, SoundTree}
 use Rattle.tree.proofs.Entries.{nodes-length, node-at}
 use Rattle.tree.proofs.Soundness.{zeros, bare-held}
 use Rattle.tree.proofs.Soundness as tree

@@ -5,8 +5,7 @@ use mathlib.Core.Bool.{Bool, true, cond}
 use mathlib.Core.List.{List}
 use lib.ListN.{length, set}
 use lib.Dec.{eqb}
-use Rattle.layout.specs.Layout.{kindAt}
-use Rattle.tree.specs.Trees.{HasWords}
+use Rattle.layout.specs.Layout.{kindAt, HasWords}
 
 -- a split's children go to the end of the queue, gt before le
 abbrev pub queued : Bool → ℕ → ℕ → ℕ → List ℕ → List ℕ
@@ -18,5 +17,5 @@ endAfter is-split end = cond is-split (end + 2) end
 
 -- node i is there, and two places in the queue if it is a split
 pub record Queueable (words : List ℕ) (i end : ℕ) (queue : List ℕ) : Type 0 where
-  pub words-there : HasWords words i
+  pub words-there : HasWords words (i + 1)
   pub room : eqb (kindAt words i) 1 ≡ true → end + 2 ≤ length queue

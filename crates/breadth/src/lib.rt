@@ -9,7 +9,7 @@ ghost use Rattle.model.specs.Contexts.{breadthOrder};
 ghost use Rattle.layout.specs.Layout.{kindAt, gtAt, leAt};
 ghost use Rattle.tree.specs.Trees.{OfTree, SoundTree};
 ghost use Rattle.breadth.specs.Queue.{queued, endAfter, Queueable};
-use tree::answers::NodeNumber;
+use layout::NodeNumber;
 
 // The children of a node, if it is a split, go to the end of the queue, gt before le.
 fn queue_children(words: &[u32], node: NodeNumber, end: usize, queue: &mut [u32]) -> usize
@@ -18,9 +18,9 @@ fn queue_children(words: &[u32], node: NodeNumber, end: usize, queue: &mut [u32]
     ensures { λ _. ⌜ now (queue .exit) ≡ queued (eqb (kindAt (now (words .entry)) (node .0)) 1)
         (gtAt (now (words .entry)) (node .0)) (leAt (now (words .entry)) (node .0)) end (now (queue .entry)) ⌝ }
 {
-    if tree::is_split(words, node) {
-        let gt = tree::gt_of(words, node);
-        let le = tree::le_of(words, node);
+    if layout::is_split(words, node) {
+        let gt = layout::gt_of(words, node);
+        let le = layout::le_of(words, node);
         queue[end] = gt;
         queue[end + 1] = le;
         return end + 2;

@@ -22,8 +22,8 @@ use Rattle.model.proofs.Sound.{Rooted}
 use Rattle.model.proofs.Preorder.{mem-getD}
 use Rattle.model.proofs.Tally.{tree-count}
 use Rattle.model.proofs.BreadthFirst.{leafAt, numberedAlong, along-end, along-split, along-leaf, contexts-along, order-inside, order-leaves}
-use Rattle.layout.specs.Layout.{kindAt, nodesHeld, storedIn}
-use Rattle.tree.specs.Trees.{nodeAt, OfTree, SoundTree}
+use Rattle.layout.specs.Layout.{kindAt, nodesHeld, storedIn, nodeAt}
+use Rattle.tree.specs.Trees.{OfTree, SoundTree}
 use Rattle.tree.proofs.Entries.{nodes-length, node-at}
 use Rattle.tree.proofs.Soundness.{zeros, bare-held, few}
 use Rattle.contexts.specs.Numbering.{Numbering, numbering, given, Giveable}

@@ -4,7 +4,8 @@ use mathlib.Core.Path.{_≡_}
 use mathlib.Core.List.{List}
 use lib.ListN.{length, set}
 use Rattle.model.specs.Tree.{Node, split, leaf}
-use Rattle.tree.specs.Trees.{HasWords, SoundTree}
+use Rattle.layout.specs.Layout.{HasWords}
+use Rattle.tree.specs.Trees.{SoundTree}
 
 -- the next context, and the list of contexts
 pub record Numbering : Type 0 where
@@ -21,7 +22,7 @@ given leaf i n = numbering (n .next + 1) (set (n .contexts) i (n .next))
 
 -- node i is there, and a place for its context
 pub record Giveable (words : List ℕ) (i next : ℕ) (contexts : List ℕ) : Type 0 where
-  pub words-there : HasWords words i
+  pub words-there : HasWords words (i + 1)
   pub place : i < length contexts
   pub next-fits : next < 4294967295
 

@@ -10,12 +10,12 @@ ghost use Rattle.model.specs.Tree.{Record, nodesOf};
 ghost use Rattle.model.specs.Learn.{leafCount};
 ghost use Rattle.model.specs.Contexts.{contextsOf};
 ghost use Rattle.model.specs.Operations.{leafContexts};
-ghost use Rattle.layout.specs.Layout.{storedIn};
-ghost use Rattle.tree.specs.Trees.{nodeAt, OfTree};
+ghost use Rattle.layout.specs.Layout.{storedIn, nodeAt};
+ghost use Rattle.tree.specs.Trees.{OfTree};
 ghost use Rattle.contexts.specs.Numbering.{numbering, given, Giveable, Numerable};
 ghost use Rattle.contexts.specs.Answers.{contextsAfter};
+use layout::NodeNumber;
 use tree::answers::Fault;
-use tree::answers::NodeNumber;
 
 // What a split has in place of a context.
 const NO_CONTEXT: u32 = 4294967295;
@@ -41,7 +41,7 @@ fn give_context(
         ≡ given (nodeAt (now (words .entry)) values (node .0)) (node .0)
         (numbering (next .0) (now (contexts .entry)))) ⌝ }
 {
-    if tree::is_split(words, node) {
+    if layout::is_split(words, node) {
         return next;
     }
     contexts[node.0 as usize] = next.0;

@@ -63,7 +63,7 @@ fn plant_root(
         counts,
     );
     let info = root.info;
-    nodes::put_leaf(words, values, costs, spans, 0, info, 0, rows);
+    layout::put_leaf(words, values, costs, spans, 0, info, 0, rows);
     let offer = root.offer;
     let waiting = queue::enqueue(queue_words, queue_values, queue_gains, 0, 0, 0, offer);
     Tree {

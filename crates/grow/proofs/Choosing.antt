@@ -18,17 +18,17 @@ use Rattle.model.proofs.Each.{each-getD}
 use Rattle.model.proofs.Growing.{Fine}
 use Rattle.checks.specs.declared.Settings.{Settings}
 use Rattle.layout.specs.declared.Tree.{Tree}
-use Rattle.layout.specs.Tree.{NodeLists, HasRoom}
-use Rattle.layout.specs.Waiting.{QueueLists, Queued, QueueRoom, queueOf, firstBest}
+use Rattle.layout.specs.Tree.{rowsPerSpan, NodeLists, HasRoom, HasSpans}
+use Rattle.layout.specs.Waiting.{QueueLists, Queued, QueueRoom, queueOf, firstBest, PendingAt}
 use Rattle.layout.proofs.Held.{room-fewer, holding-room, held-first, held-end, held-cost}
 use Rattle.layout.proofs.Queue.{choice-is, choice-some, bestOf, chosenAt, best-below, StandsIn, stands, fewer-room}
 use Rattle.layout.proofs.Queue.{best-queued, queued-node, queued-prop, queued-depth, queued-val}
 use Rattle.rows.specs.Cells.{span}
 use Rattle.rows.specs.Flat.{Flat, rowCount}
 use Rattle.rows.proofs.Cells.{length-held}
-use Rattle.grow.specs.Parts.{PendingAt, RowsFit}
+use Rattle.grow.specs.Parts.{RowsFit}
 use Rattle.state.specs.Grows.{jobIn, Number, Grows}
-use Rattle.grow.specs.declared.Pending.{Pending}
+use Rattle.layout.specs.declared.Pending.{Pending}
 
 -- the rows of the state are those that the lists hold
 pub rows-many : {s : Settings} {logs : List Float} {counts : List ℕ} {x : Flat} {lists : NodeLists} {q : QueueLists} {tree : Tree} {more : ℕ}
@@ -103,7 +103,7 @@ module _ {s : Settings} {logs : List Float} {counts : List ℕ} {x : Flat} {list
   queue-room = fewer-room (g .queue-room) (omega arith)
 
   -- ---- what the code reads
-  module _ (p : Pending) (is : PendingAt (q .words) (q .values) k p) where
+  module _ (p : Pending) (is : PendingAt q k p) where
     pub node-is : p .node ≡ w .node
     node-is = is .node ∙ queued-node queued k inside
 
@@ -116,9 +116,9 @@ module _ {s : Settings} {logs : List Float} {counts : List ℕ} {x : Flat} {list
     pub val-is : p .val ≡ w .offer .val
     val-is = is .val ∙ queued-val queued k inside
 
-    pub spans-room : p .node * 2 + 2 ≤ length (lists .spans)
+    pub spans-room : HasSpans (lists .spans) (p .node + 1)
     spans-room =
-        let h : suc (p .node) * 2 ≤ (tree .nodes + 2) * 2 = mul-le-mul-right 2 (omega (arith, node-is, node-inside)) in
+        let h : suc (p .node) * rowsPerSpan ≤ (tree .nodes + 2) * rowsPerSpan = mul-le-mul-right rowsPerSpan (omega (arith, node-is, node-inside)) in
         let room = lists-room .spans in
         omega arith
 

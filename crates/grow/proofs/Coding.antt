@@ -17,12 +17,12 @@ use Rattle.checks.specs.declared.Settings.{Settings}
 use Rattle.layout.specs.declared.Tree.{Tree}
 use Rattle.layout.specs.Tree.{NodeLists, HasRoom}
 use Rattle.layout.specs.Values.{offerIs}
-use Rattle.layout.specs.Waiting.{QueueLists, Queued, SameQueue, queueOf, without, waits, firstBest}
+use Rattle.layout.specs.Waiting.{QueueLists, Queued, SameQueue, queueOf, without, waits, firstBest, PendingAt}
 use Rattle.rows.specs.Cells.{span}
 use Rattle.rows.specs.Flat.{Flat}
-use Rattle.grow.specs.Parts.{PendingAt, RowsSplit, splitNodes}
+use Rattle.grow.specs.Parts.{RowsSplit, splitNodes}
 use Rattle.state.specs.Grows.{jobIn, Number, Grows}
-use Rattle.grow.specs.declared.Pending.{Pending}
+use Rattle.layout.specs.declared.Pending.{Pending}
 use Rattle.grow.specs.declared.Sides.{Sides}
 use Rattle.grow.proofs.Choosing as choosing
 use Rattle.grow.proofs.Stepping as stepping
@@ -30,7 +30,7 @@ use Rattle.grow.proofs.Stepping as stepping
 module _ {s : Settings} {logs : List Float} {counts : List ℕ} {x : Flat} {lists : NodeLists} {q : QueueLists} {tree : Tree} {left : ℕ}
     {lent : NodeLists} {st : State singles} {seeds : ℕ → Bool} {given : List Row} (g : Grows s logs counts x lists q tree left lent st seeds given)
     (k : ℕ) (one : 0 < left) (wait : 0 < tree .waiting) (best : k ≡ firstBest (q .gains) (tree .waiting))
-    (p : Pending) (is : PendingAt (q .words) (q .values) k p)
+    (p : Pending) (is : PendingAt q k p)
     (first end : ℕ) (from : first ≡ getD (lists .spans) (p .node * 2) 0) (upto : end ≡ getD (lists .spans) (p .node * 2 + 1) 0)
     {y : Flat} {r : Sides} (cut : RowsSplit (ltb 1 left) s logs counts (p .depth + 1) (p .prop) (p .val) (span first end) x y r) where
   abbrev w : Waiting singles

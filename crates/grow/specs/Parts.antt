@@ -1,10 +1,10 @@
 -- What the parts of one split leave in the rows, the nodes and the queue (document 01, "Growth"). Assumes nothing.
-use Prim.Native.Nat.{ℕ, _+_, _*_}
+use Prim.Native.Nat.{ℕ, _+_}
 use mathlib.Core.Path.{_≡_}
 use mathlib.Core.Bool.{Bool}
 use mathlib.Core.List.{List, _++_}
-use lib.ListN.{length, getD, take, drop}
-use lib.IntN.{ℤ, pos}
+use lib.ListN.{length, take, drop}
+use lib.IntN.{ℤ}
 use lib.Ieee.{Float}
 use Rattle.model.specs.Rows.{Row, Span, isAbove, within}
 use Rattle.model.specs.Mode.{spanMode, fresh}
@@ -18,15 +18,6 @@ use Rattle.rows.specs.Parted.{Divisible}
 use Rattle.node.specs.Evaluated.{Evaluated}
 use Rattle.state.specs.Fitting.{usesOf, Fitting}
 use Rattle.grow.specs.declared.Sides.{Sides}
-use Rattle.grow.specs.declared.Pending.{Pending}
-
--- ---- the queue
--- the leaf that waits at place k: three words and a value
-pub record PendingAt (words : List ℕ) (values : List ℤ) (k : ℕ) (r : Pending) : Type 0 where
-  pub node : r .node ≡ getD words (k * 3) 0
-  pub prop : r .prop ≡ getD words (k * 3 + 1) 0
-  pub depth : r .depth ≡ getD words (k * 3 + 2) 0
-  pub val : r .val ≡ getD values k (pos 0)
 
 -- ---- the rows
 -- "Rows above the threshold go first; both parts take their own mode": the rows of gt, and of le

@@ -3,8 +3,7 @@
 ghost use mathlib.Core.Path.{_≡_};
 ghost use mathlib.Core.Bool.{Bool};
 ghost use mathlib.Core.List.{List, _++_};
-ghost use Prim.Native.Nat.{ℕ, _+_, _-_, _*_, _<_, _≤_};
-ghost use lib.ListN.{length, getD};
+ghost use Prim.Native.Nat.{ℕ, _+_, _-_, _<_, _≤_};
 ghost use lib.Ieee.{binary32, add, sub};
 ghost use Rattle.model.specs.Settings.{maxRows, maxNodes};
 ghost use Rattle.model.specs.Rows.{Row};
@@ -16,7 +15,7 @@ ghost use Rattle.layout.specs.Values.{offerIs};
 ghost use Rattle.layout.specs.Waiting.{queueLists, Queued, QueueRoom, SameQueue, without, waits};
 ghost use Rattle.rows.specs.Cells.{span};
 ghost use Rattle.rows.specs.Flat.{flat};
-ghost use Rattle.grow.specs.Parts.{PendingAt, RowsFit, RowsSplit, splitNodes};
+ghost use Rattle.grow.specs.Parts.{RowsFit, RowsSplit, splitNodes};
 ghost use Rattle.state.specs.Grows.{jobIn, Number, Grows, Growable};
 ghost use Rattle.grow.specs.Grown.{Splits, GrownTo};
 use checks::Settings;
@@ -83,9 +82,9 @@ fn split_nodes(
         ≡ splitNodes i prop val count gt le first at end
         (nodeLists (now (words .entry)) (now (values .entry)) (now (costs .entry)) (now (spans .entry))) ⌝ }
 {
-    nodes::put_split(words, values, i, prop, val, count as u32);
-    nodes::put_leaf(words, values, costs, spans, count, gt, first, at);
-    nodes::put_leaf(words, values, costs, spans, count + 1, le, at, end);
+    layout::put_split(words, values, i, prop, val, count as u32);
+    layout::put_leaf(words, values, costs, spans, count, gt, first, at);
+    layout::put_leaf(words, values, costs, spans, count + 1, le, at, end);
 }
 
 // The leaf at place k no longer waits, and the new leaves wait if they offer a split. Returns how many wait.
@@ -122,45 +121,6 @@ fn grown_bits(bits: f64, gt: f32, le: f32, parent: f32) -> f64
 
 // ---- one split
 
-// A waiting leaf, and the split that it offers.
-struct Pending {
-    node: usize,
-    prop: u32,
-    val: i32,
-    depth: u32,
-}
-
-fn pending_at(words: &[u32], values: &[i32], k: usize) -> Pending
-    requires { ⌜ (k * 3 + 3 ≤ length (now words)) × (k < length (now values)) ⌝ }
-    ensures { λ r. ⌜ PendingAt (now (words .entry)) (now (values .entry)) k r ⌝ }
-{
-    let node = words[k * layout::LEAF_WORDS] as usize;
-    let prop = words[k * layout::LEAF_WORDS + 1];
-    let depth = words[k * layout::LEAF_WORDS + 2];
-    let val = values[k];
-    Pending {
-        node,
-        prop,
-        val,
-        depth,
-    }
-}
-
-// The rows of a node.
-struct Bounds {
-    first: usize,
-    end: usize,
-}
-
-fn bounds_of(spans: &[u32], i: usize) -> Bounds
-    requires { ⌜ i * 2 + 2 ≤ length (now spans) ⌝ }
-    ensures { λ r. ⌜ (r .first ≡ getD (now (spans .entry)) (i * 2) 0) × (r .end ≡ getD (now (spans .entry)) (i * 2 + 1) 0) ⌝ }
-{
-    let first = spans[i * layout::SPAN_ROWS] as usize;
-    let end = spans[i * layout::SPAN_ROWS + 1] as usize;
-    Bounds { first, end }
-}
-
 // Splits the leaf that waits at place k. After the last split nothing reads what the new leaves offer, so they are not scored.
 fn split_leaf(
     props: &mut [i32],
@@ -192,14 +152,14 @@ fn split_leaf(
         lent (step (jobIn s (now (logs .entry)) (flat (now (props .entry)) (now (tok .entry)) (now (res .entry)))) st) seeds given) ⌝ }
     ensures { λ _. ⌜ now (counts .exit) ≡ now (counts .entry) ⌝ }
 {
-    let p = pending_at(queue_words, queue_values, k);
-    let i = p.node;
+    let p = layout::pending_at(queue_words, queue_values, queue_gains, k);
+    let i = p.node as usize;
     let prop = p.prop;
     let val = p.val;
     let depth = p.depth + 1;
-    let b = bounds_of(spans, i);
-    let first = b.first;
-    let end = b.end;
+    let b = layout::span_at(spans, i);
+    let first = b.first as usize;
+    let end = b.end as usize;
     let cost = costs[i];
     let sides = split_rows(
         props,

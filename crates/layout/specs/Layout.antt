@@ -1,11 +1,14 @@
 -- How a node list stands in three flat lists of numbers: five words, two values and one cost a node. Assumes nothing.
-use Prim.Native.Nat.{ℕ, _+_, _*_, _/_, min}
+use Prim.Native.Nat.{ℕ, _+_, _*_, _/_, _≤_, min}
+use mathlib.Core.Bool.{cond}
 use mathlib.Core.List.{List, map}
 use lib.ListN.{length, getD, set}
 use lib.IntN.{ℤ, pos}
+use lib.Dec.{eqb}
 use lib.Ieee.{Float, nan}
 use Rattle.model.specs.Lists.{range}
 use Rattle.model.specs.Single.{singles}
+use Rattle.model.specs.Tree.{Node, split, leaf}
 use Rattle.model.specs.Lent.{Stored}
 
 abbrev pub wordsPerNode : ℕ
@@ -48,6 +51,23 @@ storedAt words values costs i =
       le = leAt words i;
       info = record { cost = getD costs i nan; pred = predAt words i; offset = offsetAt values i };
     }
+
+-- the words, and the values, of the first n nodes are there; node i is there if the first i + 1 are
+abbrev pub HasWords : List ℕ → ℕ → Type 0
+HasWords words n = n * wordsPerNode ≤ length words
+
+abbrev pub HasValues : List ℤ → ℕ → Type 0
+HasValues values n = n * valuesPerNode ≤ length values
+
+-- and their costs
+pub record HasNodes (n : ℕ) (words : List ℕ) (values : List ℤ) (costs : List Float) : Type 0 where
+  pub words-there : HasWords words n
+  pub values-there : HasValues values n
+  pub costs-there : n ≤ length costs
+
+-- node i, as the words and the thresholds have it
+abbrev pub nodeAt : List ℕ → List ℤ → ℕ → Node
+nodeAt words values i = cond (eqb (kindAt words i) 1) (split (propAt words i) (valAt values i) (gtAt words i) (leAt words i)) leaf
 
 -- how many nodes have all their words and values
 abbrev pub nodesHeld : List ℕ → List ℤ → ℕ

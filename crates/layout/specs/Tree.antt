@@ -3,7 +3,7 @@
 use Prim.Native.Nat.{ℕ, _+_, _*_, _≤_}
 use mathlib.Core.List.{List, [], _∷_, _++_}
 use mathlib.Core.Option.{none}
-use lib.ListN.{length, set}
+use lib.ListN.{length, getD, set}
 use lib.IntN.{ℤ, pos}
 use lib.Ieee.{Float}
 use lib.Seq.{paste}
@@ -11,12 +11,26 @@ use Rattle.model.specs.Lists.{writtenOver}
 use Rattle.model.specs.Single.{singles}
 use Rattle.model.specs.Tree.{Node, split, leaf}
 use Rattle.model.specs.Grow.{Entry}
-use Rattle.layout.specs.Layout.{wordsPerNode, valuesPerNode}
+use Rattle.layout.specs.Layout.{wordsPerNode, valuesPerNode, HasWords, HasValues}
 use Rattle.layout.specs.Values.{infoIs}
 use Rattle.layout.specs.declared.NodeInfo.{NodeInfo}
 
 abbrev pub rowsPerSpan : ℕ
 rowsPerSpan = 2
+
+-- a node's span: the first row, and the row behind the last
+abbrev pub firstAt : List ℕ → ℕ → ℕ
+firstAt spans i = getD spans (i * rowsPerSpan) 0
+
+abbrev pub endAt : List ℕ → ℕ → ℕ
+endAt spans i = getD spans (i * rowsPerSpan + 1) 0
+
+abbrev pub putSpan : ℕ → ℕ → ℕ → List ℕ → List ℕ
+putSpan i first end spans = set (set spans (i * rowsPerSpan) first) (i * rowsPerSpan + 1) end
+
+-- the spans of the first n nodes are there
+abbrev pub HasSpans : List ℕ → ℕ → Type 0
+HasSpans spans n = n * rowsPerSpan ≤ length spans
 
 -- one part of each entry, end to end
 abbrev pub laid : {E A : Type 0} → (E → List A) → List E → List A
@@ -67,10 +81,10 @@ holding tree lent =
 
 -- there is room for n nodes
 pub record HasRoom (n : ℕ) (x : NodeLists) : Type 0 where
-  pub words : n * wordsPerNode ≤ length (x .words)
-  pub values : n * valuesPerNode ≤ length (x .values)
+  pub words : HasWords (x .words) n
+  pub values : HasValues (x .values) n
   pub costs : n ≤ length (x .costs)
-  pub spans : n * rowsPerSpan ≤ length (x .spans)
+  pub spans : HasSpans (x .spans) n
 
 -- the lists with entry i written, as the code writes it
 unfoldable pub put : ℕ → Entry singles → NodeLists → NodeLists

@@ -1,18 +1,19 @@
 -- How three flat lists hold the queue of waiting leaves: three words (node, property, depth), a threshold and a gain a leaf, in the order of the nodes' numbers.
 -- The queue is a function of the tree: each leaf that offers a split waits (document 01, "Growth"). Assumes nothing.
-use Prim.Native.Nat.{ℕ, zero, suc, _*_, _≤_}
+use Prim.Native.Nat.{ℕ, zero, suc, _+_, _*_, _≤_}
 use mathlib.Core.Path.{_≡_}
 use mathlib.Core.Bool.{cond}
 use mathlib.Core.List.{List, [], _∷_, _++_}
 use mathlib.Core.Option.{Option, none, some}
-use lib.ListN.{length, getD, take, drop}
-use lib.IntN.{ℤ}
+use lib.ListN.{length, getD, set, take, drop}
+use lib.IntN.{ℤ, pos}
 use lib.Ieee.{Float, nan, lt}
 use Rattle.model.specs.Single.{singles}
 use Rattle.model.specs.Job.{Offer}
 use Rattle.model.specs.Grow.{Entry}
 use Rattle.model.specs.Lent.{Waiting}
 use Rattle.layout.specs.Tree.{laid}
+use Rattle.layout.specs.declared.Pending.{Pending}
 
 abbrev pub wordsPerLeaf : ℕ
 wordsPerLeaf = 3
@@ -71,6 +72,20 @@ pub record SameQueue (q p : QueueLists) : Type 0 where
   pub words : length (p .words) ≡ length (q .words)
   pub values : length (p .values) ≡ length (q .values)
   pub gains : length (p .gains) ≡ length (q .gains)
+
+-- the leaf that waits at place k
+pub record PendingAt (q : QueueLists) (k : ℕ) (r : Pending) : Type 0 where
+  pub node : r .node ≡ getD (q .words) (k * wordsPerLeaf) 0
+  pub prop : r .prop ≡ getD (q .words) (k * wordsPerLeaf + 1) 0
+  pub depth : r .depth ≡ getD (q .words) (k * wordsPerLeaf + 2) 0
+  pub val : r .val ≡ getD (q .values) k (pos 0)
+  pub gain : r .gain ≡ getD (q .gains) k nan
+
+-- the words with those of the leaf at place k written
+abbrev pub putWaitWords : ℕ → ℕ → ℕ → ℕ → List ℕ → List ℕ
+putWaitWords k node prop depth words =
+    let at = k * wordsPerLeaf in
+    set (set (set words at node) (at + 1) prop) (at + 2) depth
 
 -- the first of the first n places with the greatest gain: at a tie the lower node number is taken
 unfoldable pub firstBest : List Float → ℕ → ℕ

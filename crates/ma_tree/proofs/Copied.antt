@@ -9,8 +9,9 @@ use lib.ListN.{length}
 use lib.IntN.{ℤ}
 use lib.Ieee.{Float}
 use Rattle.model.specs.Settings.{maxNodes}
-use Rattle.records.specs.Records.{wordsFrom, valuesFrom, costsFrom, HasPlaces}
-use Rattle.records.specs.declared.MaNode.{MaNode}
+use Rattle.records.specs.Records.{wordsFrom, valuesFrom, costsFrom}
+use Rattle.layout.specs.Layout.{HasNodes}
+use Rattle.layout.specs.declared.MaNode.{MaNode}
 use Rattle.records.proofs.Copies.{length-words, length-values, length-costs, read-back}
 use Rattle.numbers.specs.Numbers.{copied, Arrays, Numbered}
 
@@ -19,7 +20,7 @@ pub copied-fits : (room : ℕ) → copied room < 2 ^ 64
 copied-fits room = lt-of-le-of-lt (min-le-right room maxNodes) (lit< tt)
 
 module _ {words : List ℕ} {values : List ℤ} {costs : List Float} (long : Arrays words values costs) where
-  pub has-places : {n : ℕ} → n ≤ maxNodes → HasPlaces n words values costs
+  pub has-places : {n : ℕ} → n ≤ maxNodes → HasNodes n words values costs
   has-places h = record { words-there = omega (arith, h, long .words-long); values-there = omega (arith, h, long .values-long); costs-there = omega (arith, h, long .costs-long) }
 
   module _ (nodes : List MaNode) where

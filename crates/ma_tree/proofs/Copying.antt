@@ -30,11 +30,11 @@ use denote.Triple.Spec.{tripleOf}
 use denote.Triple.Statement.{Contract}
 use denote.Triple.Clauses.{ensured, lasts}
 use Rattle.model.specs.Settings.{maxNodes}
-use Rattle.records.specs.declared.MaNode.{MaNode}
+use Rattle.layout.specs.declared.MaNode.{MaNode}
 use Rattle.records.specs.Records.{wordsFrom, valuesFrom, costsFrom}
 use Rattle.records.proofs.Copies.{length-words, length-values, length-costs}
 use Rattle.records.proofs.Facts.{says-two}
-use Rattle.records.proofs.MaNode as N
+use Rattle.layout.proofs.MaNode as N
 use Rattle.records.proofs.Rows.{Lists, Spots, Names, SameLengths, Mutss, refs, valued, same, rows, lents, lend-all, back-all}
 use Rattle.records.proofs.from_records as from-records
 use Rattle.numbers.specs.Numbers.{copied}

@@ -35,8 +35,8 @@ use Rattle.checks.specs.Given.{settingsOf}
 use Rattle.checks.specs.declared.Settings.{Settings}
 use Rattle.checks.proofs.Settings as S
 use Rattle.checks.proofs.Settings.Laws as S′
-use Rattle.records.specs.declared.MaNode.{MaNode}
-use Rattle.records.proofs.MaNode as N
+use Rattle.layout.specs.declared.MaNode.{MaNode}
+use Rattle.layout.proofs.MaNode as N
 use Rattle.records.proofs.Rows.{Lists, Spots, Names, Mutss, refs, valued, same}
 use Rattle.answers.specs.declared.LearnedTree.{LearnedTree}
 use Rattle.numbers.specs.Lists as R

@@ -15,8 +15,8 @@ use Rattle.rows.specs.Flat.{flat}
 use Rattle.layout.specs.Waiting.{queueLists}
 use Rattle.checks.specs.Given.{settingsOf}
 use Rattle.checks.specs.declared.Settings.{Settings}
-use Rattle.records.specs.Records.{storedOf}
-use Rattle.records.specs.declared.MaNode.{MaNode}
+use Rattle.layout.specs.Records.{storedOf}
+use Rattle.layout.specs.declared.MaNode.{MaNode}
 use Rattle.answers.specs.Answers.{valueIn, foundIn, countIn, treeIn}
 use Rattle.answers.specs.declared.Count.{Count}
 use Rattle.answers.specs.declared.Leaf.{Leaf}

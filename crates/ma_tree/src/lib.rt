@@ -9,7 +9,7 @@ ghost use Rattle.model.specs.Pack.{packed};
 ghost use Rattle.model.specs.Token.{encodedOf};
 ghost use Rattle.model.specs.Operations.{lookup, tokenAnswer};
 ghost use Rattle.checks.specs.Given.{settingsOf};
-ghost use Rattle.records.specs.Records.{storedOf};
+ghost use Rattle.layout.specs.Records.{storedOf};
 ghost use Rattle.answers.specs.Answers.{valueIn, foundIn};
 ghost use Rattle.numbers.specs.Lists.{Worked};
 ghost use Rattle.ma_tree.specs.Runs.{listsNow, contextsNow, Learning, Deepening, Numbering, Sampling};
@@ -18,8 +18,8 @@ use answers::Leaf;
 use answers::LearnedTree;
 use answers::Read;
 use checks::Settings;
+use layout::MaNode;
 use model::Encoded;
-use records::MaNode;
 
 // ---- packing, tokens, even sampling
 

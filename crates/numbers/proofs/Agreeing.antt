@@ -26,7 +26,7 @@ use Rattle.lent.specs.Lists.{spansLent, spanAt, storedSpans}
 use Rattle.lent.proofs.Read.{spans-read, queue-read}
 use Rattle.lent.specs.Answer.{outcomeOf, after}
 use Rattle.lent.specs.declared.Learned.{Learned}
-use Rattle.records.specs.Records.{storedOf}
+use Rattle.layout.specs.Records.{storedOf}
 use Rattle.answers.specs.declared.LearnedTree.{LearnedTree}
 use Rattle.answers.specs.Answers.{treeIn as treeAnswer}
 use Rattle.numbers.specs.Lists.{Lists, lentIn, nodeRecord, listsAfter, readAfter, learnRecords, deepenRecords, workOf, workRecords, Worked}

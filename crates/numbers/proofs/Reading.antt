@@ -16,8 +16,8 @@ use Rattle.layout.specs.Layout.{wordsPerNode, valuesPerNode, storedAt, nodesHel
 use Rattle.layout.specs.Tree.{nodeLists}
 use Rattle.model.proofs.Places.{length-each, each-at}
 use Rattle.lent.specs.Lists.{nodesLent, storedNodes}
-use Rattle.records.specs.Records.{storedOf, noRecord}
-use Rattle.records.specs.declared.MaNode.{MaNode}
+use Rattle.layout.specs.Records.{storedOf, noRecord}
+use Rattle.layout.specs.declared.MaNode.{MaNode}
 use Rattle.numbers.specs.Numbers.{copied, Arrays, Numbered}
 use Rattle.numbers.proofs.Rooms.{contexts-cut}
 

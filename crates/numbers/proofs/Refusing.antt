@@ -15,7 +15,7 @@ use Rattle.model.proofs.Places.{length-each}
 use Rattle.lent.specs.Lists.{spansLent, leavesLent, spanAt, waitingAt, storedSpans, storedQueue}
 use Rattle.lent.specs.Answer.{after}
 use Rattle.lent.specs.declared.Learned.the-variants.{Refused as Denied}
-use Rattle.records.specs.Records.{storedOf}
+use Rattle.layout.specs.Records.{storedOf}
 use Rattle.numbers.specs.Lists.{Lists, lentIn, deepenRecords}
 use Rattle.numbers.proofs.Rooms.{too-many}
 

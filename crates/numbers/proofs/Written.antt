@@ -27,8 +27,9 @@ use Rattle.lent.specs.Answer.{after}
 use Rattle.lent.specs.declared.Learned.{Learned}
 use Rattle.lent.specs.Lists as core
 use Rattle.lent.proofs.Read.{learn-read, deepen-read}
-use Rattle.records.specs.Records.{storedOf, recordOf, noRecord, nodeOf, filled}
-use Rattle.records.specs.declared.MaNode.{MaNode}
+use Rattle.records.specs.Records.{filled}
+use Rattle.layout.specs.Records.{storedOf, recordOf, noRecord, nodeOf}
+use Rattle.layout.specs.declared.MaNode.{MaNode}
 use Rattle.records.proofs.Copies.{filled-same}
 use Rattle.numbers.specs.Lists.{Lists, lists, lentIn, nodeRecord, listsAfter, learnRecords, deepenRecords}
 use Rattle.numbers.specs.Numbers.{copied, Arrays, Numbered}

@@ -20,8 +20,8 @@ use Rattle.layout.specs.Tree.{laid}
 use Rattle.layout.specs.Waiting.{QueueLists}
 use Rattle.rows.specs.Flat.{Flat, flatOf, hasResiduals}
 use Rattle.lent.specs.Lists.{spanRows, storedSpans, storedQueue, clearQueue}
-use Rattle.records.specs.Records.{storedOf, recordOf}
-use Rattle.records.specs.declared.MaNode.{MaNode}
+use Rattle.layout.specs.Records.{storedOf, recordOf}
+use Rattle.layout.specs.declared.MaNode.{MaNode}
 use Rattle.answers.specs.declared.LearnedTree.{LearnedTree}
 use Rattle.answers.specs.Answers.{treeIn as treeAnswer}
 

@@ -30,7 +30,7 @@ use Rattle.checks.specs.Given.{settingsOf}
 use Rattle.checks.specs.declared.Settings.{Settings}
 use Rattle.layout.specs.declared.Leaf.{Leaf}
 use Rattle.layout.specs.Values.{infoIs, offerIs}
-use Rattle.layout.specs.Layout.{kindAt}
+use Rattle.layout.specs.Layout.{kindAt, nodeAt}
 use Rattle.layout.specs.declared.Tree.{Tree}
 use Rattle.layout.specs.Tree.{NodeLists, HasRoom, put, leafWith}
 use Rattle.layout.specs.Waiting.{QueueLists, Queued, QueueRoom, queueOf, waits, waitingFrom}
@@ -41,11 +41,10 @@ use Rattle.rows.specs.Cells.{span}
 use Rattle.rows.specs.Flat.{Flat, heldIn, rowCount, Spanned}
 use Rattle.rows.proofs.Cells.{span-length}
 use Rattle.rows.proofs.Shapes.{size-same}
-use Rattle.tree.specs.Trees.{nodeAt}
+use Rattle.layout.specs.Kept.{infoAt, keptNode}
 use Rattle.state.proofs.Numbers.{evaluated-number}
 use Rattle.state.specs.Fitting.{usesOf, Fitting}
 use Rattle.leaf.specs.Made.{settledAt, MadeLeaf}
-use Rattle.seed.specs.Kept.{infoAt, keptNode}
 use Rattle.plant.specs.Sown.{Sown, LeafPlanted, NextIs, NodePlanted}
 use Rattle.leaf.proofs.Making.{uses-still, made-fitting}
 

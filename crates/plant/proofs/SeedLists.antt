@@ -17,17 +17,17 @@ use Rattle.model.specs.Tree.{Node, split, leaf, Record, blankRecord, nodesOf, h
 use Rattle.model.specs.Lent.{recordIn}
 use Rattle.model.proofs.Written.{getD-unwritten}
 use Rattle.model.proofs.Sound.{sound-count}
-use Rattle.layout.specs.Layout.{kindAt, propAt, gtAt, leAt, predAt, valAt, storedAt, nodesHeld}
+use Rattle.layout.specs.Layout.{kindAt, propAt, gtAt, leAt, predAt, valAt, storedAt, nodesHeld, nodeAt}
 use Rattle.layout.specs.Tree.{NodeLists, HasRoom, holding, laid, entryWords, entryValues, entryCosts, entrySpans}
 use Rattle.layout.proofs.Held.{words-length, values-length, costs-length, spans-length}
 use Rattle.model.specs.Grow.{Entry}
 use Rattle.model.proofs.Places.{length-each, each-at}
 use Rattle.lent.specs.Lists.{nodesLent, storedNodes, spanAt}
-use Rattle.tree.specs.Trees.{nodeAt, SoundTree}
+use Rattle.tree.specs.Trees.{SoundTree}
+use Rattle.layout.specs.Kept.{infoAt}
 use Rattle.tree.proofs.Lists.{take-each}
 use Rattle.tree.proofs.Entries.{tree-each}
 use Rattle.seed.specs.Ordered.{seedIn, nodesIn}
-use Rattle.seed.specs.Kept.{infoAt}
 
 module _ (count : ℕ) (n : NodeLists) (room : HasRoom count n) where
   abbrev recordAt : ℕ → Record singles

@@ -24,7 +24,7 @@ use Rattle.model.proofs.Bounded.{LogsWithin}
 use Rattle.checks.specs.Given.{settingsOf}
 use Rattle.checks.specs.declared.Settings.{Settings}
 use Rattle.layout.proofs.Queue.{same-itself, same-queue}
-use Rattle.layout.specs.Layout.{kindAt, propAt, gtAt, leAt, valAt, nodesHeld}
+use Rattle.layout.specs.Layout.{kindAt, propAt, gtAt, leAt, valAt, nodesHeld, nodeAt}
 use Rattle.layout.specs.declared.Tree.{Tree}
 use Rattle.layout.specs.Tree.{NodeLists, HasRoom, holding}
 use Rattle.layout.specs.Waiting.{QueueLists, QueueRoom, SameQueue, waitingFrom}
@@ -37,11 +37,11 @@ use Rattle.rows.specs.Cells.{span}
 use Rattle.rows.specs.Flat.{Flat, heldIn, rowCount, SameSize}
 use Rattle.rows.proofs.Cells.{length-held}
 use Rattle.rows.proofs.Shapes.{size-same, size-then, count-still}
-use Rattle.tree.specs.Trees.{nodeAt, OfTree, SoundTree}
+use Rattle.tree.specs.Trees.{OfTree, SoundTree}
+use Rattle.layout.specs.Kept.{infoAt}
 use Rattle.tree.proofs.Entries.{nodes-each}
 use Rattle.state.specs.Fitting.{usesOf}
 use Rattle.seed.specs.Ordered.{seedIn}
-use Rattle.seed.specs.Kept.{infoAt}
 use Rattle.plant.specs.Sown.{seededTo, Sown, NodeFits, NextIs, NodePlanted, Plants, PlantedTo}
 use Rattle.plant.proofs.SeedLists.{seed-length, nodes-in, nodes-length, record-in, node-in, sound-tree, seed-few}
 use Rattle.plant.proofs.SeedLists.{node-still, info-still, span-still}

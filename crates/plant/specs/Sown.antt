@@ -22,7 +22,7 @@ use Rattle.checks.specs.Given.{settingsOf}
 use Rattle.checks.specs.declared.Settings.{Settings}
 use Rattle.layout.specs.declared.Leaf.{Leaf}
 use Rattle.layout.specs.Values.{offerIs}
-use Rattle.layout.specs.Layout.{kindAt}
+use Rattle.layout.specs.Layout.{kindAt, nodeAt}
 use Rattle.layout.specs.declared.Tree.{Tree}
 use Rattle.layout.specs.Tree.{NodeLists, holding, HasRoom, put, leafWith}
 use Rattle.layout.specs.Waiting.{QueueLists, Queued, QueueRoom, SameQueue, queueOf, waits}
@@ -31,11 +31,10 @@ use Rattle.order.specs.Order.{orderedBy, firstOf}
 use Rattle.order.specs.Leaves.{leafNumbers}
 use Rattle.rows.specs.Cells.{span}
 use Rattle.rows.specs.Flat.{Flat, heldIn, rowCount, Spanned, SameSize}
-use Rattle.tree.specs.Trees.{nodeAt}
+use Rattle.layout.specs.Kept.{infoAt}
 use Rattle.state.specs.Fitting.{usesOf, Fitting}
 use Rattle.leaf.specs.Made.{MadeLeaf}
 use Rattle.seed.specs.Ordered.{seedIn}
-use Rattle.seed.specs.Kept.{infoAt}
 
 -- the model's state after the first i nodes of the seed
 unfoldable pub seededTo : Job singles → List (Record singles) → List Row → ℕ → State singles

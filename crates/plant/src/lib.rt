@@ -56,7 +56,7 @@ fn plant_leaf(
     );
     let info = leaf.info;
     let offer = leaf.offer;
-    nodes::put_leaf(words, values, costs, spans, tree.nodes, info, first, end);
+    layout::put_leaf(words, values, costs, spans, tree.nodes, info, first, end);
     let waiting = queue::enqueue(
         queue_words,
         queue_values,
@@ -104,10 +104,11 @@ fn plant_node(
         tree r depth «score_split» ⌝ }
 {
     let i = tree.nodes;
-    let first = spans[i * layout::SPAN_ROWS] as usize;
-    let end = spans[i * layout::SPAN_ROWS + 1] as usize;
-    if (words[i * layout::NODE_WORDS] == 1) | (first == end) {
-        seed::keep_node(words, values, costs, spans, i);
+    let span = layout::span_at(spans, i);
+    let first = span.first as usize;
+    let end = span.end as usize;
+    if (layout::kind_at(words, i) == 1) | (first == end) {
+        layout::keep_node(words, values, costs, spans, i);
         return Tree {
             nodes: i + 1,
             waiting: tree.waiting,

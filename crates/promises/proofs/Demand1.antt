@@ -8,7 +8,7 @@ use Rattle.model.specs.Profile.{single}
 use Rattle.model.specs.Refuse.{Refusal, learnRefusal, deepenRefusal, lookupRefusal, contextsRefusal, sampleRefusal, tokenRefusal}
 use Rattle.model.specs.Operations.{Outcome, refused, accepted, Tree, unless, outcomeOf, learn, deepen, lookup, leafContexts, sample, tokenAnswer}
 use Rattle.checks.specs.Given.{settingsOf}
-use Rattle.records.specs.Records.{storedOf}
+use Rattle.layout.specs.Records.{storedOf}
 use Rattle.answers.specs.Answers.{treeIn, foundIn, countIn, valueIn}
 use Rattle.answers.specs.declared.Count.{Count}
 use Rattle.answers.specs.declared.Leaf.{Leaf}

@@ -19,8 +19,8 @@ use Rattle.model.proofs.Packing.{unpack-packed}
 use Rattle.model.proofs.Tokens.{count-is-standard, value-is-standard, standard-reads-back, encoded-reads}
 use Rattle.model.proofs.StandardLookup.{sound-is-standard, lookup-is-standard}
 use Rattle.model.proofs.StandardContexts.{contexts-are-standard}
-use Rattle.records.specs.Records.{storedOf}
-use Rattle.records.specs.declared.MaNode.{MaNode}
+use Rattle.layout.specs.Records.{storedOf}
+use Rattle.layout.specs.declared.MaNode.{MaNode}
 use Rattle.answers.specs.Answers.{foundIn, countIn, valueIn}
 use Rattle.answers.specs.declared.Count.{Count}
 use Rattle.answers.specs.declared.Leaf.{Leaf}

@@ -11,8 +11,8 @@ use Rattle.model.specs.Refuse.{Refusal, learnRefusal, deepenRefusal, lookupRefu
 use Rattle.model.specs.Operations.{ContextLists}
 use Rattle.checks.specs.Given.{settingsOf}
 use Rattle.checks.specs.declared.Settings.{Settings}
-use Rattle.records.specs.Records.{storedOf}
-use Rattle.records.specs.declared.MaNode.{MaNode}
+use Rattle.layout.specs.Records.{storedOf}
+use Rattle.layout.specs.declared.MaNode.{MaNode}
 use Rattle.answers.specs.declared.Count.{Count}
 use Rattle.answers.specs.declared.Leaf.{Leaf}
 use Rattle.answers.specs.declared.LearnedTree.{LearnedTree}

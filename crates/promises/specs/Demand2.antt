@@ -13,8 +13,8 @@ use Rattle.model.specs.Lent.{treeIn}
 use Rattle.model.specs.Operations.{accepted, ContextLists}
 use Rattle.model.specs.Decoder.{leafIn, IsTree, DecodersTree}
 use Rattle.model.specs.declared.Encoded.{Encoded}
-use Rattle.records.specs.Records.{storedOf}
-use Rattle.records.specs.declared.MaNode.{MaNode}
+use Rattle.layout.specs.Records.{storedOf}
+use Rattle.layout.specs.declared.MaNode.{MaNode}
 use Rattle.answers.specs.Answers.{countIn, valueIn}
 use Rattle.answers.specs.declared.Leaf.{Leaf}
 use Rattle.answers.specs.declared.Read.{Read}

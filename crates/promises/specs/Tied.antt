@@ -16,7 +16,7 @@ use Rattle.model.specs.declared.Encoded.{Encoded}
 use Rattle.checks.specs.declared.Settings.{Settings}
 use Rattle.rows.specs.Flat.{flat}
 use Rattle.layout.specs.Waiting.{queueLists}
-use Rattle.records.specs.declared.MaNode.{MaNode}
+use Rattle.layout.specs.declared.MaNode.{MaNode}
 use Rattle.answers.specs.declared.Count.{Count}
 use Rattle.answers.specs.declared.Leaf.{Leaf}
 use Rattle.answers.specs.declared.LearnedTree.{LearnedTree}

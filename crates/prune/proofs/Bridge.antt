@@ -90,9 +90,7 @@ module _ {x : NodeLists} {count : ℕ} {price : Float} {tree : List (Entry singl
   all-priceable splits there = record {
     some = h .some;
     few = h .few;
-    words-there = room .words;
-    values-there = room .values;
-    costs-there = room .costs;
+    there = record { words-there = room .words; values-there = room .values; costs-there = room .costs };
     splits-there = there;
     numbers = λ i a. rw (cost i a) (h .numbers i a);
     price-number = h .price-number;

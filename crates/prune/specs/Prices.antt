@@ -13,7 +13,7 @@ use Rattle.model.specs.Single.{singles}
 use Rattle.model.specs.Tree.{leaf, isLeaf}
 use Rattle.model.specs.Grow.{Entry, noEntry}
 use Rattle.model.specs.Prune.{noPriced, pricedFrom, prunedNodes, prunedBits}
-use Rattle.layout.specs.Layout.{wordsPerNode, valuesPerNode, kindAt, gtAt, leAt}
+use Rattle.layout.specs.Layout.{wordsPerNode, kindAt, gtAt, leAt, HasNodes}
 use Rattle.layout.specs.Tree.{entryWords}
 use Rattle.prune.specs.declared.Priced.{Priced}
 
@@ -38,15 +38,9 @@ pricedAt words costs price bits priced i =
 abbrev pub IsNumber : Float → Type 0
 IsNumber x = T (not (isNan x))
 
--- all words of node i are there, and its values and cost
-pub record HasNode (i : ℕ) (words : List ℕ) (values : List ℤ) (costs : List Float) : Type 0 where
-  pub words-there : i * wordsPerNode + wordsPerNode ≤ length words
-  pub values-there : i * valuesPerNode + valuesPerNode ≤ length values
-  pub cost-there : i < length costs
-
 -- node i and its children can be priced
 pub record Priceable (words : List ℕ) (values : List ℤ) (costs : List Float) (price : Float) (bits priced : List Float) (i : ℕ) : Type 0 where
-  pub there : HasNode i words values costs
+  pub there : HasNodes (i + 1) words values costs
   pub number : IsNumber (getD costs i nan)
   pub price-number : IsNumber price
   pub children : eqb (kindAt words i) 1 ≡ true
@@ -56,9 +50,7 @@ pub record Priceable (words : List ℕ) (values : List ℤ) (costs : List Float)
 pub record AllPriceable (words : List ℕ) (values : List ℤ) (costs : List Float) (count : ℕ) (price : Float) (splits : List Bool) : Type 0 where
   pub some : 0 < count
   pub few : count ≤ maxNodes
-  pub words-there : count * wordsPerNode ≤ length words
-  pub values-there : count * valuesPerNode ≤ length values
-  pub costs-there : count ≤ length costs
+  pub there : HasNodes count words values costs
   pub splits-there : count ≤ length splits
   pub numbers : (i : ℕ) → i < count → IsNumber (getD costs i nan)
   pub price-number : IsNumber price

@@ -2,14 +2,14 @@
 // `preorder`, and the lists moved into that order by `moves`.
 ghost use mathlib.Core.Path.{_≡_};
 ghost use mathlib.Core.List.{List};
-ghost use Prim.Native.Nat.{ℕ, _≤_, _<_};
+ghost use Prim.Native.Nat.{ℕ, _+_, _≤_, _<_};
 ghost use lib.ListN.{length, getD};
 ghost use lib.Ieee.{nan};
 ghost use Rattle.model.specs.Single.{singles};
 ghost use Rattle.model.specs.Grow.{Entry};
-ghost use Rattle.layout.specs.Layout.{predAt, offsetAt};
+ghost use Rattle.layout.specs.Layout.{predAt, offsetAt, HasNodes};
 ghost use Rattle.layout.specs.Tree.{NodeLists, nodeLists};
-ghost use Rattle.prune.specs.Prices.{splitPriced, leafPriced, pricedAt, IsNumber, HasNode, Priceable, AllPriceable, ShowsTree, IsPriced, PricedAs};
+ghost use Rattle.prune.specs.Prices.{splitPriced, leafPriced, pricedAt, IsNumber, Priceable, AllPriceable, ShowsTree, IsPriced, PricedAs};
 ghost use Rattle.prune.specs.Held.{HoldsTree, Prunable, PrunedAs};
 use layout::NodeInfo;
 use layout::Tree;
@@ -23,7 +23,7 @@ struct Priced {
 
 // What stands beside node i.
 fn info_of(words: &[u32], values: &[i32], costs: &[f32], i: usize) -> NodeInfo
-    requires { ⌜ HasNode i (now words) (now values) (now costs) ⌝ }
+    requires { ⌜ HasNodes (i + 1) (now words) (now values) (now costs) ⌝ }
     ensures { λ r. ⌜ (r .cost ≡ getD (now (costs .entry)) i nan) × (r .pred ≡ predAt (now (words .entry)) i)
         × (r .offset ≡ offsetAt (now (values .entry)) i) ⌝ }
 {

@@ -12,7 +12,7 @@ use lib.Ieee.{Float}
 use Rattle.model.specs.Single.{singles}
 use Rattle.model.specs.Lent.{Waiting}
 use Rattle.layout.specs.Tree.{laid}
-use Rattle.layout.specs.Waiting.{QueueLists, queueLists, Queued, QueueRoom, SameQueue, without, waitWords, waitValues, waitGains}
+use Rattle.layout.specs.Waiting.{wordsPerLeaf, putWaitWords, QueueLists, queueLists, Queued, QueueRoom, SameQueue, without, waitWords, waitValues, waitGains}
 use Rattle.layout.proofs.Cells.{laid-append, laid-one, laid-length, laid-take, set-paste, stores-three}
 use Rattle.layout.proofs.Queue.{length-without}
 use Rattle.lists.specs.Moved.{moveUp}
@@ -76,14 +76,14 @@ module _ {E A : Type 0} (f : E → List A) (w : ℕ) (each : (e : E) → length 
 module _ (q : QueueLists) (leaves : List (Waiting singles)) (waiting : ℕ) (h : Queued waiting q leaves) where
   -- the leaf at place k taken out
   pub taken-out : (k : ℕ) → k < waiting → QueueRoom waiting q
-      → Queued (waiting - 1) (queueLists (moveUp (k * 3) 3 ((waiting - 1 - k) * 3) (q .words)) (moveUp k 1 (waiting - 1 - k) (q .values)) (moveUp k 1 (waiting - 1 - k) (q .gains)))
+      → Queued (waiting - 1) (queueLists (moveUp (k * wordsPerLeaf) wordsPerLeaf ((waiting - 1 - k) * wordsPerLeaf) (q .words)) (moveUp k 1 (waiting - 1 - k) (q .values)) (moveUp k 1 (waiting - 1 - k) (q .gains)))
       (without k leaves)
   taken-out k lt room =
       let many = h .many in
       let inside : k < length leaves = omega arith in
       record {
         many = ap (λ (n : ℕ). n - 1) (h .many) ∙ sym (length-without k leaves inside);
-        words = rw many (cut-out waitWords 3 (λ w. refl) leaves (q .words) k inside (rw many at (room .words)) (rw many at (h .words)));
+        words = rw many (cut-out waitWords wordsPerLeaf (λ w. refl) leaves (q .words) k inside (rw many at (room .words)) (rw many at (h .words)));
         values = rw many (rw (mul-one, mul-one, mul-one) at
             (cut-out waitValues 1 (λ w. refl) leaves (q .values) k inside (rw (mul-one, ← many) (room .values)) (rw (mul-one, ← many) (h .values))));
         gains = rw many (rw (mul-one, mul-one, mul-one) at
@@ -92,7 +92,7 @@ module _ (q : QueueLists) (leaves : List (Waiting singles)) (waiting : ℕ) (h :
 
   -- a leaf put behind the others, as the code stores it
   pub added : (w : Waiting singles) → QueueRoom (waiting + 1) q
-      → Queued (waiting + 1) (queueLists (set (set (set (q .words) (waiting * 3) (w .node)) (waiting * 3 + 1) (w .offer .prop)) (waiting * 3 + 2) (w .depth))
+      → Queued (waiting + 1) (queueLists (putWaitWords waiting (w .node) (w .offer .prop) (w .depth) (q .words))
       (set (q .values) waiting (w .offer .val))
       (set (q .gains) waiting (w .offer .gain)))
       (leaves ++ (w ∷ []))
@@ -100,8 +100,8 @@ module _ (q : QueueLists) (leaves : List (Waiting singles)) (waiting : ℕ) (h :
       let many = h .many in
       record {
         many = ap (λ (n : ℕ). n + 1) (h .many) ∙ sym (length-append leaves (w ∷ []));
-        words = ap (take ((waiting + 1) * 3)) (stores-three (q .words) (waiting * 3) (w .node) (w .offer .prop) (w .depth) (omega (arith, room .words)))
-            ∙ rw many (put-behind waitWords 3 (λ w. refl) leaves (q .words) w (rw many at (room .words)) (rw many at (h .words)));
+        words = ap (take ((waiting + 1) * wordsPerLeaf)) (stores-three (q .words) (waiting * wordsPerLeaf) (w .node) (w .offer .prop) (w .depth) (omega (arith, room .words)))
+            ∙ rw many (put-behind waitWords wordsPerLeaf (λ w. refl) leaves (q .words) w (rw many at (room .words)) (rw many at (h .words)));
         values = ap (take (waiting + 1)) (set-paste (q .values) waiting (w .offer .val) (omega (arith, room .values)))
             ∙ rw many (rw (mul-one, mul-one) at
             (put-behind waitValues 1 (λ w. refl) leaves (q .values) w (rw (mul-one, ← many) (room .values)) (rw (mul-one, ← many) (h .values))));
@@ -111,13 +111,13 @@ module _ (q : QueueLists) (leaves : List (Waiting singles)) (waiting : ℕ) (h :
       }
 
 pub same-taken : (q : QueueLists) (waiting k : ℕ) → k < waiting → QueueRoom waiting q
-    → SameQueue q (queueLists (moveUp (k * 3) 3 ((waiting - 1 - k) * 3) (q .words)) (moveUp k 1 (waiting - 1 - k) (q .values)) (moveUp k 1 (waiting - 1 - k) (q .gains)))
+    → SameQueue q (queueLists (moveUp (k * wordsPerLeaf) wordsPerLeaf ((waiting - 1 - k) * wordsPerLeaf) (q .words)) (moveUp k 1 (waiting - 1 - k) (q .values)) (moveUp k 1 (waiting - 1 - k) (q .gains)))
 same-taken q waiting k lt room = record {
-  words = moved-length (k * 3) 3 ((waiting - 1 - k) * 3) (q .words) (omega (arith, room .words));
+  words = moved-length (k * wordsPerLeaf) wordsPerLeaf ((waiting - 1 - k) * wordsPerLeaf) (q .words) (omega (arith, room .words));
   values = moved-length k 1 (waiting - 1 - k) (q .values) (omega (arith, room .values));
   gains = moved-length k 1 (waiting - 1 - k) (q .gains) (omega (arith, room .gains));
 }
 
 pub same-added : (q : QueueLists) (waiting node prop depth : ℕ) (val : ℤ) (gain : Float)
-    → SameQueue q (queueLists (set (set (set (q .words) (waiting * 3) node) (waiting * 3 + 1) prop) (waiting * 3 + 2) depth) (set (q .values) waiting val) (set (q .gains) waiting gain))
+    → SameQueue q (queueLists (putWaitWords waiting node prop depth (q .words)) (set (q .values) waiting val) (set (q .gains) waiting gain))
 same-added q waiting node prop depth val gain = record { words = simp length-set; values = simp length-set; gains = simp length-set }

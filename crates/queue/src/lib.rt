@@ -11,6 +11,7 @@ ghost use Rattle.layout.specs.Values.{offerIs};
 ghost use Rattle.layout.specs.Waiting.{firstBest, queueLists, Queued, QueueRoom, SameQueue, without, waits};
 ghost use Rattle.queue.specs.Room.{RoomFor};
 use layout::Offer;
+use layout::Pending;
 
 // Of two places, and of two gains, the first if the test passes: no branch.
 fn place_if(test: bool, a: usize, b: usize) -> usize
@@ -83,11 +84,13 @@ pub fn enqueue(
     let Offer::Split { prop, val, gain } = offer else {
         return waiting;
     };
-    let at = waiting * layout::LEAF_WORDS;
-    words[at] = node as u32;
-    words[at + 1] = prop;
-    words[at + 2] = depth;
-    values[waiting] = val;
-    gains[waiting] = gain;
+    let leaf = Pending {
+        node: node as u32,
+        prop,
+        val,
+        depth,
+        gain,
+    };
+    layout::put_pending(words, values, gains, waiting, leaf);
     waiting + 1
 }

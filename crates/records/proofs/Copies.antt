@@ -11,9 +11,10 @@ use lib.IntN.{ℤ, pos}
 use lib.Ieee.{Float, nan}
 use Rattle.model.specs.Single.{singles}
 use Rattle.model.specs.Lent.{Stored}
-use Rattle.layout.specs.Layout.{storedAt}
-use Rattle.records.specs.declared.MaNode.{MaNode}
-use Rattle.records.specs.Records.{storedOf, recordOf, noRecord, HasPlace, HasPlaces, wordsFrom, valuesFrom, costsFrom, filled}
+use Rattle.layout.specs.Layout.{wordsPerNode, valuesPerNode, storedAt, HasNodes}
+use Rattle.layout.specs.declared.MaNode.{MaNode}
+use Rattle.records.specs.Records.{wordsFrom, valuesFrom, costsFrom, filled}
+use Rattle.layout.specs.Records.{storedOf, recordOf, noRecord}
 
 -- ---- a record and an entry are field by field the same
 pub record-stored : (m : MaNode) → recordOf (storedOf m) ≡ m
@@ -115,31 +116,31 @@ module _ (ns : List MaNode) where
 
   -- each list stays as long
   pub length-words : (n : ℕ) (w : List ℕ) → length (wordsFrom ns n w) ≡ length w
-  length-words n w = turns-length 5 words (λ i. refl) (λ i. wordsFrom ns i w) (words-turn w) n
+  length-words n w = turns-length wordsPerNode words (λ i. refl) (λ i. wordsFrom ns i w) (words-turn w) n
 
   pub length-values : (n : ℕ) (v : List ℤ) → length (valuesFrom ns n v) ≡ length v
-  length-values n v = turns-length 2 values (λ i. refl) (λ i. valuesFrom ns i v) (values-turn v) n
+  length-values n v = turns-length valuesPerNode values (λ i. refl) (λ i. valuesFrom ns i v) (values-turn v) n
 
   pub length-costs : (n : ℕ) (c : List Float) → length (costsFrom ns n c) ≡ length c
   length-costs n c = ap length (costs-filled n c) ∙ length-filled (λ i. node i .info .cost) n c
 
   -- the first n entries of the number lists are the records
-  pub read-back : (n : ℕ) (w : List ℕ) (v : List ℤ) (c : List Float) → HasPlaces n w v c → (i : ℕ) → i < n
+  pub read-back : (n : ℕ) (w : List ℕ) (v : List ℤ) (c : List Float) → HasNodes n w v c → (i : ℕ) → i < n
       → storedAt (wordsFrom ns n w) (valuesFrom ns n v) (costsFrom ns n c) i ≡ storedOf (getD ns i noRecord)
   read-back n w v c h i l =
-      let word : (k : ℕ) → k < 5 → getD (wordsFrom ns n w) (i * 5 + k) 0 ≡ getD (words i) k 0 =
-      λ k s. turns-at 5 words (λ i. refl) (λ i. wordsFrom ns i w) (words-turn w) n i k 0 l s (h .words-there) in
-      let value : (k : ℕ) → k < 2 → getD (valuesFrom ns n v) (i * 2 + k) (pos 0) ≡ getD (values i) k (pos 0) =
-      λ k s. turns-at 2 values (λ i. refl) (λ i. valuesFrom ns i v) (values-turn v) n i k (pos 0) l s (h .values-there) in
+      let word : (k : ℕ) → k < wordsPerNode → getD (wordsFrom ns n w) (i * wordsPerNode + k) 0 ≡ getD (words i) k 0 =
+      λ k s. turns-at wordsPerNode words (λ i. refl) (λ i. wordsFrom ns i w) (words-turn w) n i k 0 l s (h .words-there) in
+      let value : (k : ℕ) → k < valuesPerNode → getD (valuesFrom ns n v) (i * valuesPerNode + k) (pos 0) ≡ getD (values i) k (pos 0) =
+      λ k s. turns-at valuesPerNode values (λ i. refl) (λ i. valuesFrom ns i v) (values-turn v) n i k (pos 0) l s (h .values-there) in
       let cost : getD (costsFrom ns n c) i nan ≡ node i .info .cost = ap (λ (r : List Float). getD r i nan) (costs-filled n c) ∙ filled-at (λ i. node i .info .cost) n c i nan l (h .costs-there) in
       let kind = rw add-zero at (word 0 (omega arith)) in
       let val = rw add-zero at (value 0 (omega arith)) in
       rw (kind, word 1 (omega arith), word 2 (omega arith), word 3 (omega arith), word 4 (omega arith), val, value 1 (omega arith), cost) refl
 
 -- ---- places
-pub one-place : {n : ℕ} {w : List ℕ} {v : List ℤ} {c : List Float} → HasPlaces n w v c → {i : ℕ} → i < n → HasPlace i w v c
-one-place h l = record { words-there = omega (arith, h .words-there); values-there = omega (arith, h .values-there); cost-there = omega (arith, h .costs-there) }
+pub one-place : {n : ℕ} {w : List ℕ} {v : List ℤ} {c : List Float} → HasNodes n w v c → {i : ℕ} → i < n → HasNodes (i + 1) w v c
+one-place h l = record { words-there = omega (arith, h .words-there); values-there = omega (arith, h .values-there); costs-there = omega (arith, h .costs-there) }
 
 -- the first n places are there as long as the lists stay as long
-pub same-places : {n : ℕ} {w w' : List ℕ} {v v' : List ℤ} {c c' : List Float} → length w' ≡ length w → length v' ≡ length v → length c' ≡ length c → HasPlaces n w v c → HasPlaces n w' v' c'
+pub same-places : {n : ℕ} {w w' : List ℕ} {v v' : List ℤ} {c c' : List Float} → length w' ≡ length w → length v' ≡ length v → length c' ≡ length c → HasNodes n w v c → HasNodes n w' v' c'
 same-places a b d h = record { words-there = omega (arith, h .words-there); values-there = omega (arith, h .values-there); costs-there = omega (arith, h .costs-there) }

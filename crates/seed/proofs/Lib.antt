@@ -1,3 +1,3 @@
--- `Ordering`: the rows ordered. `Pairing`: spans copied, and nodes without rows.
+-- `Ordering`: the rows ordered. `Pairing`: spans copied.
 pub mod Ordering
 pub mod Pairing

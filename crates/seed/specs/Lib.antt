@@ -1,3 +1,2 @@
--- `Ordered`: a seed's rows in the order of its leaves. `Kept`: its nodes without rows.
+-- `Ordered`: a seed's rows in the order of its leaves.
 pub mod Ordered
-pub mod Kept

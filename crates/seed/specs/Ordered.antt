@@ -17,7 +17,8 @@ use Rattle.order.specs.Order.{orderedBy, firstOf}
 use Rattle.order.specs.Leaves.{leafNumbers}
 use Rattle.rows.specs.Cells.{span}
 use Rattle.rows.specs.Flat.{Flat, heldIn, rowCount, Shaped, SameSize}
-use Rattle.tree.specs.Trees.{nodeAt, SoundTree}
+use Rattle.tree.specs.Trees.{SoundTree}
+use Rattle.layout.specs.Layout.{nodeAt}
 
 -- the seed: the first nodes of the node lists
 abbrev pub seedIn : ℕ → NodeLists → List (Record singles)

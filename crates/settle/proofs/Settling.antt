@@ -16,12 +16,12 @@ use Rattle.model.specs.Tree.{Node, split, leaf, isLeaf}
 use Rattle.model.specs.Grow.{Entry, noEntry}
 use Rattle.model.specs.Settle.{settled}
 use Rattle.layout.specs.Layout.{kindAt}
-use Rattle.layout.specs.Tree.{NodeLists, nodeWords}
+use Rattle.layout.specs.Tree.{NodeLists, nodeWords, firstAt, endAt}
 use Rattle.layout.proofs.Held.{holding-lengths, held-kind, held-first, held-end}
 use Rattle.mode.specs.Lent.{Inside, Clear, Rebasable}
 use Rattle.mode.proofs.Stepped.{step-rows}
 use Rattle.rows.specs.Flat.{Flat, flat, rowCount, Changed}
-use Rattle.settle.specs.Leaves.{firstAt, endAt, leafTokens, settledTokens, Settleable, HoldsLeaves}
+use Rattle.settle.specs.Leaves.{leafTokens, settledTokens, Settleable, HoldsLeaves}
 
 -- one entry's turn
 abbrev turn : Bool → Entry singles → List Row → List Row

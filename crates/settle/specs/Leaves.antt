@@ -10,18 +10,11 @@ use Rattle.model.specs.Settings.{maxRows}
 use Rattle.model.specs.Single.{singles}
 use Rattle.model.specs.Tree.{isLeaf}
 use Rattle.model.specs.Grow.{Entry, noEntry}
-use Rattle.layout.specs.Layout.{wordsPerNode, kindAt}
-use Rattle.layout.specs.Tree.{rowsPerSpan, NodeLists, holding, HasRoom}
+use Rattle.layout.specs.Layout.{kindAt, HasWords}
+use Rattle.layout.specs.Tree.{NodeLists, holding, HasRoom, firstAt, endAt, HasSpans}
 use Rattle.mode.specs.Column.{stepTokens}
 use Rattle.mode.specs.Lent.{Rebasable}
 use Rattle.rows.specs.Flat.{Flat, rowCount, Shaped}
-
--- the rows of node i
-abbrev pub firstAt : List ℕ → ℕ → ℕ
-firstAt spans i = getD spans (i * rowsPerSpan) 0
-
-abbrev pub endAt : List ℕ → ℕ → ℕ
-endAt spans i = getD spans (i * rowsPerSpan + 1) 0
 
 -- the tokens after the step on node i, if it is a leaf
 abbrev pub leafTokens : List ℕ → List ℕ → Bool → List ℤ → ℕ → List ℕ → List ℕ
@@ -34,14 +27,14 @@ settledTokens words spans uses res (suc n) tok = leafTokens words spans uses res
 
 -- node i is there, and where modes are in use its rows are, if it is a leaf
 pub record LeafSettles (words spans : List ℕ) (i : ℕ) (uses : Bool) (tok : List ℕ) (res : List ℤ) (counts : List ℕ) : Type 0 where
-  pub words-there : i * wordsPerNode + wordsPerNode ≤ length words
-  pub spans-there : i * rowsPerSpan + rowsPerSpan ≤ length spans
+  pub words-there : HasWords words (i + 1)
+  pub spans-there : HasSpans spans (i + 1)
   pub rows : uses ≡ true → eqb (kindAt words i) 1 ≡ false → Rebasable tok res (firstAt spans i) (endAt spans i) counts
 
 -- all `count` nodes are
 pub record Settleable (words spans : List ℕ) (count : ℕ) (uses : Bool) (tok : List ℕ) (res : List ℤ) (counts : List ℕ) : Type 0 where
-  pub words-there : count * wordsPerNode ≤ length words
-  pub spans-there : count * rowsPerSpan ≤ length spans
+  pub words-there : HasWords words count
+  pub spans-there : HasSpans spans count
   pub rows : uses ≡ true → (i : ℕ) → i < count → eqb (kindAt words i) 1 ≡ false → Rebasable tok res (firstAt spans i) (endAt spans i) counts
 
 -- words and spans hold the tree, over those lent, and the leaves' spans lie in the rows

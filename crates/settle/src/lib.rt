@@ -23,12 +23,12 @@ fn settle_leaf(
     ensures { λ _. ⌜ now (tok .exit) ≡ leafTokens (now (words .entry)) (now (spans .entry)) uses (now (res .entry)) i (now (tok .entry)) ⌝ }
     ensures { λ _. ⌜ now (counts .exit) ≡ now (counts .entry) ⌝ }
 {
-    if words[i * layout::NODE_WORDS] == 1 {
+    if layout::kind_at(words, i) == 1 {
         return;
     }
-    let at = i * layout::SPAN_ROWS;
-    let first = spans[at] as usize;
-    let end = spans[at + 1] as usize;
+    let span = layout::span_at(spans, i);
+    let first = span.first as usize;
+    let end = span.end as usize;
     mode::mode_step(uses, tok, res, first, end, counts);
 }
 

@@ -14,8 +14,8 @@ use lib.Dec.{eqb}
 use Rattle.model.specs.Tree.{Node, split, leaf, nodesOf}
 use Rattle.model.specs.Lent.{treeIn}
 use Rattle.model.specs.Deepen.{depthsFrom, depthsOf}
-use Rattle.layout.specs.Layout.{kindAt, gtAt, leAt, nodesHeld, storedIn}
-use Rattle.tree.specs.Trees.{nodeAt, AtMost, deeper}
+use Rattle.layout.specs.Layout.{kindAt, gtAt, leAt, nodesHeld, storedIn, nodeAt}
+use Rattle.tree.specs.Trees.{AtMost, deeper}
 use Rattle.tree.proofs.Entries.{nodes-length, node-at}
 
 -- ---- no depth passes the number of nodes passed

@@ -10,8 +10,7 @@ use Rattle.model.specs.Single.{singles}
 use Rattle.model.specs.Tree.{leaf, Record, blankRecord, nodesOf}
 use Rattle.model.specs.Lent.{recordIn, treeIn}
 use Rattle.model.proofs.Places.{length-each, each-at}
-use Rattle.layout.specs.Layout.{nodesHeld, storedAt, storedIn}
-use Rattle.tree.specs.Trees.{nodeAt}
+use Rattle.layout.specs.Layout.{nodesHeld, storedAt, storedIn, nodeAt}
 use Rattle.tree.proofs.Lists.{take-each}
 
 module _ (words : List ℕ) (values : List ℤ) (costs : List Float) where

@@ -14,8 +14,8 @@ use Rattle.model.specs.Settings.{maxNodes}
 use Rattle.model.specs.Single.{singles}
 use Rattle.model.specs.Tree.{Record, blankRecord, nodesOf, isFine, faultFrom, faultOf}
 use Rattle.model.specs.Lent.{treeIn}
-use Rattle.layout.specs.Layout.{predAt, nodesHeld, storedIn}
-use Rattle.tree.specs.Trees.{nodeAt, isFineAt, CountsParents}
+use Rattle.layout.specs.Layout.{predAt, nodesHeld, storedIn, nodeAt}
+use Rattle.tree.specs.Trees.{isFineAt, CountsParents}
 use Rattle.tree.proofs.Entries.{tree-length, nodes-length, nodes-each, record-at}
 
 module _ (words : List ℕ) (values : List ℤ) (costs : List Float) (count : ℕ) (held : count ≤ nodesHeld words values) where

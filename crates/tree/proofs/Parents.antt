@@ -16,8 +16,8 @@ use Rattle.model.specs.Lists.{range, countIf}
 use Rattle.model.specs.Tree.{hasChild}
 use Rattle.model.proofs.Counting.{count-append, count-at-most}
 use Rattle.model.proofs.Places.{length-each, each-more}
-use Rattle.layout.specs.Layout.{kindAt, gtAt, leAt}
-use Rattle.tree.specs.Trees.{nodeAt, CountsParents, AtMost}
+use Rattle.layout.specs.Layout.{kindAt, gtAt, leAt, nodeAt}
+use Rattle.tree.specs.Trees.{CountsParents, AtMost}
 
 -- ---- one cell
 pub raised : (l : List ℕ) (c k : ℕ) → c < length l → getD (set l c (getD l c 0 + 1)) k 0 ≡ cond (eqb c k) 1 0 + getD l k 0

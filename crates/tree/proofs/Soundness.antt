@@ -13,8 +13,8 @@ use Rattle.model.specs.Tree.{split, leaf, Record, blankRecord, nodesOf}
 use Rattle.model.specs.Lent.{treeIn}
 use Rattle.model.proofs.Paths.{Forward}
 use Rattle.model.proofs.Sound as model
-use Rattle.layout.specs.Layout.{valuesPerNode, kindAt, propAt, gtAt, leAt, nodesHeld, storedIn}
-use Rattle.tree.specs.Trees.{nodeAt, SoundTree}
+use Rattle.layout.specs.Layout.{valuesPerNode, kindAt, propAt, gtAt, leAt, nodesHeld, storedIn, nodeAt}
+use Rattle.tree.specs.Trees.{SoundTree}
 use Rattle.tree.proofs.Entries.{tree-length, nodes-length, record-at, node-at}
 
 -- the tree with its thresholds all 0, and no costs

@@ -14,11 +14,7 @@ use Rattle.model.specs.Rows.{Row}
 use Rattle.model.specs.Single.{singles}
 use Rattle.model.specs.Tree.{Node, split, leaf, Record, nodesOf, towards, leafReached, isOrderly, hasChild, hasTwoChildren, faultOf}
 use Rattle.model.specs.Lent.{treeIn}
-use Rattle.layout.specs.Layout.{wordsPerNode, valuesPerNode, kindAt, propAt, gtAt, leAt, predAt, valAt, nodesHeld, storedIn}
-
--- node i, as the words and the thresholds have it
-abbrev pub nodeAt : List ℕ → List ℤ → ℕ → Node
-nodeAt words values i = cond (eqb (kindAt words i) 1) (split (propAt words i) (valAt values i) (gtAt words i) (leAt words i)) leaf
+use Rattle.layout.specs.Layout.{kindAt, propAt, gtAt, leAt, predAt, valAt, nodeAt, nodesHeld, storedIn, HasWords, HasValues}
 
 -- the child that split i leads to
 abbrev pub childAt : List ℕ → List ℤ → List ℤ → ℕ → ℕ
@@ -32,34 +28,26 @@ isOrderlyAt words values count i = isOrderly count i (predAt words i) (nodeAt wo
 abbrev pub isFineAt : List ℕ → List ℤ → ℕ → ℕ → ℕ → Bool
 isFineAt words values count parents i = isOrderlyAt words values count i && (hasTwoChildren (nodeAt words values i) && (eqb i 0 || eqb parents 1))
 
--- all words of node i are there
-abbrev pub HasWords : List ℕ → ℕ → Type 0
-HasWords words i = i * wordsPerNode + wordsPerNode ≤ length words
-
--- the words of the first `count` nodes are there
-abbrev pub HasNodes : List ℕ → ℕ → Type 0
-HasNodes words count = count * wordsPerNode ≤ length words
-
 -- what holds of the tree of the first `count` nodes, whatever values and costs stand beside their words
 abbrev pub OfTree : List ℕ → ℕ → (List (Record singles) → Type 0) → Type 0
 OfTree words count P = (values : List ℤ) (costs : List Float) → count ≤ nodesHeld words values → P (treeIn count (storedIn words values costs))
 
 -- the first `count` nodes are a sound tree (document 01, 8 of deepening)
 pub record SoundTree (words : List ℕ) (count : ℕ) : Type 0 where
-  pub held : HasNodes words count
+  pub held : HasWords words count
   pub faultless : OfTree words count (λ (t : List (Record singles)). faultOf t ≡ none)
 
 -- ---- lookup
 -- split i is there, and its property is one of those handed in
 pub record Leads (words : List ℕ) (values : List ℤ) (props : List ℤ) (i : ℕ) : Type 0 where
-  pub words-there : HasWords words i
-  pub value-there : i * valuesPerNode < length values
+  pub words-there : HasWords words (i + 1)
+  pub value-there : HasValues values (i + 1)
   pub prop-there : propAt words i < length props
 
 -- a sound tree with its thresholds, and the properties of one row
 pub record Routable (words : List ℕ) (values : List ℤ) (count : ℕ) (props : List ℤ) : Type 0 where
   pub sound : SoundTree words count
-  pub values-there : count * valuesPerNode ≤ length values
+  pub values-there : HasValues values count
   pub one-row : length props ≡ propsPerRow
 
 -- the leaf that each row reaches (document 01, "Deepening": rows ordered by leaf number)
@@ -69,7 +57,7 @@ leafNumbers tree rows = map (λ (r : Row). leafReached (nodesOf tree) (r .props)
 -- the same with the properties of all rows, and a place for each row's leaf
 pub record AllRoutable (words : List ℕ) (values : List ℤ) (count : ℕ) (props : List ℤ) (number : List ℕ) : Type 0 where
   pub sound : SoundTree words count
-  pub values-there : count * valuesPerNode ≤ length values
+  pub values-there : HasValues values count
   pub rows : length props ≡ length number * propsPerRow
 
 -- ---- soundness
@@ -88,20 +76,20 @@ pub record Raisable (count : ℕ) (parents : List ℕ) : Type 0 where
 
 -- node i is there, and every node has a count, which does not pass the nodes before i
 pub record Countable (words : List ℕ) (count i : ℕ) (parents : List ℕ) : Type 0 where
-  pub words-there : HasWords words i
+  pub words-there : HasWords words (i + 1)
   pub places : count ≤ length parents
   pub few : i < maxNodes
   pub low : AtMost count i parents
 
 -- no more nodes than there are counts, which are all 0
 pub record Uncounted (words : List ℕ) (count : ℕ) (parents : List ℕ) : Type 0 where
-  pub words-there : HasNodes words count
+  pub words-there : HasWords words count
   pub few : count ≤ maxNodes
   pub zeros : parents ≡ replicate maxNodes 0
 
 -- of how many splits each node is a child was counted
 pub record Counted (words : List ℕ) (count : ℕ) (parents : List ℕ) : Type 0 where
-  pub words-there : HasNodes words count
+  pub words-there : HasWords words count
   pub places : count ≤ length parents
   pub counts : CountsParents words count count parents
 
@@ -113,7 +101,7 @@ deeper leaf i depths = depths
 
 -- node i is there, and so are the places of its depth and of its children's
 pub record Deepens (words : List ℕ) (i : ℕ) (depths : List ℕ) : Type 0 where
-  pub words-there : HasWords words i
+  pub words-there : HasWords words (i + 1)
   pub place : i < length depths
   pub shallow : getD depths i 0 < maxNodes
   pub children : eqb (kindAt words i) 1 ≡ true → (gtAt words i < length depths) × (leAt words i < length depths)

@@ -13,14 +13,14 @@ ghost use Rattle.model.specs.Single.{singles};
 ghost use Rattle.model.specs.Tree.{Record, nodesOf, hasChild, hasTwoChildren, faultFrom, faultOf, leafReached};
 ghost use Rattle.model.specs.Lent.{treeIn};
 ghost use Rattle.model.specs.Deepen.{depthsOf};
-ghost use Rattle.layout.specs.Layout.{kindAt, gtAt, leAt, nodesHeld, storedIn};
-ghost use Rattle.tree.specs.Trees.{nodeAt, childAt, isOrderlyAt, isFineAt, HasWords, HasNodes, OfTree, Leads, Routable, leafNumbers, AllRoutable, CountsParents, Raisable, Countable, Uncounted, Counted, deeper, Deepens, Measurable};
+ghost use Rattle.layout.specs.Layout.{nodesHeld, storedIn, nodeAt, HasWords};
+ghost use Rattle.tree.specs.Trees.{childAt, isOrderlyAt, isFineAt, OfTree, Leads, Routable, leafNumbers, AllRoutable, CountsParents, Raisable, Countable, Uncounted, Counted, deeper, Deepens, Measurable};
 ghost use Rattle.tree.specs.Answers.{faultNamed};
 
 pub mod answers;
 
 use answers::Fault;
-use answers::NodeNumber;
+use layout::NodeNumber;
 
 // How many nodes have all their words and values.
 pub fn nodes_held(words: &[u32], values: &[i32]) -> usize
@@ -35,45 +35,21 @@ pub fn nodes_held(words: &[u32], values: &[i32]) -> usize
     }
 }
 
-pub fn is_split(words: &[u32], node: NodeNumber) -> bool
-    requires { ⌜ HasWords (now words) (node .0) ⌝ }
-    ensures { λ r. ⌜ r ≡ eqb (kindAt (now (words .entry)) (node .0)) 1 ⌝ }
-{
-    let at = node.0 as usize * layout::NODE_WORDS;
-    words[at] == 1
-}
-
-pub fn gt_of(words: &[u32], node: NodeNumber) -> u32
-    requires { ⌜ HasWords (now words) (node .0) ⌝ }
-    ensures { λ r. ⌜ r ≡ gtAt (now (words .entry)) (node .0) ⌝ }
-{
-    let at = node.0 as usize * layout::NODE_WORDS;
-    words[at + 2]
-}
-
-pub fn le_of(words: &[u32], node: NodeNumber) -> u32
-    requires { ⌜ HasWords (now words) (node .0) ⌝ }
-    ensures { λ r. ⌜ r ≡ leAt (now (words .entry)) (node .0) ⌝ }
-{
-    let at = node.0 as usize * layout::NODE_WORDS;
-    words[at + 3]
-}
-
 // The node's own fields are in range: of a split, the property is below 24 and both children stand behind it, below the count; of a leaf, the
 // predictor is below 14.
 fn is_orderly(words: &[u32], count: u32, node: NodeNumber) -> bool
-    requires { ⌜ HasWords (now words) (node .0) ⌝ }
+    requires { ⌜ HasWords (now words) (node .0 + 1) ⌝ }
     ensures { λ r. ⌜ ((values : List ℤ) → r ≡ isOrderlyAt (now (words .entry)) values count (node .0)) ⌝ }
 {
-    let i = node.0;
-    let at = i as usize * layout::NODE_WORDS;
-    if words[at] != 1 {
-        return words[at + 4] < layout::NUM_MA_PREDS;
+    if layout::is_split(words, node) {
+        let i = node.0;
+        let prop = layout::prop_of(words, node) as usize;
+        let gt = layout::gt_of(words, node);
+        let le = layout::le_of(words, node);
+        return (prop < layout::NUM_MA_PROPS)
+            & (((i < gt) & (i < le)) & ((gt < count) & (le < count)));
     }
-    let prop = words[at + 1] as usize;
-    let gt = words[at + 2];
-    let le = words[at + 3];
-    (prop < layout::NUM_MA_PROPS) & (((i < gt) & (i < le)) & ((gt < count) & (le < count)))
+    layout::pred_of(words, node) < layout::NUM_MA_PREDS
 }
 
 // One step down from a split: a property above the value leads to gt, else to le.
@@ -81,13 +57,11 @@ fn towards(words: &[u32], values: &[i32], props: &[i32], node: NodeNumber) -> No
     requires { ⌜ Leads (now words) (now values) (now props) (node .0) ⌝ }
     ensures { λ r. ⌜ r .0 ≡ childAt (now (words .entry)) (now (values .entry)) (now (props .entry)) (node .0) ⌝ }
 {
-    let i = node.0 as usize;
-    let at = i * layout::NODE_WORDS;
-    let prop = words[at + 1] as usize;
-    if values[i * layout::NODE_VALUES] < props[prop] {
-        return NodeNumber(words[at + 2]);
+    let prop = layout::prop_of(words, node) as usize;
+    if layout::val_of(values, node) < props[prop] {
+        return NodeNumber(layout::gt_of(words, node));
     }
-    NodeNumber(words[at + 3])
+    NodeNumber(layout::le_of(words, node))
 }
 
 // The leaf that the properties of a row lead to from node 0 of a sound tree, where every node is in order: nothing is tested, and `count` only says
@@ -97,7 +71,7 @@ fn leaf_reached(words: &[u32], values: &[i32], count: u32, props: &[i32]) -> Nod
     ensures { λ r. ⌜ ((costs : List Float) → r .0 ≡ leafReached (nodesOf (treeIn count (storedIn (now (words .entry)) (now (values .entry)) costs))) (now (props .entry))) ⌝ }
 {
     let mut node = NodeNumber(0);
-    while is_split(words, node) {
+    while layout::is_split(words, node) {
         node = towards(words, values, props, node);
     }
     node
@@ -134,9 +108,9 @@ fn count_children(words: &[u32], count: u32, node: NodeNumber, parents: &mut [u1
     ensures { λ _. ⌜ ((values : List ℤ) (k : ℕ) → k < count →
         getD (now (parents .exit)) k 0 ≡ cond (hasChild k (nodeAt (now (words .entry)) values (node .0))) 1 0 + getD (now (parents .entry)) k 0) ⌝ }
 {
-    if is_split(words, node) {
-        let gt = gt_of(words, node);
-        let le = le_of(words, node);
+    if layout::is_split(words, node) {
+        let gt = layout::gt_of(words, node);
+        let le = layout::le_of(words, node);
         add_parent(count, gt, parents);
         if gt != le {
             add_parent(count, le, parents);
@@ -155,15 +129,15 @@ fn count_parents(words: &[u32], count: u32, parents: &mut [u16])
 }
 
 fn has_two_children(words: &[u32], node: NodeNumber) -> bool
-    requires { ⌜ HasWords (now words) (node .0) ⌝ }
+    requires { ⌜ HasWords (now words) (node .0 + 1) ⌝ }
     ensures { λ r. ⌜ ((values : List ℤ) → r ≡ hasTwoChildren (nodeAt (now (words .entry)) values (node .0))) ⌝ }
 {
-    !is_split(words, node) | (gt_of(words, node) != le_of(words, node))
+    !layout::is_split(words, node) | (layout::gt_of(words, node) != layout::le_of(words, node))
 }
 
 // The node is not at fault: in order, no split with equal children, and node 0 or the child of exactly one split.
 fn is_fine(words: &[u32], count: u32, node: NodeNumber, parents: u16) -> bool
-    requires { ⌜ HasWords (now words) (node .0) ⌝ }
+    requires { ⌜ HasWords (now words) (node .0 + 1) ⌝ }
     ensures { λ r. ⌜ ((values : List ℤ) → r ≡ isFineAt (now (words .entry)) values count parents (node .0)) ⌝ }
 {
     let one_parent = (node.0 == 0) | (parents == 1);
@@ -185,7 +159,7 @@ fn lowest_fault(words: &[u32], count: u32, parents: &[u16]) -> Fault
 // Whether the first `count` nodes are a sound tree. The parents are counted in a local list: a fault is a refusal, after which every lent list
 // reads as before, and the lists lent for contexts may be too short, since 8 comes before 7.
 pub fn fault_of(words: &[u32], count: u32) -> Fault
-    requires { ⌜ HasNodes (now words) count ⌝ }
+    requires { ⌜ HasWords (now words) count ⌝ }
     ensures { λ r. ⌜ OfTree (now (words .entry)) count (λ (t : List (Record singles)). faultNamed r ≡ faultOf t) ⌝ }
 {
     if (count == 0) | (layout::MAX_NODES < count as usize) {
@@ -201,10 +175,10 @@ fn lower_children(words: &[u32], node: NodeNumber, out: &mut [u32])
     requires { ⌜ Deepens (now words) (node .0) (now out) ⌝ }
     ensures { λ _. ⌜ ((values : List ℤ) → now (out .exit) ≡ deeper (nodeAt (now (words .entry)) values (node .0)) (node .0) (now (out .entry))) ⌝ }
 {
-    if is_split(words, node) {
+    if layout::is_split(words, node) {
         let i = node.0 as usize;
-        let gt = gt_of(words, node) as usize;
-        let le = le_of(words, node) as usize;
+        let gt = layout::gt_of(words, node) as usize;
+        let le = layout::le_of(words, node) as usize;
         let depth = out[i] + 1;
         out[gt] = depth;
         out[le] = depth;

@@ -20,8 +20,8 @@ use Rattle.model.specs.Refuse.{refuseAt, lookupRefusal}
 use Rattle.model.specs.Operations.{Outcome, refused, accepted, Found, outcomeOf, lookup}
 use Rattle.model.proofs.NodeEntries.{length-tree}
 use Rattle.model.proofs.Paths.{towards-in}
-use Rattle.records.specs.Records.{storedOf, noRecord}
-use Rattle.records.specs.declared.MaNode.{MaNode}
+use Rattle.layout.specs.Records.{storedOf, noRecord}
+use Rattle.layout.specs.declared.MaNode.{MaNode}
 use Rattle.tree.proofs.Lists.{in-range}
 use Rattle.answers.specs.Answers.{foundIn}
 use Rattle.ways.specs.declared.Way.{Way}

@@ -9,8 +9,8 @@ use lib.Dec.{eqb, ltb}
 use Rattle.model.specs.Settings.{propsPerRow}
 use Rattle.model.specs.Tree.{towards, isOrderly}
 use Rattle.model.specs.Lent.{recordIn}
-use Rattle.records.specs.Records.{storedOf, noRecord}
-use Rattle.records.specs.declared.MaNode.{MaNode}
+use Rattle.layout.specs.Records.{storedOf, noRecord}
+use Rattle.layout.specs.declared.MaNode.{MaNode}
 use Rattle.ways.specs.declared.Way.{Way}
 
 -- kind 1 is a split, and any other number a leaf

@@ -6,8 +6,8 @@ ghost use mathlib.Core.List.{List};
 ghost use lib.IntN.{ℤ};
 ghost use Rattle.ways.specs.Ways.{isSplit, goesOn, refusedAt, begun, stepped, OneRow};
 use answers::Leaf;
-use records::MaNode;
-use tree::answers::NodeNumber;
+use layout::MaNode;
+use layout::NodeNumber;
 
 // A split's kind. Any other is a leaf's.
 const SPLIT: u32 = 1;

@@ -14,8 +14,8 @@ use Rattle.rows.specs.Cells.{span}
 use Rattle.rows.specs.Flat.{Flat, flat}
 use Rattle.grow.specs.Parts.{RowsSplit, splitNodes}
 use Rattle.state.specs.Grows.{Grows, Growable}
-use Rattle.grow.specs.declared.Pending.{Pending}
-use Rattle.grow.specs.declared.Bounds.{Bounds}
+use Rattle.layout.specs.declared.Pending.{Pending}
+use Rattle.layout.specs.declared.Span.{Span}
 use Rattle.grow.proofs.Choosing as choosing
 use Rattle.grow.proofs.Coding as coding
 use borrow.Author.Needs.{needs}
@@ -43,22 +43,22 @@ module _ (start : tie.Start) where
 -- the rows after the split, with the threshold as it was read
 module _ (c : tie.After-split-rows) where
   abbrev pended : tie.After-pending-at
-  pended = c .before .before .before .before .before .before .before .before .before .before
+  pended = c .before .before .before .before .before .before .before .before .before .before .before .before .before
 
   abbrev begun : tie.Start
-  begun = pended .before .before .before .before .before .before .before .before .before .before .before
+  begun = pended .before .before .before .before .before .before .before .before .before .before .before .before
 
   abbrev p : Pending
   p = pended .pending-at .result
 
-  abbrev b : Bounds
-  b = c .before .before .before .before .before .before .bounds-of .result
+  abbrev b : Span
+  b = c .before .before .before .before .before .before .before .before .span-at .result
 
   abbrev y : Flat
   y = flat (c .split-rows .last .0) (c .split-rows .last .1 .0) (c .split-rows .last .1 .1 .0)
 
   same-val : toZ w32 (ofZ w32 (p .val)) ≡ p .val
-  same-val = toZ-ofZ w32 (p .val) (record { sfits = c .before .before .before .before .before .before .before .before .before .struct-told .given .1 .1 .0 .1 })
+  same-val = toZ-ofZ w32 (p .val) (record { sfits = c .before .before .before .before .before .before .before .before .before .before .before .struct-told .given .1 .1 .0 .1 })
 
   abbrev Cut : ℤ → Type 0
   Cut val =
@@ -76,31 +76,39 @@ module _ (c : tie.After-split-rows) where
 
 pending-at-requires : tie.Need-pending-at-requires
 pending-at-requires c κs =
-    let start = c .before .before .before .before .before .before .before .before .before .before in
+    let start = c .before .before .before .before .before .before .before .before .before .before .before in
     let inside = choosing.inside (grows start) (start .args .k) (start .pre .one-more) (start .pre .some-wait) (start .pre .best) in
-    let words = grows start .queue-room .words in
-    let values = grows start .queue-room .values in
-    omega arith
+    let room = grows start .queue-room in
+    record { words = omega (arith, inside, room .words); values = omega (arith, inside, room .values); gains = omega (arith, inside, room .gains) }
+
+cast-i : tie.Need-cast-i
+cast-i c = search needs
 
 add-depth : tie.Need-add-depth
 add-depth c =
-    let pended = c .before .before in
-    let start = pended .before .before .before .before .before .before .before .before .before .before .before in
+    let pended = c .before .before .before in
+    let start = pended .before .before .before .before .before .before .before .before .before .before .before .before in
     let same = choosing.depth-is (grows start) (start .args .k) (start .pre .one-more) (start .pre .some-wait) (start .pre .best)
     (pended .pending-at .result) (pended .pending-at .ensures) in
     omega (arith, same, choosing.shallow-leaf (grows start) (start .args .k) (start .pre .one-more) (start .pre .some-wait) (start .pre .best))
 
-bounds-of-requires : tie.Need-bounds-of-requires
-bounds-of-requires c κs =
-    let pended = c .before .before .before in
-    let start = pended .before .before .before .before .before .before .before .before .before .before .before in
+span-at-requires : tie.Need-span-at-requires
+span-at-requires c κs =
+    let pended = c .before .before .before .before in
+    let start = pended .before .before .before .before .before .before .before .before .before .before .before .before in
     choosing.spans-room (grows start) (start .args .k) (start .pre .one-more) (start .pre .some-wait) (start .pre .best)
     (pended .pending-at .result) (pended .pending-at .ensures)
 
+cast-first : tie.Need-cast-first
+cast-first c = search needs
+
+cast-end : tie.Need-cast-end
+cast-end c = search needs
+
 mul-cost : tie.Need-mul-cost
 mul-cost c =
-    let pended = c .before .before .before .before in
-    let start = pended .before .before .before .before .before .before .before .before .before .before .before in
+    let pended = c .before .before .before .before .before .before .before in
+    let start = pended .before .before .before .before .before .before .before .before .before .before .before .before in
     let same = choosing.node-is (grows start) (start .args .k) (start .pre .one-more) (start .pre .some-wait) (start .pre .best)
     (pended .pending-at .result) (pended .pending-at .ensures) in
     let inside = choosing.node-inside (grows start) (start .args .k) (start .pre .one-more) (start .pre .some-wait) (start .pre .best) in
@@ -108,8 +116,8 @@ mul-cost c =
 
 slice-read-cost : tie.Need-slice-read-cost
 slice-read-cost c =
-    let pended = c .before .before .before .before .before in
-    let start = pended .before .before .before .before .before .before .before .before .before .before .before in
+    let pended = c .before .before .before .before .before .before .before .before in
+    let start = pended .before .before .before .before .before .before .before .before .before .before .before .before in
     choosing.costs-room (grows start) (start .args .k) (start .pre .one-more) (start .pre .some-wait) (start .pre .best)
     (pended .pending-at .result) (pended .pending-at .ensures)
 
@@ -118,36 +126,36 @@ cast-split-rows c = search needs
 
 split-rows-requires : tie.Need-split-rows-requires
 split-rows-requires c κs =
-    let bounded = c .before .before .before .before .before in
-    let pended = bounded .before .before .before .before in
-    let start = pended .before .before .before .before .before .before .before .before .before .before .before in
+    let bounded = c .before .before .before .before .before .before .before in
+    let pended = bounded .before .before .before .before .before in
+    let start = pended .before .before .before .before .before .before .before .before .before .before .before .before in
     choosing.rows-fit (grows start) (start .args .k) (start .pre .one-more) (start .pre .some-wait) (start .pre .best)
     (pended .pending-at .result) (pended .pending-at .ensures)
-    (bounded .bounds-of .result .first) (bounded .bounds-of .result .end) (bounded .bounds-of .ensures .0) (bounded .bounds-of .ensures .1)
+    (bounded .span-at .result .first) (bounded .span-at .result .end) (bounded .span-at .ensures .0) (bounded .span-at .ensures .1)
 
 split-nodes-requires : tie.Need-split-nodes-requires
 split-nodes-requires c κs =
     let on1 = c .before .before .before .before .before .before .before .before .before .before .before .before .before in
     let rowed = on1 .before in
-    let bounded = rowed .before .before .before .before .before .before in
-    let pended = bounded .before .before .before .before in
-    let start = pended .before .before .before .before .before .before .before .before .before .before .before in
+    let bounded = rowed .before .before .before .before .before .before .before .before in
+    let pended = bounded .before .before .before .before .before in
+    let start = pended .before .before .before .before .before .before .before .before .before .before .before .before in
     coding.nodes-fit (grows start) (start .args .k) (start .pre .one-more) (start .pre .some-wait) (start .pre .best)
     (pended .pending-at .result) (pended .pending-at .ensures)
-    (bounded .bounds-of .result .first) (bounded .bounds-of .result .end) (bounded .bounds-of .ensures .0) (bounded .bounds-of .ensures .1) (cut rowed)
+    (bounded .span-at .result .first) (bounded .span-at .result .end) (bounded .span-at .ensures .0) (bounded .span-at .ensures .1) (cut rowed)
 
 requeue-requires : tie.Need-requeue-requires
 requeue-requires c κs =
     let on1 = c .before .before .before .before .before .before .before .before .before .before .before .before .before in
     let on2 = on1 .before .before .before .before .before .before .before .before .before .before .before .before .before in
     let on3 = on2 .before .before .before .before .before .before .before .before .before .before .before .before .before in
-    let start = on3 .before .before .before .before .before .before .before in
+    let start = on3 .before .before .before .before .before .before .before .before .before .before .before in
     let inside = choosing.inside (grows start) (start .args .k) (start .pre .one-more) (start .pre .some-wait) (start .pre .best) in
     let few = choosing.few-nodes (grows start) (start .args .k) (start .pre .one-more) (start .pre .some-wait) (start .pre .best) in
     (inside, few, choosing.queue-room (grows start) (start .args .k) (start .pre .one-more) (start .pre .some-wait) (start .pre .best))
 
-add-t41 : tie.Need-add-t41
-add-t41 c =
+add-t43 : tie.Need-add-t43
+add-t43 c =
     let start = begun (c .before .before .before .before .before .before .before .before .before .before .before .before .before .before .before .before .before .before .before .before .before .before .before .before .before .before .before .before .before .before .before .before) in
     let few = choosing.few-nodes (grows start) (start .args .k) (start .pre .one-more) (start .pre .some-wait) (start .pre .best) in
     record { fits = omega (arith, few) }
@@ -155,7 +163,7 @@ add-t41 c =
 grown-bits-requires : tie.Need-grown-bits-requires
 grown-bits-requires c κs =
     let rowed = c .before .before .before .before .before .before .before .before .before .before .before .before .before .before .before .before .before .before .before .before .before .before .before .before .before .before .before .before .before .before .before .before in
-    let bounded = rowed .before .before .before .before .before .before .bounds-of in
+    let bounded = rowed .before .before .before .before .before .before .before .before .span-at in
     let start = begun rowed in
     coding.growth-fits (grows start) (start .args .k) (start .pre .one-more) (start .pre .some-wait) (start .pre .best)
     (p rowed) (pended rowed .pending-at .ensures)
@@ -208,7 +216,7 @@ returns c =
     let again = after-requeue c .requeue in
     let nodes = after-split-nodes c .split-nodes in
     let rowed = after-split-rows c in
-    let bounded = rowed .before .before .before .before .before .before .bounds-of in
+    let bounded = rowed .before .before .before .before .before .before .before .before .span-at in
     let start = begun rowed in
     let last = nodes .last in
     let lists' = nodeLists (last .0) (last .1 .0) (last .1 .1 .0) (last .1 .1 .1 .0) in
@@ -229,15 +237,18 @@ split-leaf-spec =
     tie.close
     (tie.spec
     pending-at-requires
+    cast-i
     add-depth
-    bounds-of-requires
+    span-at-requires
+    cast-first
+    cast-end
     mul-cost
     slice-read-cost
     cast-split-rows
     split-rows-requires
     split-nodes-requires
     requeue-requires
-    add-t41
+    add-t43
     grown-bits-requires
     same-length
     same-length-2

@@ -43,11 +43,11 @@ use denote.Triple.Table.{entered, cited}
 use denote.Triple.Walked.{says, walked}
 use Rattle.model.specs.Settings.{maxNodes}
 use Rattle.model.specs.Operations.{leafContexts}
-use Rattle.records.specs.declared.MaNode.{MaNode}
-use Rattle.records.specs.Records.{storedOf}
+use Rattle.layout.specs.declared.MaNode.{MaNode}
+use Rattle.layout.specs.Records.{storedOf}
 use Rattle.records.proofs.Facts.{says-two}
 use Rattle.records.proofs.Locals.{Blocks, env, States, cells, enters, leaves, to-local, count-of}
-use Rattle.records.proofs.MaNode as N
+use Rattle.layout.proofs.MaNode as N
 use Rattle.records.proofs.Rows.{Each, Lists, Spots, Names, Rooms, SameLengths, Mutss, refs, valued, same, rows, Shrss, shared, spelt, lent-shared, lend-shared, back-shared}
 use Rattle.records.proofs.from_records.Symbol as from-records-def
 use Rattle.records.proofs.from_records.Symbol.{name as #from-records}

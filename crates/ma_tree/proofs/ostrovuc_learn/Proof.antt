@@ -36,8 +36,8 @@ use denote.Triple.Walked.{says, walked}
 use Rattle.checks.specs.declared.Settings.{Settings}
 use Rattle.checks.proofs.Settings as S
 use Rattle.checks.proofs.Settings.Laws as S′
-use Rattle.records.specs.declared.MaNode.{MaNode}
-use Rattle.records.proofs.MaNode as N
+use Rattle.layout.specs.declared.MaNode.{MaNode}
+use Rattle.layout.proofs.MaNode as N
 use Rattle.records.proofs.Locals.{States, enters, leaves}
 use Rattle.records.proofs.Rows.{Each, Lists, Spots, Names, Rooms, Mutss, refs, valued, same}
 use Rattle.answers.specs.declared.LearnedTree.{LearnedTree}

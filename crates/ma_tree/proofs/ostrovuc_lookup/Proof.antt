@@ -54,19 +54,19 @@ use denote.Triple.Walked.{says, Stays, Goes, stay-none, stay-none-slice, walkOf,
 use denote.Exit.{yes}
 use Rattle.model.specs.Settings.{propsPerRow}
 use Rattle.model.specs.Operations.{lookup}
-use Rattle.records.specs.Records.{storedOf, noRecord}
-use Rattle.records.specs.declared.MaNode.{MaNode}
-use Rattle.records.proofs.MaNode as N
-use Rattle.records.proofs.MaNode.Laws as N′
+use Rattle.layout.specs.Records.{storedOf, noRecord}
+use Rattle.layout.specs.declared.MaNode.{MaNode}
+use Rattle.layout.proofs.MaNode as N
+use Rattle.layout.proofs.MaNode.Laws as N′
 use Rattle.answers.specs.Answers.{foundIn}
 use Rattle.ways.specs.Ways.{begun, stepped}
-use Rattle.tree.specs.declared.answers.NodeNumber.{NodeNumber}
+use Rattle.layout.specs.declared.NodeNumber.{NodeNumber}
 use Rattle.answers.specs.declared.Leaf.{Leaf}
 use Rattle.ways.specs.declared.Way.{Way}
 use Rattle.records.proofs.Locals.{Blocks, block, env, States, cells, enters, leaves, local-at, to-local, gives, start-of, count-of}
 use Rattle.ways.proofs.Looking.{Going, going-first, going-on, going-none, going-end}
-use Rattle.tree.proofs.answers.NodeNumber as I
-use Rattle.tree.proofs.answers.NodeNumber.Laws as I′
+use Rattle.layout.proofs.NodeNumber as I
+use Rattle.layout.proofs.NodeNumber.Laws as I′
 use Rattle.answers.proofs.Leaf as L
 use Rattle.answers.proofs.Leaf.Laws as L′
 use Rattle.ways.proofs.Way as Y

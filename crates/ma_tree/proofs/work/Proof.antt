@@ -49,11 +49,12 @@ use Rattle.checks.specs.Given.{settingsOf}
 use Rattle.checks.specs.declared.Settings.{Settings}
 use Rattle.checks.proofs.Settings as S
 use Rattle.checks.proofs.Settings.Laws as S′
-use Rattle.records.specs.declared.MaNode.{MaNode}
-use Rattle.records.specs.Records.{nodeOf, filled}
+use Rattle.layout.specs.declared.MaNode.{MaNode}
+use Rattle.records.specs.Records.{filled}
+use Rattle.layout.specs.Records.{nodeOf}
 use Rattle.records.proofs.Facts.{says-two}
 use Rattle.records.proofs.Locals.{Blocks, env, States, cells, enters, leaves, local-at, to-local, count-of}
-use Rattle.records.proofs.MaNode as N
+use Rattle.layout.proofs.MaNode as N
 use Rattle.records.proofs.Rows.{Each, Lists, Spots, Names, Rooms, SameLengths, Mutss, refs, valued, same, rows, opened-one, lents, open-one, close-one, lend-all, back-all, Shrss, shared}
 use Rattle.records.proofs.Rows.{spelt, lent-shared, lend-shared, back-shared, finals}
 use Rattle.records.proofs.from_records.Symbol as from-records-def

@@ -8,8 +8,8 @@ use lib.Ieee.{Float}
 use borrow.Author.Needs.{needs}
 use Rattle.model.specs.Operations.{ContextLists, leafContexts}
 use Rattle.contexts.specs.Answers.{contextsAfter}
-use Rattle.records.specs.Records.{storedOf}
-use Rattle.records.specs.declared.MaNode.{MaNode}
+use Rattle.layout.specs.Records.{storedOf}
+use Rattle.layout.specs.declared.MaNode.{MaNode}
 use Rattle.answers.specs.Answers.{countIn}
 use Rattle.numbers.specs.Numbers.{copied, Numbered}
 use Rattle.numbers.proofs.Reading.{contexts-alike}

@@ -8,7 +8,7 @@ use Rattle.rows.specs.Flat.{flat}
 use Rattle.model.specs.Lent.{rowCount}
 use Rattle.checks.specs.Given.{checkOf}
 use Rattle.checks.proofs.Passed.{deepening}
-use Rattle.records.specs.declared.MaNode.{MaNode}
+use Rattle.layout.specs.declared.MaNode.{MaNode}
 use Rattle.numbers.specs.Lists.{Lists, lists, lentIn}
 use Rattle.numbers.proofs.Refusing.{lends-records, refused-first, refused-large}
 use Rattle.numbers.proofs.refuse_large_seed.Statement.{statement}

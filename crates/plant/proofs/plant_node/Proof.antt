@@ -1,8 +1,8 @@
 -- `plant::plant_node` meets its contract: a node without rows is kept, and a leaf with rows is planted. Assumes nothing.
-use mathlib.Core.Path.{refl}
-use Prim.Native.Nat.{_+_, _*_}
+use mathlib.Core.Path.{_≡_, refl}
+use mathlib.Core.Bool.{Bool, _||_}
+use Prim.Native.Nat.{ℕ}
 use lib.Dec.{eqb}
-use lib.ListN.{getD}
 use Rattle.layout.specs.Layout.{kindAt}
 use Rattle.plant.proofs.Planting.{kept-planted, leaf-planted}
 use borrow.Author.Needs.{needs}
@@ -10,12 +10,16 @@ use Rattle.plant.proofs.plant_node.Statement.{statement}
 use Rattle.plant.proofs.plant_node.Tie as tie
 use Rattle.model.proofs.Tests.{neither}
 
+-- what the test saw is what the lists hold
+tested : {k k' f f' e e' : ℕ} {b : Bool} → k ≡ k' → f ≡ f' → e ≡ e' → (eqb k 1 || eqb f e) ≡ b → (eqb k' 1 || eqb f' e') ≡ b
+tested p q r h = rw (← p, ← q, ← r) h
+
 -- ---- from either branch back to the entry, and from its call to the branch
 abbrev empty : tie.Then1 → tie.Start
-empty c = c .before .before .before .before .before .before .before .before .before .before .before .before
+empty c = c .before .before .before .before .before .before .before .before .before .before .before .before .before .before .before
 
 abbrev busy : tie.Else1 → tie.Start
-busy c = c .before .before .before .before .before .before .before .before .before .before .before .before
+busy c = c .before .before .before .before .before .before .before .before .before .before .before .before .before .before .before
 
 abbrev kept : tie.After-keep-node → tie.Then1
 kept c = c .before .before .before .before .before
@@ -23,49 +27,25 @@ kept c = c .before .before .before .before .before
 abbrev planted : tie.After-plant-leaf → tie.Else1
 planted c = c .before .before .before .before .before .before .before .before .before .before
 
-mul-first : tie.Need-mul-first
-mul-first c = search needs
-
-mul-first-2 : tie.Need-mul-first-2
-mul-first-2 c = search needs
-
-slice-read-first : tie.Need-slice-read-first
-slice-read-first c = search needs
+span-at-requires : tie.Need-span-at-requires
+span-at-requires c κs = search needs
 
 cast-first : tie.Need-cast-first
 cast-first c = search needs
 
-mul-end : tie.Need-mul-end
-mul-end c = search needs
-
-add-end : tie.Need-add-end
-add-end c = search needs
-
-mul-end-2 : tie.Need-mul-end-2
-mul-end-2 c = search needs
-
-slice-read-end : tie.Need-slice-read-end
-slice-read-end c = search needs
-
 cast-end : tie.Need-cast-end
 cast-end c = search needs
 
-mul-if1 : tie.Need-mul-if1
-mul-if1 c = search needs
-
-mul-if1-2 : tie.Need-mul-if1-2
-mul-if1-2 c = search needs
-
-slice-read-if1 : tie.Need-slice-read-if1
-slice-read-if1 c = search needs
+kind-at-requires : tie.Need-kind-at-requires
+kind-at-requires c κs = search needs
 
 keep-node-requires : tie.Need-keep-node-requires
 keep-node-requires c κs = search needs
 
-add-t39 : tie.Need-add-t39
-add-t39 c = search needs
+add-t38 : tie.Need-add-t38
+add-t38 c = search needs
 
-abbrev after-keep-node : tie.After-slice-known13 → tie.After-keep-node
+abbrev after-keep-node : tie.After-slice-known10 → tie.After-keep-node
 after-keep-node c = c .before .before .before .before .before .before .before
 
 same-length : tie.Need-same-length
@@ -84,7 +64,9 @@ returns : tie.Need-returns
 returns c =
     let done = c .before .before .before .before .before .before .before in
     let start = empty (kept done) .args in
-    kept-planted (start .depth) (kept done .if1 .taken) (done .keep-node .ensures)
+    let spanned = kept done .before .before .before .before .before .span-at in
+    let test = tested (kept done .before .kind-at .ensures) (spanned .ensures .0) (spanned .ensures .1) (kept done .if1 .taken) in
+    kept-planted (start .depth) test (done .keep-node .ensures)
 
 plant-leaf-requires : tie.Need-plant-leaf-requires
 plant-leaf-requires c κs =
@@ -92,19 +74,18 @@ plant-leaf-requires c κs =
     let start = busy other in
     let words = start .args .words .now in
     let i = start .args .tree .nodes in
-    let first = getD (start .args .spans .now) (i * 2) 0 in
-    let end = getD (start .args .spans .now) (i * 2 + 1) 0 in
-    let tests = neither (eqb (kindAt words i) 1) (eqb first end) .0 (other .if1 .left) in
+    let spanned = other .before .before .before .before .before .span-at in
+    let tests = neither (eqb (kindAt words i) 1) (eqb (spanned .result .first) (spanned .result .end)) .0 (rw (other .before .kind-at .ensures) at (other .if1 .left)) in
     record {
       fitting = start .pre .fitting;
       logs-small = start .pre .logs-small;
-      spanned = start .pre .spanned;
+      spanned = rw (spanned .ensures .0, spanned .ensures .1) (start .pre .spanned);
       room = start .pre .room;
       few = start .pre .few;
       queue-room = λ t. start .pre .queue-room t (tests .0);
     }
 
-abbrev after-plant-leaf : tie.After-slice-known20 → tie.After-plant-leaf
+abbrev after-plant-leaf : tie.After-slice-known17 → tie.After-plant-leaf
 after-plant-leaf c = c .before .before .before .before .before .before .before .before .before .before .before .before .before .before .before .before
 
 same-length-5 : tie.Need-same-length-5
@@ -137,26 +118,20 @@ same-length-13 c = after-plant-leaf c .plant-leaf .kept .1 .1 .1 .1 .1 .1 .1 .1 
 returns-2 : tie.Need-returns-2
 returns-2 c =
     let done = c .before .before .before .before .before .before .before .before .before .before .before .before .before .before .before .before in
-    leaf-planted (done .plant-leaf .ensures) (planted done .if1 .left) refl refl
+    let other = planted done in
+    let spanned = other .before .before .before .before .before .span-at in
+    leaf-planted (done .plant-leaf .ensures) (tested {f = spanned .result .first} {e = spanned .result .end} (other .before .kind-at .ensures) refl refl (other .if1 .left)) (spanned .ensures .0) (spanned .ensures .1)
 
 pub plant-node-spec : {M : Type 1} → statement M
 plant-node-spec =
     tie.close
     (tie.spec
-    mul-first
-    mul-first-2
-    slice-read-first
+    span-at-requires
     cast-first
-    mul-end
-    add-end
-    mul-end-2
-    slice-read-end
     cast-end
-    mul-if1
-    mul-if1-2
-    slice-read-if1
+    kind-at-requires
     keep-node-requires
-    add-t39
+    add-t38
     same-length
     same-length-2
     same-length-3

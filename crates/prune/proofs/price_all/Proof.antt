@@ -35,9 +35,9 @@ price-node-requires c κs =
     let some = loop-test .taken in
     record {
       there = record {
-        words-there = omega (arith, here .inv .0, pre .words-there);
-        values-there = omega (arith, here .inv .0, pre .values-there);
-        cost-there = omega (arith, here .inv .0, pre .costs-there);
+        words-there = omega (arith, here .inv .0, pre .there .words-there);
+        values-there = omega (arith, here .inv .0, pre .there .values-there);
+        costs-there = omega (arith, here .inv .0, pre .there .costs-there);
       };
       number = pre .numbers _ (omega (arith, here .inv .0));
       price-number = pre .price-number;

@@ -4,7 +4,6 @@ use mathlib.Core.List.{append-nil}
 use Prim.Native.Nat.{_+_}
 use native.Mathlib.Nat.{add-zero}
 use native.Mathlib.Omega.{arith}
-use lib.ListN.{length-set}
 use mir.Syntax.{w32}
 use mir.ValLaws.{toZ-ofZ}
 use Rattle.model.specs.Single.{singles}
@@ -19,65 +18,38 @@ use Rattle.queue.proofs.enqueue.Statement.{statement}
 use Rattle.queue.proofs.enqueue.Tie as tie
 
 -- where the offer is a split
+abbrev start : tie.After-known-told → tie.Start
+start c = c .before .before .before .before .before
+
 abbrev lists : tie.After-known-told → QueueLists
-lists c = queueLists (c .before .before .before .args .words .now) (c .before .before .before .args .values .now) (c .before .before .before .args .gains .now)
+lists c = queueLists (start c .args .words .now) (start c .args .values .now) (start c .args .gains .now)
 
 abbrev offered : tie.After-known-told → model.Offer singles
 offered c = record { prop = c .before .offer .given .0 .0; val = c .before .offer .given .0 .1 .0; gain = c .before .offer .given .0 .1 .1 .0 }
 
-room : (c : tie.After-known-told) → QueueRoom (c .before .before .before .args .waiting + 1) (lists c)
-room c = c .before .before .before .pre .1 (offered c) (ap offerIs (c .before .offer .given .1))
+room : (c : tie.After-known-told) → QueueRoom (start c .args .waiting + 1) (lists c)
+room c = start c .pre .1 (offered c) (ap offerIs (c .before .offer .given .1))
 
 enum-known-offer : tie.Need-enum-known-offer
 enum-known-offer c = search needs
 
-mul-at : tie.Need-mul-at
-mul-at c = omega (arith, room c)
-
-cast-words : tie.Need-cast-words
-cast-words c = search needs
-
-mul-words : tie.Need-mul-words
-mul-words c = omega (arith, room c)
-
-slice-write-words : tie.Need-slice-write-words
-slice-write-words c = omega (arith, room c)
-
-add-words : tie.Need-add-words
-add-words c = omega (arith, room c)
-
-mul-words-2 : tie.Need-mul-words-2
-mul-words-2 c = omega (arith, room c)
-
-slice-write-words-2 : tie.Need-slice-write-words-2
-slice-write-words-2 c = simp length-set (omega (arith, room c))
-
-add-words-2 : tie.Need-add-words-2
-add-words-2 c = omega (arith, room c)
-
-mul-words-3 : tie.Need-mul-words-3
-mul-words-3 c = omega (arith, room c)
-
-slice-write-words-3 : tie.Need-slice-write-words-3
-slice-write-words-3 c = simp length-set (omega (arith, room c))
-
-mul-val : tie.Need-mul-val
-mul-val c = omega (arith, room c)
-
-slice-set-from-val : tie.Need-slice-set-from-val
-slice-set-from-val c = omega (arith, room c)
-
-mul-gains : tie.Need-mul-gains
-mul-gains c = omega (arith, room c)
-
-slice-write-gains : tie.Need-slice-write-gains
-slice-write-gains c = omega (arith, room c)
-
-add-result : tie.Need-add-result
-add-result c = omega (arith, room c)
-
 enum-told : tie.Need-enum-told
 enum-told c = search needs
+
+returns : tie.Need-returns
+returns c =
+    let a = c .before .before .before .before .args in
+    let q = queueLists (a .words .now) (a .values .now) (a .gains .now) in
+    rw (c .enum-told .given .1) ((λ leaves h. rw append-nil h), (sym (add-zero (a .waiting)), same-itself q))
+
+cast-t12 : tie.Need-cast-t12
+cast-t12 c = search needs
+
+put-pending-requires : tie.Need-put-pending-requires
+put-pending-requires c κs = room (c .before .before .before)
+
+add-result : tie.Need-add-result
+add-result c = omega (arith, room (c .before .before .before .before .before .before .before .before .before))
 
 same-length : tie.Need-same-length
 same-length c = search needs
@@ -90,19 +62,15 @@ same-length-3 c = search needs
 
 returns-2 : tie.Need-returns-2
 returns-2 c =
-    let a = c .before .before .before .args in
-    let o = offered c in
+    let stored = c .before .before .before .before .before .put-pending .ensures in
+    let told = c .before .before .before .before .before .before .before .before .before in
+    let a = start told .args in
+    let o = offered told in
     let w : Waiting singles = record { node = a .node; depth = a .depth; offer = o } in
-    rw (toZ-ofZ w32 (o .val) (record { sfits = c .known-told .given .1 .0 .1 }), c .before .offer .given .1) (
-      λ leaves h. added (lists c) leaves (a .waiting) h w (room c),
-      (refl, same-added (lists c) (a .waiting) (a .node) (o .prop) (a .depth) (o .val) (o .gain)),
+    rw (stored .0, stored .1 .0, stored .1 .1, toZ-ofZ w32 (o .val) (record { sfits = told .known-told .given .1 .0 .1 }), told .before .offer .given .1) (
+      λ leaves h. added (lists told) leaves (a .waiting) h w (room told),
+      (refl, same-added (lists told) (a .waiting) (a .node) (o .prop) (a .depth) (o .val) (o .gain)),
     )
-
-returns : tie.Need-returns
-returns c =
-    let a = c .before .before .args in
-    let q = queueLists (a .words .now) (a .values .now) (a .gains .now) in
-    rw (c .enum-told .given .1) ((λ leaves h. rw append-nil h), (sym (add-zero (a .waiting)), same-itself q))
 
 pub enqueue-spec : {M : Type 1} → statement M
 enqueue-spec =
@@ -111,20 +79,8 @@ enqueue-spec =
     enum-known-offer
     enum-told
     returns
-    mul-at
-    cast-words
-    mul-words
-    slice-write-words
-    add-words
-    mul-words-2
-    slice-write-words-2
-    add-words-2
-    mul-words-3
-    slice-write-words-3
-    mul-val
-    slice-set-from-val
-    mul-gains
-    slice-write-gains
+    cast-t12
+    put-pending-requires
     add-result
     same-length
     same-length-2

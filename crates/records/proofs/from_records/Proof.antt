@@ -48,19 +48,21 @@ use denote.Triple.Clauses.{ensured, lasts}
 use denote.Triple.Table.{entered, cited}
 use denote.Triple.Walked.{says, Stay, Stays, Goes, stay-slice, stay-none, stay-none-slice, walkOf, Walks, ends-at, walked, goes-slice, goes-none, goes-none-slice, walk-meets}
 use denote.Exit.{yes}
-use Rattle.records.specs.declared.MaNode.{MaNode}
-use Rattle.records.specs.Records.{noRecord, HasPlaces, wordsFrom, valuesFrom, costsFrom}
+use Rattle.layout.specs.declared.MaNode.{MaNode}
+use Rattle.records.specs.Records.{wordsFrom, valuesFrom, costsFrom}
+use Rattle.layout.specs.Records.{noRecord}
+use Rattle.layout.specs.Layout.{HasNodes}
 use Rattle.records.proofs.Copies.{one-place, same-places, length-words, length-values, length-costs}
 use Rattle.records.proofs.Counted.{goes-on, is-done, one-more, counted}
 use Rattle.records.proofs.Facts.{says-three, needs-two}
 use Rattle.records.proofs.Locals.{Blocks, env, States, cells, enters, leaves, local-at, gives, to-local, start-of, count-of, behind}
 use Rattle.records.proofs.Rows.{Lists, Spots, Names, Rooms, SameLengths, Mutss, refs, valued, same, rows, opened-one, lents, open-one, close-one, lend-all, back-all}
-use Rattle.records.proofs.MaNode as T
-use Rattle.records.proofs.MaNode.Laws as T′
-use Rattle.records.proofs.put_node as put-node
-use Rattle.records.proofs.put_node.Symbol as put-node-def
-use Rattle.records.proofs.put_node.Symbol.{name as #put-node}
-use Rattle.records.proofs.put_node.Met as put-node-thm
+use Rattle.layout.proofs.MaNode as T
+use Rattle.layout.proofs.MaNode.Laws as T′
+use Rattle.layout.proofs.put_node as put-node
+use Rattle.layout.proofs.put_node.Symbol as put-node-def
+use Rattle.layout.proofs.put_node.Symbol.{name as #put-node}
+use Rattle.layout.proofs.put_node.Met as put-node-thm
 use Rattle.records.proofs.from_records.Key.{name as #from-records}
 use Rattle.records.proofs.from_records as f
 use Rattle.records.proofs.from_records.Statement as stated
@@ -84,7 +86,7 @@ PutNode 𝓤 H A mem run = tripleOf 𝓤 H A put-node.signature (put-node.spec �
 
 module _ {M : Type 1} (𝓤 : URA M) (H : Heap 𝓤) (A : Atoms 𝓤) (W : Given 𝓤 H A) (mem : Memory → SProp 𝓤) (run : Routine → Fun 𝓤) (κ κ′ : Lft) (q q′ : Share) (b o : ℕ) (γ : GName)
     (ms : List MaNode) (n : ℕ) (ps : Spots Es) (δs : Names Es) (ys : Lists Es) (room : Room T.the-row (length ms)) (n-fits : n < 2 ^ 64) (rooms : Rooms Es ys) (enough : n ≤ length ms)
-    (places : HasPlaces n (ys .0) (ys .1 .0) (ys .1 .1 .0)) where
+    (places : HasNodes n (ys .0) (ys .1 .0) (ys .1 .1 .0)) where
   abbrev x : RefT (List MaNode)
   x = record { ptr = (b, o); name = γ; now = ms }
 
@@ -275,4 +277,4 @@ from-records-spec 𝓤 H 𝓜 𝓖 𝓡 =
     entered 𝓤 H (tripleOf 𝓤 H (𝓖 .A) f.signature (f.spec 𝓤 H (𝓖 .A) (𝓜 .mem) (𝓡 .run)))
     (tables 𝓤 H 𝓜 𝓡 code.env .C) (tables 𝓤 H 𝓜 𝓡 code.env .Λ) #from-records code.function (code.unfolded 𝓤 H 𝓜 𝓡)
     (meets 𝓤 H (𝓖 .A) (givenOf 𝓤 H 𝓜 𝓖) (𝓜 .mem) (𝓡 .run) (tablesOf 𝓤 H 𝓜 (tables 𝓤 H 𝓜 𝓡 code.env))
-    (cited 𝓤 H (PutNode 𝓤 H (𝓖 .A) (𝓜 .mem) (𝓡 .run)) 𝓜 𝓡 code.env #put-node put-node-def.routine code.calls-records·put-node (put-node-thm.met 𝓤 H 𝓜 𝓖 𝓡)))
+    (cited 𝓤 H (PutNode 𝓤 H (𝓖 .A) (𝓜 .mem) (𝓡 .run)) 𝓜 𝓡 code.env #put-node put-node-def.routine code.calls-layout·put-node (put-node-thm.met 𝓤 H 𝓜 𝓖 𝓡)))

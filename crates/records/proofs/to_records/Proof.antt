@@ -1,6 +1,6 @@
--- `records::to_records` meets its contract: a walk of its MIR, by hand. The borrow of the records is opened before the loop, and closed after it. In each turn `node_of` makes a record of
+-- `records::to_records` meets its contract: a walk of its MIR, by hand. The borrow of the records is opened before the loop, and closed after it. In each turn `node_at` makes a record of
 -- the number lists, and it is stored.
--- From `node_of` it takes only that it meets its contract. What the number lists own can be had twice: each call takes a copy.
+-- From `node_at` it takes only that it meets its contract. What the number lists own can be had twice: each call takes a copy.
 -- Assumes nothing.
 use mathlib.Core.Path.{_≡_, refl, sym, _∙_, ap, subst}
 use Prim.Native.Nat.{ℕ, suc, _+_, _*_, _<_, _≤_, _^_}
@@ -46,19 +46,21 @@ use denote.Triple.Clauses.{ensured, lasts}
 use denote.Triple.Table.{entered, cited}
 use denote.Triple.Walked.{says, Stay, Stays, Goes, stay-slice, stay-none, stay-none-slice, walkOf, Walks, ends-at, walked, goes-slice, goes-none, goes-none-slice, walk-meets}
 use denote.Exit.{yes}
-use Rattle.records.specs.declared.MaNode.{MaNode}
-use Rattle.records.specs.Records.{noRecord, nodeOf, HasPlaces, filled}
+use Rattle.layout.specs.declared.MaNode.{MaNode}
+use Rattle.records.specs.Records.{filled}
+use Rattle.layout.specs.Records.{noRecord, nodeOf}
+use Rattle.layout.specs.Layout.{HasNodes}
 use Rattle.records.proofs.Copies.{one-place, length-filled}
 use Rattle.records.proofs.Counted.{goes-on, is-done, one-more, counted}
 use Rattle.records.proofs.Facts.{needs-two}
 use Rattle.records.proofs.Locals.{Blocks, block, env, States, cells, enters, leaves, local-at, gives, to-local, start-of}
 use Rattle.records.proofs.Rows.{Lists, Spots, Names, Rooms, Shrss, shared, spelt, same, copies-shared}
-use Rattle.records.proofs.MaNode as T
-use Rattle.records.proofs.MaNode.Laws as T′
-use Rattle.records.proofs.node_of as node-of
-use Rattle.records.proofs.node_of.Symbol as node-of-def
-use Rattle.records.proofs.node_of.Symbol.{name as #node-of}
-use Rattle.records.proofs.node_of.Met as node-of-thm
+use Rattle.layout.proofs.MaNode as T
+use Rattle.layout.proofs.MaNode.Laws as T′
+use Rattle.layout.proofs.node_at as node-at
+use Rattle.layout.proofs.node_at.Symbol as node-at-def
+use Rattle.layout.proofs.node_at.Symbol.{name as #node-at}
+use Rattle.layout.proofs.node_at.Met as node-at-thm
 use Rattle.records.proofs.to_records.Key.{name as #to-records}
 use Rattle.records.proofs.to_records as f
 use Rattle.records.proofs.to_records.Statement as stated
@@ -77,12 +79,12 @@ abbrev stayed : Stays (f.ended .signature .params) (f.ended .kept)
 stayed = (stay-slice (0 ∷ []) tt (plain (λ _. T.the-row)), (stay-none (λ _. usize) yes, (of u32, (of i32, (of f32, tt)))))
 
 -- the contract that the proof cites
-abbrev NodeOf : {M : Type 1} (𝓤 : URA M) (H : Heap 𝓤) (A : Atoms 𝓤) (mem : Memory → SProp 𝓤) (run : Routine → Fun 𝓤) → Contract 𝓤
-NodeOf 𝓤 H A mem run = tripleOf 𝓤 H A node-of.signature (node-of.spec 𝓤 H A mem run)
+abbrev NodeAt : {M : Type 1} (𝓤 : URA M) (H : Heap 𝓤) (A : Atoms 𝓤) (mem : Memory → SProp 𝓤) (run : Routine → Fun 𝓤) → Contract 𝓤
+NodeAt 𝓤 H A mem run = tripleOf 𝓤 H A node-at.signature (node-at.spec 𝓤 H A mem run)
 
 module _ {M : Type 1} (𝓤 : URA M) (H : Heap 𝓤) (A : Atoms 𝓤) (W : Given 𝓤 H A) (mem : Memory → SProp 𝓤) (run : Routine → Fun 𝓤) (κ κ′ : Lft) (q q′ : Share) (b o : ℕ) (γ : GName)
     (xs : List MaNode) (n : ℕ) (ps : Spots Es) (δs : Names Es) (ys : Lists Es) (room : Room T.the-row (length xs)) (n-fits : n < 2 ^ 64) (rooms : Rooms Es ys) (enough : n ≤ length xs)
-    (places : HasPlaces n (ys .0) (ys .1 .0) (ys .1 .1 .0)) where
+    (places : HasNodes n (ys .0) (ys .1 .0) (ys .1 .1 .0)) where
   -- the records at a list
   abbrev x : List MaNode → RefT (List MaNode)
   x l = record { ptr = (b, o); name = γ; now = l }
@@ -120,15 +122,15 @@ module _ {M : Type 1} (𝓤 : URA M) (H : Heap 𝓤) (A : Atoms 𝓤) (W : Given
   token = ‵ (flft κ′ q′) ⊛ ‵ ftrue
 
   -- ---- the call
-  abbrev to : ℕ → NodeOf 𝓤 H A mem run .Ghost
+  abbrev to : ℕ → NodeAt 𝓤 H A mem run .Ghost
   to i = (((κ′, tt), (q′, tt), tt, (i, a .1 .1), (vint w64 i ∷ [], vals .1 .1)), tt)
 
-  asked : (i : ℕ) → i < n → ent 𝓤 (⋆ 𝓤 H A (token ∷ ‵ Own ∷ [])) (NodeOf 𝓤 H A mem run .pre (to i))
+  asked : (i : ℕ) → i < n → ent 𝓤 (⋆ 𝓤 H A (token ∷ ‵ Own ∷ [])) (NodeAt 𝓤 H A mem run .pre (to i))
   asked i small =
       qed W (token ∷ ‵ Own ∷ []) ∵ says ! (one-place places small) $ frame ! $ owned ! usize (Is usize) (uint-makes 𝓤 H A W w64) i _ (refl, omega (arith, small, n-fits)) $ fjoin ! $ done !
 
-  said : (i : ℕ) (r : MaNode) → ent 𝓤 (ensured 𝓤 H A node-of.ended (node-of.clauses 𝓤 H A mem run) (κ′, tt) (i, a .1 .1) tt r) (fact 𝓤 (r ≡ made i))
-  said i r = exE 𝓤 _ (λ ws. snd∗ 𝓤 (sem 𝓤 H A (lasts node-of.ended (κ′, tt) (i, a .1 .1) ws)) (fact 𝓤 (r ≡ made i)))
+  said : (i : ℕ) (r : MaNode) → ent 𝓤 (ensured 𝓤 H A node-at.ended (node-at.clauses 𝓤 H A mem run) (κ′, tt) (i, a .1 .1) tt r) (fact 𝓤 (r ≡ made i))
+  said i r = exE 𝓤 _ (λ ws. snd∗ 𝓤 (sem 𝓤 H A (lasts node-at.ended (κ′, tt) (i, a .1 .1) ws)) (fact 𝓤 (r ≡ made i)))
 
   -- ---- the exit
   abbrev Left : List (Item 𝓤)
@@ -145,7 +147,7 @@ module _ {M : Type 1} (𝓤 : URA M) (H : Heap 𝓤) (A : Atoms 𝓤) (W : Given
       move ! (1 ∷ []) $ owned ! usize (Is usize) (uint-makes 𝓤 H A W w64) n _ (refl, n-fits) $ fjoin ! $ move ! (1 ∷ 0 ∷ []) $ fjoin ! $ frame ! $
       feqI ! (List Val) (vunit ∷ []) (vunit ∷ []) refl $ done !
 
-  module _ (𝓣 : Tables 𝓤 H) (known : Triple 𝓤 (𝓣 .C #node-of) (NodeOf 𝓤 H A mem run)) (bs : Blocks piece.locals) where
+  module _ (𝓣 : Tables 𝓤 H) (known : Triple 𝓤 (𝓣 .C #node-at) (NodeAt 𝓤 H A mem run)) (bs : Blocks piece.locals) where
     abbrev En : Env 𝓤 H
     En = env piece.locals bs
 
@@ -171,10 +173,10 @@ module _ {M : Type 1} (𝓤 : URA M) (H : Heap 𝓤) (A : Atoms 𝓤) (W : Given
         to-local ! 12 (gives ! (bin ! (local-at ! 14 refl) (local-at ! 22 refl) tt) (ap vbool (goes-on i n small))) refl (tt, tt) $ stays ! (local-at ! 12 refl) $
         -- the call takes a copy of what the number lists own, and their token
         move ! (2 ∷ []) $ use1 W (‵ Own ⊛ ‵ Own) (twices 𝓤 H A W Nums (copies-shared 𝓤 H A W Es (same Es κ′)) (a .1 .1) (vals .1 .1)) $ split ! $ move ! (3 ∷ 0 ∷ []) $
-        use2 W (raw (NodeOf 𝓤 H A mem run .pre (to i))) (asked i small) $
-        calls-at ! (fmOf 𝓤 H (W .laws) 𝓣) (NodeOf 𝓤 H A mem run) known (to i) (and-then ! (local-at ! 14 refl)
+        use2 W (raw (NodeAt 𝓤 H A mem run .pre (to i))) (asked i small) $
+        calls-at ! (fmOf 𝓤 H (W .laws) 𝓣) (NodeAt 𝓤 H A mem run) known (to i) (and-then ! (local-at ! 14 refl)
         (and-then ! (local-at ! 20 refl) (and-then ! (local-at ! 18 refl) (and-then ! (local-at ! 16 refl) (no-more !))))) (λ w.
-        use1 W (later (each-of (λ (r : MaNode). (token ⊛ ‵ (T.the-row .own r (w ∷ []))) ⊛ raw (ensured 𝓤 H A node-of.ended (node-of.clauses 𝓤 H A mem run) (κ′, tt) (i, a .1 .1) tt r))))
+        use1 W (later (each-of (λ (r : MaNode). (token ⊛ ‵ (T.the-row .own r (w ∷ []))) ⊛ raw (ensured 𝓤 H A node-at.ended (node-at.clauses 𝓤 H A mem run) (κ′, tt) (i, a .1 .1) tt r))))
         (id⊢ 𝓤 _) $ await ! tt $ pick ! (λ r.
         split ! $ move ! (1 ∷ []) $ use1 W (raw (fact 𝓤 (r ≡ made i))) (said i r) $ heard ! (r ≡ made i) (λ is-made.
         split ! $ move ! (1 ∷ []) $ facts ! T.the-row (Is T.the-row) (shows 𝓤 H A T.the-row) r (w ∷ []) (λ is.
@@ -219,7 +221,7 @@ module _ {M : Type 1} (𝓤 : URA M) (H : Heap 𝓤) (A : Atoms 𝓤) (W : Given
         returns ! (look ! 25 refl) $ forget ! 11 refl $ forget ! 25 refl $ leaves ! Left piece.locals bs (held n) $ by ! exits
 
   -- the MIR, up to the loop
-  walk : (𝓣 : Tables 𝓤 H) → Triple 𝓤 (𝓣 .C #node-of) (NodeOf 𝓤 H A mem run)
+  walk : (𝓣 : Tables 𝓤 H) → Triple 𝓤 (𝓣 .C #node-at) (NodeAt 𝓤 H A mem run)
       → ent 𝓤 (onEntry 𝓤 H A f.signature (κ, (κ′, tt)) (q, (q′, tt)) a vals) (WpFn 𝓤 H (𝓣 .C) (𝓣 .Λ) code.function (flat (MutSlice (named 0) κ T.the-row ∷ usize ∷ Nums) vals) Post)
   walk 𝓣 known =
       qed W ((‵ (flft κ q) ⊛ token) ∷ ‵ (owns (MutSlice (named 0) κ T.the-row ∷ usize ∷ Nums) a vals) ∷ []) ∵ enters ! (𝓣 .C) (𝓣 .Λ) code.function
@@ -234,7 +236,7 @@ module _ {M : Type 1} (𝓤 : URA M) (H : Heap 𝓤) (A : Atoms 𝓤) (W : Given
       move ! (5 ∷ []) $ fsplit ! $ drop ! $ move ! (1 ∷ 5 ∷ 0 ∷ []) $ by ! (counted 𝓤 H A W 𝓣 (En 𝓣 known bs) piece.turn-1 (Then 𝓣 known bs) n (At 𝓣 known bs) (more 𝓣 known bs) (ends 𝓣 known bs)))
 
 module _ {M : Type 1} (𝓤 : URA M) (H : Heap 𝓤) (A : Atoms 𝓤) (W : Given 𝓤 H A) (mem : Memory → SProp 𝓤) (run : Routine → Fun 𝓤) (𝓣 : Tables 𝓤 H) where
-  walks : Triple 𝓤 (𝓣 .C #node-of) (NodeOf 𝓤 H A mem run) → Walks 𝓤 H A f.ended stayed (WpFn 𝓤 H (𝓣 .C) (𝓣 .Λ) code.function) (f.clauses 𝓤 H A mem run)
+  walks : Triple 𝓤 (𝓣 .C #node-at) (NodeAt 𝓤 H A mem run) → Walks 𝓤 H A f.ended stayed (WpFn 𝓤 H (𝓣 .C) (𝓣 .Λ) code.function) (f.clauses 𝓤 H A mem run)
   walks known = walked 𝓤 H A f.ended stayed (f.clauses 𝓤 H A mem run) (WpFn 𝓤 H (𝓣 .C) (𝓣 .Λ) code.function)
       (λ κs. (slice-vals, (uint-vals w64, (slice-vals, (slice-vals, (slice-vals, tt))))))
       (λ κs. let tells = shr-slice-tells (named 1) (κs .1 .0) in (mut-slice-tells (named 0) (κs .0) T.the-row, (uint-tells w64, (tells u32, (tells i32, (tells f32, tt))))))
@@ -247,7 +249,7 @@ module _ {M : Type 1} (𝓤 : URA M) (H : Heap 𝓤) (A : Atoms 𝓤) (W : Given
   goes : (R : RattleType) → Goes 𝓤 H A W 2 (shrSliceOf (1 ∷ []) tt (plain (λ _. R))) yes (of R)
   goes R = goes-none-slice 𝓤 H A W 2 (1 ∷ []) tt (plain (λ _. R)) yes
 
-  meets : Triple 𝓤 (𝓣 .C #node-of) (NodeOf 𝓤 H A mem run) → Meets 𝓤 H A f.signature (WpFn 𝓤 H (𝓣 .C) (𝓣 .Λ) code.function) (f.spec 𝓤 H A mem run)
+  meets : Triple 𝓤 (𝓣 .C #node-at) (NodeAt 𝓤 H A mem run) → Meets 𝓤 H A f.signature (WpFn 𝓤 H (𝓣 .C) (𝓣 .Λ) code.function) (f.spec 𝓤 H A mem run)
   meets known = walk-meets 𝓤 H A f.ended stayed W
       (goes-slice 𝓤 H A W 2 0 tt (plain (λ _. T.the-row)), (goes-none 𝓤 H A W 2 (λ _. usize) yes (λ κs x f. refl), (goes u32, (goes i32, (goes f32, tt)))))
       (f.clauses 𝓤 H A mem run) (WpFn 𝓤 H (𝓣 .C) (𝓣 .Λ) code.function) (WpFn-mono 𝓤 H (W .laws) 𝓣 code.function) (walks known)
@@ -258,4 +260,4 @@ to-records-spec 𝓤 H 𝓜 𝓖 𝓡 =
     entered 𝓤 H (tripleOf 𝓤 H (𝓖 .A) f.signature (f.spec 𝓤 H (𝓖 .A) (𝓜 .mem) (𝓡 .run)))
     (tables 𝓤 H 𝓜 𝓡 code.env .C) (tables 𝓤 H 𝓜 𝓡 code.env .Λ) #to-records code.function (code.unfolded 𝓤 H 𝓜 𝓡)
     (meets 𝓤 H (𝓖 .A) (givenOf 𝓤 H 𝓜 𝓖) (𝓜 .mem) (𝓡 .run) (tablesOf 𝓤 H 𝓜 (tables 𝓤 H 𝓜 𝓡 code.env))
-    (cited 𝓤 H (NodeOf 𝓤 H (𝓖 .A) (𝓜 .mem) (𝓡 .run)) 𝓜 𝓡 code.env #node-of node-of-def.routine code.calls-records·node-of (node-of-thm.met 𝓤 H 𝓜 𝓖 𝓡)))
+    (cited 𝓤 H (NodeAt 𝓤 H (𝓖 .A) (𝓜 .mem) (𝓡 .run)) 𝓜 𝓡 code.env #node-at node-at-def.routine code.calls-layout·node-at (node-at-thm.met 𝓤 H 𝓜 𝓖 𝓡)))

@@ -1,7 +1,6 @@
 -- `seed::pair_spans` meets its contract. The invariant: the pairs of the entries passed stand in the span list. Assumes nothing.
 use mathlib.Core.Path.{_≡_, subst}
 use Prim.Native.Nat.{ℕ, _≤_, _<_, _-_}
-use lib.ListN.{length-set}
 use native.Mathlib.Omega.{arith}
 use borrow.Author.Needs.{needs}
 use Rattle.seed.specs.Ordered.{Pairs}
@@ -18,41 +17,23 @@ abbrev μ-loop : tie.MeasureT-loop
 loop-holds : tie.Need-loop-holds Inv-loop μ-loop
 loop-holds c = (omega arith, pairs-none _ _ _)
 
-mul-spans : tie.Need-mul-spans Inv-loop μ-loop
-mul-spans c = search needs
+mul-t7 : tie.Need-mul-t7 Inv-loop μ-loop
+mul-t7 c = search needs
 
-shared-slice-read-spans : tie.Need-shared-slice-read-spans Inv-loop μ-loop
-shared-slice-read-spans c = search needs
+shared-slice-read-t9 : tie.Need-shared-slice-read-t9 Inv-loop μ-loop
+shared-slice-read-t9 c = search needs
 
-mul-spans-2 : tie.Need-mul-spans-2 Inv-loop μ-loop
-mul-spans-2 c = search needs
+add-t10 : tie.Need-add-t10 Inv-loop μ-loop
+add-t10 c = search needs
 
-mul-spans-3 : tie.Need-mul-spans-3 Inv-loop μ-loop
-mul-spans-3 c = search needs
+mul-t11 : tie.Need-mul-t11 Inv-loop μ-loop
+mul-t11 c = search needs
 
-slice-write-spans : tie.Need-slice-write-spans Inv-loop μ-loop
-slice-write-spans c = search needs
+shared-slice-read-t13 : tie.Need-shared-slice-read-t13 Inv-loop μ-loop
+shared-slice-read-t13 c = search needs
 
-add-spans : tie.Need-add-spans Inv-loop μ-loop
-add-spans c = search needs
-
-mul-spans-4 : tie.Need-mul-spans-4 Inv-loop μ-loop
-mul-spans-4 c = search needs
-
-shared-slice-read-spans-2 : tie.Need-shared-slice-read-spans-2 Inv-loop μ-loop
-shared-slice-read-spans-2 c = search needs
-
-mul-spans-5 : tie.Need-mul-spans-5 Inv-loop μ-loop
-mul-spans-5 c = search needs
-
-add-spans-2 : tie.Need-add-spans-2 Inv-loop μ-loop
-add-spans-2 c = search needs
-
-mul-spans-6 : tie.Need-mul-spans-6 Inv-loop μ-loop
-mul-spans-6 c = search needs
-
-slice-write-spans-2 : tie.Need-slice-write-spans-2 Inv-loop μ-loop
-slice-write-spans-2 c = simp length-set (omega (arith, c .before .before .before .loop .inv .1 .long, c .before .before .before .before .pre .room))
+put-span-requires : tie.Need-put-span-requires Inv-loop μ-loop
+put-span-requires c κs = omega (arith, c .before .before .before .before .loop .inv .1 .long, c .before .before .before .before .before .before .before .pre .room)
 
 add-k : tie.Need-add-k Inv-loop μ-loop
 add-k c = search needs
@@ -62,10 +43,10 @@ loop-less c = search needs
 
 loop-again : tie.Need-loop-again Inv-loop μ-loop
 loop-again c =
-    let here = c .before .before .before .loop in
-    let start = c .before .before .before .before in
+    let here = c .before .before .before .before .before .before .before .loop in
+    let start = c .before .before .before .before .before .before .before .before .before .before in
     let inside : here .k < start .args .count = omega arith in
-    (omega arith, pairs-more (start .pre) (here .k) (here .spans) inside (here .inv .1))
+    (omega arith, rw (c .before .before .put-span .ensures) (pairs-more (start .pre) (here .k) (here .spans) inside (here .inv .1)))
 
 same-length : tie.Need-same-length Inv-loop μ-loop
 same-length c = c .before .loop .inv .1 .long
@@ -73,7 +54,7 @@ same-length c = c .before .loop .inv .1 .long
 returns : tie.Need-returns Inv-loop μ-loop
 returns c =
     let here = c .before .loop in
-    let start = c .before .before .args in
+    let start = c .before .before .before .before .args in
     let e : here .k ≡ start .count = omega arith in
     subst (λ (k : ℕ). Pairs k (start .count) (start .space .now) (start .spans .now) (here .spans)) e (here .inv .1)
 
@@ -84,18 +65,12 @@ pair-spans-spec =
     Inv-loop
     μ-loop
     loop-holds
-    mul-spans
-    shared-slice-read-spans
-    mul-spans-2
-    mul-spans-3
-    slice-write-spans
-    add-spans
-    mul-spans-4
-    shared-slice-read-spans-2
-    mul-spans-5
-    add-spans-2
-    mul-spans-6
-    slice-write-spans-2
+    mul-t7
+    shared-slice-read-t9
+    add-t10
+    mul-t11
+    shared-slice-read-t13
+    put-span-requires
     add-k
     loop-less
     loop-again

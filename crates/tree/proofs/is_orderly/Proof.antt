@@ -1,88 +1,44 @@
 -- `tree::is_orderly` meets its contract. Assumes nothing.
-use Prim.Native.Nat.{_+_, _*_}
-use native.Mathlib.Omega.{arith}
+use mathlib.Core.Path.{sym, _∙_}
 use borrow.Author.Needs.{needs}
-use borrow.Author.Tests.{eq-eqb, ne-eqb}
 use Rattle.tree.proofs.is_orderly.Statement.{statement}
 use Rattle.tree.proofs.is_orderly.Tie as tie
 
-cast-at : tie.Need-cast-at
-cast-at c = search needs
+is-split-requires : tie.Need-is-split-requires
+is-split-requires c κs = search needs
 
-mul-at : tie.Need-mul-at
-mul-at c = search needs
-
-mul-if1 : tie.Need-mul-if1
-mul-if1 c = search needs
-
-shared-slice-read-if1 : tie.Need-shared-slice-read-if1
-shared-slice-read-if1 c = search needs
-
-add-result : tie.Need-add-result
-add-result c = search needs
-
-mul-result : tie.Need-mul-result
-mul-result c = search needs
-
-shared-slice-read-result : tie.Need-shared-slice-read-result
-shared-slice-read-result c = search needs
-
-returns : tie.Need-returns
-returns c values = rw (ne-eqb _ _ (c .before .if1 .taken))
-
-add-prop : tie.Need-add-prop
-add-prop c = search needs
-
-mul-prop : tie.Need-mul-prop
-mul-prop c = search needs
-
-shared-slice-read-prop : tie.Need-shared-slice-read-prop
-shared-slice-read-prop c = search needs
+prop-of-requires : tie.Need-prop-of-requires
+prop-of-requires c κs = search needs
 
 cast-prop : tie.Need-cast-prop
-cast-prop c = omega (arith, c .shared-slice-known3 .given (c .before .before .before .args .node .0 * 5 + 1))
+cast-prop c = search needs
 
-add-gt : tie.Need-add-gt
-add-gt c = search needs
+gt-of-requires : tie.Need-gt-of-requires
+gt-of-requires c κs = search needs
 
-mul-gt : tie.Need-mul-gt
-mul-gt c = search needs
+le-of-requires : tie.Need-le-of-requires
+le-of-requires c κs = search needs
 
-shared-slice-read-gt : tie.Need-shared-slice-read-gt
-shared-slice-read-gt c = search needs
+returns : tie.Need-returns
+returns c values =
+    let branch = c .before .before .before in
+    rw (sym (branch .before .is-split .ensures) ∙ branch .if1 .taken, c .before .before .prop-of .ensures, c .before .gt-of .ensures, c .le-of .ensures)
 
-add-le : tie.Need-add-le
-add-le c = search needs
-
-mul-le : tie.Need-mul-le
-mul-le c = search needs
-
-shared-slice-read-le : tie.Need-shared-slice-read-le
-shared-slice-read-le c = search needs
+pred-of-requires : tie.Need-pred-of-requires
+pred-of-requires c κs = search needs
 
 returns-2 : tie.Need-returns-2
-returns-2 c values = rw (eq-eqb _ _ (c .before .before .before .if1 .left))
+returns-2 c values = rw (sym (c .before .before .is-split .ensures) ∙ c .before .if1 .left, c .pred-of .ensures)
 
 pub is-orderly-spec : {M : Type 1} → statement M
 is-orderly-spec =
     tie.close
     (tie.spec
-    cast-at
-    mul-at
-    mul-if1
-    shared-slice-read-if1
-    add-result
-    mul-result
-    shared-slice-read-result
-    returns
-    add-prop
-    mul-prop
-    shared-slice-read-prop
+    is-split-requires
+    prop-of-requires
     cast-prop
-    add-gt
-    mul-gt
-    shared-slice-read-gt
-    add-le
-    mul-le
-    shared-slice-read-le
+    gt-of-requires
+    le-of-requires
+    returns
+    pred-of-requires
     returns-2)

@@ -6,100 +6,63 @@ use lib.Signed.{ltZ}
 use mir.Syntax.{w32}
 use mir.Val.{toZ, ofZ}
 use mir.ValLaws.{toZ-ofZ}
-use borrow.Author.Needs.{needs}
 use Rattle.layout.specs.Layout.{propAt, valAt}
+use borrow.Author.Needs.{needs}
 use Rattle.tree.proofs.towards.Statement.{statement}
 use Rattle.tree.proofs.towards.Tie as tie
 
-numbers : (c : tie.After-if13) →
+numbers : (c : tie.After-if12) →
     let start = c .before .before .before .before .args in
+    let read = getD (start .props .now) (c .before .before .prop-of .result) (pos 0) in
     let val = valAt (start .values .now) (start .node .0) in
     let prop = getD (start .props .now) (propAt (start .words .now) (start .node .0)) (pos 0) in
-    ltZ (toZ w32 (ofZ w32 val)) (toZ w32 (ofZ w32 prop)) ≡ ltZ val prop
+    ltZ (toZ w32 (ofZ w32 (c .before .val-of .result))) (toZ w32 (ofZ w32 read)) ≡ ltZ val prop
 numbers c =
     let start = c .before .before .before .before .args in
     rw (
-      toZ-ofZ w32 (valAt (start .values .now) (start .node .0)) (record { sfits = c .before .if12 .given }),
-      toZ-ofZ w32 (getD (start .props .now) (propAt (start .words .now) (start .node .0)) (pos 0)) (record { sfits = c .if13 .given }),
+      toZ-ofZ w32 (c .before .val-of .result) (record { sfits = c .before .val-of .ok }),
+      toZ-ofZ w32 (getD (start .props .now) (c .before .before .prop-of .result) (pos 0)) (record { sfits = c .if12 .given }),
+      c .before .val-of .ensures,
+      c .before .before .prop-of .ensures,
     )
 
-cast-i : tie.Need-cast-i
-cast-i c = search needs
-
-mul-at : tie.Need-mul-at
-mul-at c = search needs
-
-add-prop : tie.Need-add-prop
-add-prop c = search needs
-
-mul-prop : tie.Need-mul-prop
-mul-prop c = search needs
-
-shared-slice-read-prop : tie.Need-shared-slice-read-prop
-shared-slice-read-prop c = search needs
+prop-of-requires : tie.Need-prop-of-requires
+prop-of-requires c κs = search needs
 
 cast-prop : tie.Need-cast-prop
 cast-prop c = search needs
 
+val-of-requires : tie.Need-val-of-requires
+val-of-requires c κs = search needs
+
 mul-if1 : tie.Need-mul-if1
 mul-if1 c = search needs
-
-mul-if1-2 : tie.Need-mul-if1-2
-mul-if1-2 c = search needs
 
 shared-slice-copy-out-if1 : tie.Need-shared-slice-copy-out-if1
 shared-slice-copy-out-if1 c = search needs
 
-mul-if1-3 : tie.Need-mul-if1-3
-mul-if1-3 c = search needs
-
-shared-slice-copy-out-if1-2 : tie.Need-shared-slice-copy-out-if1-2
-shared-slice-copy-out-if1-2 c = search needs
-
-add-t18 : tie.Need-add-t18
-add-t18 c = search needs
-
-mul-t19 : tie.Need-mul-t19
-mul-t19 c = search needs
-
-shared-slice-read-t21 : tie.Need-shared-slice-read-t21
-shared-slice-read-t21 c = search needs
+gt-of-requires : tie.Need-gt-of-requires
+gt-of-requires c κs = search needs
 
 returns : tie.Need-returns
-returns c = rw (sym (numbers (c .before .before)) ∙ c .before .if1 .taken)
+returns c = rw (sym (numbers (c .before .before)) ∙ c .before .if1 .taken, c .gt-of .ensures)
 
-add-t8 : tie.Need-add-t8
-add-t8 c = search needs
-
-mul-t9 : tie.Need-mul-t9
-mul-t9 c = search needs
-
-shared-slice-read-t11 : tie.Need-shared-slice-read-t11
-shared-slice-read-t11 c = search needs
+le-of-requires : tie.Need-le-of-requires
+le-of-requires c κs = search needs
 
 returns-2 : tie.Need-returns-2
-returns-2 c = rw (sym (numbers (c .before .before)) ∙ c .before .if1 .left)
+returns-2 c = rw (sym (numbers (c .before .before)) ∙ c .before .if1 .left, c .le-of .ensures)
 
 pub towards-spec : {M : Type 1} → statement M
 towards-spec =
     tie.close
     (tie.spec
-    cast-i
-    mul-at
-    add-prop
-    mul-prop
-    shared-slice-read-prop
+    prop-of-requires
     cast-prop
+    val-of-requires
     mul-if1
-    mul-if1-2
     shared-slice-copy-out-if1
-    mul-if1-3
-    shared-slice-copy-out-if1-2
-    add-t18
-    mul-t19
-    shared-slice-read-t21
+    gt-of-requires
     returns
-    add-t8
-    mul-t9
-    shared-slice-read-t11
+    le-of-requires
     returns-2)

@@ -1,10 +1,10 @@
--- `records::put_node` meets its contract: it stores a record's words, values and cost one by one. Assumes nothing.
+-- `layout::put_pending` meets its contract: it stores a waiting leaf's words, threshold and gain one by one. Assumes nothing.
 use mathlib.Core.Path.{refl}
 use native.Mathlib.Omega.{arith}
 use lib.ListN.{length-set}
 use borrow.Author.Needs.{needs}
-use Rattle.records.proofs.put_node.Statement.{statement}
-use Rattle.records.proofs.put_node.Tie as tie
+use Rattle.layout.proofs.put_pending.Statement.{statement}
+use Rattle.layout.proofs.put_pending.Tie as tie
 
 mul-at : tie.Need-mul-at
 mul-at c = search needs
@@ -33,47 +33,17 @@ mul-words-3 c = search needs
 slice-write-words-3 : tie.Need-slice-write-words-3
 slice-write-words-3 c = simp length-set (omega arith)
 
-add-words-3 : tie.Need-add-words-3
-add-words-3 c = search needs
-
-mul-words-4 : tie.Need-mul-words-4
-mul-words-4 c = search needs
-
-slice-write-words-4 : tie.Need-slice-write-words-4
-slice-write-words-4 c = simp length-set (omega arith)
-
-add-words-4 : tie.Need-add-words-4
-add-words-4 c = search needs
-
-mul-words-5 : tie.Need-mul-words-5
-mul-words-5 c = search needs
-
-slice-write-words-5 : tie.Need-slice-write-words-5
-slice-write-words-5 c = simp length-set (omega arith)
-
-mul-value-at : tie.Need-mul-value-at
-mul-value-at c = search needs
-
 mul-val : tie.Need-mul-val
 mul-val c = search needs
 
 slice-set-from-val : tie.Need-slice-set-from-val
 slice-set-from-val c = search needs
 
-add-offset : tie.Need-add-offset
-add-offset c = search needs
+mul-gains : tie.Need-mul-gains
+mul-gains c = search needs
 
-mul-offset : tie.Need-mul-offset
-mul-offset c = search needs
-
-slice-set-from-offset : tie.Need-slice-set-from-offset
-slice-set-from-offset c = simp length-set (omega arith)
-
-mul-costs : tie.Need-mul-costs
-mul-costs c = search needs
-
-slice-write-costs : tie.Need-slice-write-costs
-slice-write-costs c = search needs
+slice-write-gains : tie.Need-slice-write-gains
+slice-write-gains c = search needs
 
 same-length : tie.Need-same-length
 same-length c = search needs
@@ -87,8 +57,8 @@ same-length-3 c = search needs
 returns : tie.Need-returns
 returns c = (refl, (search needs, refl))
 
-pub put-node-spec : {M : Type 1} → statement M
-put-node-spec =
+pub put-pending-spec : {M : Type 1} → statement M
+put-pending-spec =
     tie.close
     (tie.spec
     mul-at
@@ -100,20 +70,10 @@ put-node-spec =
     add-words-2
     mul-words-3
     slice-write-words-3
-    add-words-3
-    mul-words-4
-    slice-write-words-4
-    add-words-4
-    mul-words-5
-    slice-write-words-5
-    mul-value-at
     mul-val
     slice-set-from-val
-    add-offset
-    mul-offset
-    slice-set-from-offset
-    mul-costs
-    slice-write-costs
+    mul-gains
+    slice-write-gains
     same-length
     same-length-2
     same-length-3

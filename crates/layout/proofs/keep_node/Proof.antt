@@ -1,15 +1,15 @@
--- `seed::keep_node` meets its contract: a split keeps its fields, and an empty leaf its predictor and offset. Assumes nothing.
+-- `layout::keep_node` meets its contract: a split keeps its fields, and an empty leaf its predictor and offset. Assumes nothing.
 use mathlib.Core.Path.{_∙_}
 use mir.Syntax.{w32}
 use mir.ValLaws.{toZ-ofZ}
 use lib.Ieee.{ofBits}
 use Rattle.layout.specs.Layout.{offsetAt}
 use borrow.Author.Tests.{eq-eqb, ne-eqb}
 use Rattle.layout.specs.Tree.{NodeLists, nodeLists}
-use Rattle.seed.proofs.Pairing.{kept-split, kept-leaf}
+use Rattle.layout.proofs.Stores.{kept-split, kept-leaf}
 use borrow.Author.Needs.{needs}
-use Rattle.seed.proofs.keep_node.Statement.{statement}
-use Rattle.seed.proofs.keep_node.Tie as tie
+use Rattle.layout.proofs.keep_node.Statement.{statement}
+use Rattle.layout.proofs.keep_node.Tie as tie
 
 -- ---- from either branch back to the entry
 abbrev splits : tie.Then1 → tie.Start

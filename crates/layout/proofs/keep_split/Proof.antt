@@ -1,10 +1,10 @@
--- `seed::keep_split` meets its contract. Assumes nothing.
+-- `layout::keep_split` meets its contract. Assumes nothing.
 use lib.ListN.{length-set}
 use native.Mathlib.Omega.{arith}
-use Rattle.seed.proofs.Pairing.{split-kept}
+use Rattle.layout.proofs.Stores.{split-kept}
 use borrow.Author.Needs.{needs}
-use Rattle.seed.proofs.keep_split.Statement.{statement}
-use Rattle.seed.proofs.keep_split.Tie as tie
+use Rattle.layout.proofs.keep_split.Statement.{statement}
+use Rattle.layout.proofs.keep_split.Tie as tie
 
 mul-words : tie.Need-mul-words
 mul-words c = search needs

@@ -1,4 +1,4 @@
--- `nodes::put_split` meets its contract: four words pasted over a node's first, and its threshold stored. Assumes nothing.
+-- `layout::put_split` meets its contract: four words pasted over a node's first, and its threshold stored. Assumes nothing.
 use mathlib.Core.Path.{refl}
 use Prim.Native.Nat.{_+_, _*_}
 use mir.ValLaws.{toZ-ofZ}
@@ -6,9 +6,10 @@ use mir.Syntax.{w32}
 use native.Mathlib.Omega.{arith}
 use lib.ListN.{length-set}
 use borrow.Author.Needs.{needs}
+use Rattle.layout.specs.Layout.{wordsPerNode}
 use Rattle.layout.proofs.Cells.{stores-four}
-use Rattle.nodes.proofs.put_split.Statement.{statement}
-use Rattle.nodes.proofs.put_split.Tie as tie
+use Rattle.layout.proofs.put_split.Statement.{statement}
+use Rattle.layout.proofs.put_split.Tie as tie
 
 mul-at : tie.Need-mul-at
 mul-at c = search needs
@@ -67,7 +68,7 @@ same-length-2 c = search needs
 returns : tie.Need-returns
 returns c =
     let a = c .args in
-    rw (toZ-ofZ w32 (a .val) (c .fits .val)) (stores-four (a .words .now) (a .i * 5) 1 (a .prop) (a .gt) (a .gt + 1) (omega arith), refl)
+    rw (toZ-ofZ w32 (a .val) (c .fits .val)) (stores-four (a .words .now) (a .i * wordsPerNode) 1 (a .prop) (a .gt) (a .gt + 1) (omega arith), refl)
 
 pub put-split-spec : {M : Type 1} → statement M
 put-split-spec =

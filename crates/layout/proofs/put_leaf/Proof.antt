@@ -1,13 +1,13 @@
--- `nodes::put_leaf` meets its contract: its stores are those of an entry put. Assumes nothing.
+-- `layout::put_leaf` meets its contract: its stores are those of an entry put. Assumes nothing.
 use mir.ValLaws.{toZ-ofZ}
 use mir.Syntax.{w32}
 use native.Mathlib.Omega.{arith}
 use lib.ListN.{length-set}
 use borrow.Author.Needs.{needs}
 use Rattle.layout.specs.Tree.{nodeLists}
-use Rattle.nodes.proofs.Stores.{leaf-put}
-use Rattle.nodes.proofs.put_leaf.Statement.{statement}
-use Rattle.nodes.proofs.put_leaf.Tie as tie
+use Rattle.layout.proofs.Stores.{leaf-put}
+use Rattle.layout.proofs.put_leaf.Statement.{statement}
+use Rattle.layout.proofs.put_leaf.Tie as tie
 
 mul-at : tie.Need-mul-at
 mul-at c = search needs

@@ -1,0 +1,74 @@
+-- A leaf's stores are an entry put, and so are those of a node without rows. Assumes nothing.
+use mathlib.Core.Path.{_≡_, sym, ap, _∙_}
+use mathlib.Core.Bool.{true, false}
+use mathlib.Core.List.{List, [], _∷_}
+use Prim.Native.Nat.{ℕ, _+_, _*_}
+use native.Mathlib.Omega.{arith}
+use lib.ListN.{getD, set}
+use lib.Seq.{paste, set-getD}
+use lib.IntN.{ℤ, pos}
+use lib.Ieee.{Float, inf}
+use lib.Dec.{eqb, eqb→eq}
+use Rattle.model.specs.Single.{singles}
+use Rattle.model.specs.Deepen.{seedSplit}
+use Rattle.layout.specs.Layout.{wordsPerNode, valuesPerNode, kindAt, propAt, gtAt, leAt, predAt, valAt, offsetAt, nodeAt, putWords, putValues}
+use Rattle.layout.specs.Tree.{NodeLists, nodeLists, rowsPerSpan, HasRoom, put, leafWith, putSpan}
+use Rattle.layout.specs.Kept.{infoAt, keptNode}
+use Rattle.layout.specs.Values.{infoIs}
+use Rattle.layout.specs.declared.NodeInfo.{NodeInfo}
+use Rattle.layout.proofs.Cells.{set-paste, stores-two, stores-five}
+
+-- the stores of a leaf, list by list
+pub leaf-put : (x : NodeLists) (i first end : ℕ) (info : NodeInfo) → HasRoom (i + 1) x
+    → nodeLists (putWords i 0 0 0 0 (info .pred) (x .words)) (putValues i (pos 0) (info .offset) (x .values)) (set (x .costs) i (info .cost)) (putSpan i first end (x .spans))
+    ≡ put i (leafWith info first end) x
+unfolding put
+leaf-put x i first end info room =
+    let words = stores-five (x .words) (i * wordsPerNode) 0 0 0 0 (info .pred) (omega (arith, room .words)) in
+    let values = stores-two (x .values) (i * valuesPerNode) (pos 0) (info .offset) (omega (arith, room .values)) in
+    let costs = set-paste (x .costs) i (info .cost) (omega (arith, room .costs)) in
+    let spans = stores-two (x .spans) (i * rowsPerSpan) first end (omega (arith, room .spans)) in
+    cc
+
+-- ---- a split's fields stay, and what stands beside it is written
+module _ {words : List ℕ} {values : List ℤ} {costs : List Float} {spans : List ℕ} (i : ℕ) (room : HasRoom (i + 1) (nodeLists words values costs spans))
+    (k : eqb (kindAt words i) 1 ≡ true) where
+  kind : kindAt words i ≡ 1
+  kind = eqb→eq (kindAt words i) 1 (rw k tt)
+
+  words-kept : set words (i * wordsPerNode + 4) 0 ≡ paste words (i * wordsPerNode) (1 ∷ propAt words i ∷ gtAt words i ∷ leAt words i ∷ 0 ∷ []) wordsPerNode
+  words-kept =
+      let at : ℕ = i * wordsPerNode in
+      let first : set words at 1 ≡ words = ap (set words at) (sym kind) ∙ set-getD words at 0 in
+      let four : set (set (set (set words at 1) (at + 1) (getD words (at + 1) 0)) (at + 2) (getD words (at + 2) 0)) (at + 3) (getD words (at + 3) 0) ≡ words =
+      rw (first, set-getD words (at + 1) 0, set-getD words (at + 2) 0, set-getD words (at + 3) 0) in
+      ap (λ (l : List ℕ). set l (at + 4) 0) (sym four) ∙ stores-five words at 1 (propAt words i) (gtAt words i) (leAt words i) 0 (omega (arith, room .words))
+
+  values-kept : set values (i * valuesPerNode + 1) (pos 0) ≡ paste values (i * valuesPerNode) (valAt values i ∷ pos 0 ∷ []) valuesPerNode
+  values-kept =
+      ap (λ (l : List ℤ). set l (i * valuesPerNode + 1) (pos 0)) (sym (set-getD values (i * valuesPerNode) (pos 0)))
+      ∙ stores-two values (i * valuesPerNode) (valAt values i) (pos 0) (omega (arith, room .values))
+
+  pub split-kept : {cost : Float} → cost ≡ inf false
+      → nodeLists (set words (i * wordsPerNode + 4) 0) (set values (i * valuesPerNode + 1) (pos 0)) (set costs i cost) (putSpan i 0 0 spans)
+      ≡ put i (seedSplit (nodeAt words values i) 0) (nodeLists words values costs spans)
+  unfolding put
+  split-kept e = rw (
+    k,
+    words-kept,
+    values-kept,
+    e,
+    set-paste costs i (inf false) (omega (arith, room .costs)),
+    stores-two spans (i * rowsPerSpan) 0 0 (omega (arith, room .spans)),
+  )
+
+-- ---- a node without rows
+module _ (n : NodeLists) (i : ℕ) where
+  pub kept-split : eqb (kindAt (n .words) i) 1 ≡ true → put i (seedSplit (nodeAt (n .words) (n .values) i) 0) n
+      ≡ put i (keptNode (nodeAt (n .words) (n .values) i) (infoAt n i)) n
+  kept-split k = rw k
+
+  pub kept-leaf : eqb (kindAt (n .words) i) 1 ≡ false → (info : NodeInfo)
+      → infoIs info ≡ record { cost = singles .nought; pred = predAt (n .words) i; offset = offsetAt (n .values) i }
+      → put i (leafWith info 0 0) n ≡ put i (keptNode (nodeAt (n .words) (n .values) i) (infoAt n i)) n
+  kept-leaf k info e = rw (k, e)
