@@ -12,11 +12,11 @@ use Rattle.finish.proofs.Made.{made-lists, made-answer}
 use Rattle.learn.proofs.learn_rows.Statement.{statement}
 use Rattle.learn.proofs.learn_rows.Tie as tie
 
-clear-requires : tie.Need-clear-requires
-clear-requires c κs = search needs
+clear-u32-requires : tie.Need-clear-u32-requires
+clear-u32-requires c κs = search needs
 
 -- what was asked
-module _ (c : tie.After-clear) where
+module _ (c : tie.After-clear-u32) where
   abbrev start : tie.Start
   start = c .before .before .before .before .before .before .before .before .before .before
 
@@ -27,13 +27,13 @@ module _ (c : tie.After-clear) where
       (queueLists (given .queue-words .now) (given .queue-values .now) (given .queue-gains .now)) (given .counts .now)
 
 flat-bits-requires : tie.Need-flat-bits-requires
-flat-bits-requires c κs = let cleared = c .before .before .before .before .before in accepted-flattened (x cleared) (start cleared .pre .accepted) (cleared .clear .last .0) (cleared .clear .ensures)
+flat-bits-requires c κs = let cleared = c .before .before .before .before .before in accepted-flattened (x cleared) (start cleared .pre .accepted) (cleared .clear-u32 .last .0) (cleared .clear-u32 .ensures)
 
 grow-from-root-requires : tie.Need-grow-from-root-requires
 grow-from-root-requires c κs =
     let cleared = c .before .before .before .before .before .before .before .before .before .before .before .before .before .before .before .before .before .before .before in
     let summed = c .before .before .before .before .before .before .before .before .before .before .before .before .before .flat-bits in
-    accepted-plantable (x cleared) (start cleared .pre .accepted) (summed .last .1 .1 .0) (summed .ensures .1 ∙ cleared .clear .ensures)
+    accepted-plantable (x cleared) (start cleared .pre .accepted) (summed .last .1 .1 .0) (summed .ensures .1 ∙ cleared .clear-u32 .ensures)
 
 answer-requires : tie.Need-answer-requires
 answer-requires c κs = c .before .before .before .before .before .before .before .before .before .before .before .before .before .before .before .before .before .before .grow-from-root .ensures .0 .few
@@ -45,7 +45,7 @@ after-grow-from-root c = c .before .before .before .before .before .before .befo
 abbrev after-flat-bits : tie.After-answer → tie.After-flat-bits
 after-flat-bits c = c .before .before .before .before .before .before .before .before .before .before .before .before .before .before .before .before .before .before .before .before .before .before .before .before .before .before .before .before .before .before .before .before .before
 
-abbrev after-clear : tie.After-answer → tie.After-clear
+abbrev after-clear : tie.After-answer → tie.After-clear-u32
 after-clear c = c .before .before .before .before .before .before .before .before .before .before .before .before .before .before .before .before .before .before .before .before .before .before .before .before .before .before .before .before .before .before .before .before .before .before .before .before .before .before .before
 
 same-length : tie.Need-same-length
@@ -79,7 +79,7 @@ same-length-10 : tie.Need-same-length-10
 same-length-10 c = after-grow-from-root c .grow-from-root .kept .1 .1 .1 .1 .1 .1 .1 .1 .1 .0
 
 same-length-11 : tie.Need-same-length-11
-same-length-11 c = after-grow-from-root c .grow-from-root .kept .1 .1 .1 .1 .1 .1 .1 .1 .1 .1 .0 ∙ after-flat-bits c .flat-bits .kept .1 .1 .0 ∙ after-clear c .clear .kept .0
+same-length-11 c = after-grow-from-root c .grow-from-root .kept .1 .1 .1 .1 .1 .1 .1 .1 .1 .1 .0 ∙ after-flat-bits c .flat-bits .kept .1 .1 .0 ∙ after-clear c .clear-u32 .kept .0
 
 returns : tie.Need-returns
 unfolding learned finished resultOf
@@ -94,15 +94,15 @@ returns c =
       made-lists (x cleared) made (flat (grown .last .0) (grown .last .1 .0) (grown .last .1 .1 .0))
           (nodeLists (grown .last .1 .1 .1 .0) (grown .last .1 .1 .1 .1 .0) (grown .last .1 .1 .1 .1 .1 .0) (grown .last .1 .1 .1 .1 .1 .1 .0))
           (queueLists (grown .last .1 .1 .1 .1 .1 .1 .1 .0) (grown .last .1 .1 .1 .1 .1 .1 .1 .1 .0) (grown .last .1 .1 .1 .1 .1 .1 .1 .1 .1 .0)) (grown .last .1 .1 .1 .1 .1 .1 .1 .1 .1 .1 .0) (grown .result)
-          (accepted-fitting (x cleared) (start cleared .pre .accepted) (cleared .clear .last .0) (cleared .clear .ensures) .shaped) f
-          (grown .ensures .1 .1) (grown .ensures .1 .0 ∙ summed .ensures .1 ∙ cleared .clear .ensures),
+          (accepted-fitting (x cleared) (start cleared .pre .accepted) (cleared .clear-u32 .last .0) (cleared .clear-u32 .ensures) .shaped) f
+          (grown .ensures .1 .1) (grown .ensures .1 .0 ∙ summed .ensures .1 ∙ cleared .clear-u32 .ensures),
     )
 
 pub learn-rows-spec : {M : Type 1} → statement M
 learn-rows-spec =
     tie.close
     (tie.spec
-    clear-requires
+    clear-u32-requires
     flat-bits-requires
     grow-from-root-requires
     answer-requires
