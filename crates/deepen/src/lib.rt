@@ -48,7 +48,7 @@ fn deepen_rows(
         (nodeLists (now (words .entry)) (now (values .entry)) (now (costs .entry)) (now (spans .entry)))
         (queueLists (now («queue_words» .entry)) (now («queue_values» .entry)) (now («queue_gains» .entry))) (now (counts .entry))) ⌝ }
 {
-    cost::clear(counts);
+    lists::clear_u32(counts);
     let flat = start::flat_bits(props, tok, counts, logs, s, rows);
     let made = from_seed::grow_from_seed(
         props,

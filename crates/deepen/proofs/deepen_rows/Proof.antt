@@ -14,11 +14,11 @@ use Rattle.deepen.proofs.Seeding.{accepted-seedable}
 use Rattle.deepen.proofs.deepen_rows.Statement.{statement}
 use Rattle.deepen.proofs.deepen_rows.Tie as tie
 
-clear-requires : tie.Need-clear-requires
-clear-requires c κs = search needs
+clear-u32-requires : tie.Need-clear-u32-requires
+clear-u32-requires c κs = search needs
 
 -- what was asked
-module _ (c : tie.After-clear) where
+module _ (c : tie.After-clear-u32) where
   abbrev start : tie.Start
   start = c .before .before .before .before .before .before .before .before .before .before
 
@@ -29,13 +29,13 @@ module _ (c : tie.After-clear) where
       (queueLists (given .queue-words .now) (given .queue-values .now) (given .queue-gains .now)) (given .counts .now)
 
 flat-bits-requires : tie.Need-flat-bits-requires
-flat-bits-requires c κs = let cleared = c .before .before .before .before .before in accepted-flattened (x cleared) (start cleared .pre .accepted) (cleared .clear .last .0) (cleared .clear .ensures)
+flat-bits-requires c κs = let cleared = c .before .before .before .before .before in accepted-flattened (x cleared) (start cleared .pre .accepted) (cleared .clear-u32 .last .0) (cleared .clear-u32 .ensures)
 
 grow-from-seed-requires : tie.Need-grow-from-seed-requires
 grow-from-seed-requires c κs =
     let cleared = c .before .before .before .before .before .before .before .before .before .before .before .before .before .before .before .before .before .before .before in
     let summed = c .before .before .before .before .before .before .before .before .before .before .before .before .before .flat-bits in
-    accepted-seedable (x cleared) (start cleared .pre) (summed .last .1 .1 .0) (summed .ensures .1 ∙ cleared .clear .ensures)
+    accepted-seedable (x cleared) (start cleared .pre) (summed .last .1 .1 .0) (summed .ensures .1 ∙ cleared .clear-u32 .ensures)
 
 answer-requires : tie.Need-answer-requires
 answer-requires c κs = c .before .before .before .before .before .before .before .before .before .before .before .before .before .before .before .before .before .before .grow-from-seed .ensures .0 .few
@@ -47,7 +47,7 @@ after-grow-from-seed c = c .before .before .before .before .before .before .befo
 abbrev after-flat-bits : tie.After-answer → tie.After-flat-bits
 after-flat-bits c = c .before .before .before .before .before .before .before .before .before .before .before .before .before .before .before .before .before .before .before .before .before .before .before .before .before .before .before .before .before .before .before .before .before
 
-abbrev after-clear : tie.After-answer → tie.After-clear
+abbrev after-clear : tie.After-answer → tie.After-clear-u32
 after-clear c = c .before .before .before .before .before .before .before .before .before .before .before .before .before .before .before .before .before .before .before .before .before .before .before .before .before .before .before .before .before .before .before .before .before .before .before .before .before .before .before
 
 same-length : tie.Need-same-length
@@ -81,7 +81,7 @@ same-length-10 : tie.Need-same-length-10
 same-length-10 c = after-grow-from-seed c .grow-from-seed .kept .1 .1 .1 .1 .1 .1 .1 .1 .1 .0
 
 same-length-11 : tie.Need-same-length-11
-same-length-11 c = after-grow-from-seed c .grow-from-seed .kept .1 .1 .1 .1 .1 .1 .1 .1 .1 .1 .0 ∙ after-flat-bits c .flat-bits .kept .1 .1 .0 ∙ after-clear c .clear .kept .0
+same-length-11 c = after-grow-from-seed c .grow-from-seed .kept .1 .1 .1 .1 .1 .1 .1 .1 .1 .1 .0 ∙ after-flat-bits c .flat-bits .kept .1 .1 .0 ∙ after-clear c .clear-u32 .kept .0
 
 returns : tie.Need-returns
 unfolding deepened finished resultOf
@@ -96,15 +96,15 @@ returns c =
       made-lists (x cleared) made (flat (grown .last .0) (grown .last .1 .0) (grown .last .1 .1 .0))
           (nodeLists (grown .last .1 .1 .1 .0) (grown .last .1 .1 .1 .1 .0) (grown .last .1 .1 .1 .1 .1 .0) (grown .last .1 .1 .1 .1 .1 .1 .0))
           (queueLists (grown .last .1 .1 .1 .1 .1 .1 .1 .0) (grown .last .1 .1 .1 .1 .1 .1 .1 .1 .0) (grown .last .1 .1 .1 .1 .1 .1 .1 .1 .1 .0)) (grown .last .1 .1 .1 .1 .1 .1 .1 .1 .1 .1 .0) (grown .result)
-          (accepted-fitting (x cleared) (start cleared .pre .accepted) (cleared .clear .last .0) (cleared .clear .ensures) .shaped) f
-          (grown .ensures .1 .1) (grown .ensures .1 .0 ∙ summed .ensures .1 ∙ cleared .clear .ensures),
+          (accepted-fitting (x cleared) (start cleared .pre .accepted) (cleared .clear-u32 .last .0) (cleared .clear-u32 .ensures) .shaped) f
+          (grown .ensures .1 .1) (grown .ensures .1 .0 ∙ summed .ensures .1 ∙ cleared .clear-u32 .ensures),
     )
 
 pub deepen-rows-spec : {M : Type 1} → statement M
 deepen-rows-spec =
     tie.close
     (tie.spec
-    clear-requires
+    clear-u32-requires
     flat-bits-requires
     grow-from-seed-requires
     answer-requires
