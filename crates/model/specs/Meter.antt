@@ -10,6 +10,8 @@ pub record Meter : Type 1 where
   -- no cost, and one above every cost, which stands beside a seed's split
   pub nought : Cost
   pub endless : Cost
+  -- what a list of costs is read as where it has no entry
+  pub spare : Cost
   pub less : Cost → Cost → Bool
   pub plus : Cost → Cost → Cost
   pub minus : Cost → Cost → Cost

@@ -2,7 +2,7 @@
 use Prim.Native.Nat.{ℕ}
 use mathlib.Core.Bool.{false}
 use lib.IntN.{pos}
-use lib.Ieee.{Float, fin, inf, binary32, binary64, add, sub, mul, lt, le, ofInt}
+use lib.Ieee.{Float, nan, fin, inf, binary32, binary64, add, sub, mul, lt, le, ofInt}
 use Rattle.model.specs.Meter.{Meter}
 
 -- a count as a single-precision number: nothing is lost up to 2 ^ 24
@@ -17,6 +17,7 @@ singles =
       Total = Float;
       nought = fin false 0 (pos 0);
       endless = inf false;
+      spare = nan;
       less = lt;
       plus = add binary32;
       minus = sub binary32;
