@@ -50,7 +50,7 @@ module _ {s : Settings} {logs : List Float} {counts : List ℕ} {x : Flat} {list
   queued = g .queued one
 
   pub inside : k < tree .waiting
-  inside = let low = best-below (q .gains) (tree .waiting) in omega arith
+  inside = let low = best-below singles (q .gains) (tree .waiting) in omega arith
 
   pub in-queue : k < length (queueOf (st .tree))
   in-queue = omega (arith, queued .many, inside)

@@ -8,90 +8,21 @@ use native.Mathlib.Omega.{arith}
 use lib.ListN.{length, getD, set, drop, length-append, length-drop}
 use lib.Seq.{paste}
 use lib.IntN.{pos}
-use lib.Ieee.{nan}
 use Rattle.model.specs.Lists.{writtenOver}
-use Rattle.model.specs.Single.{singles}
+use Rattle.model.specs.Meter.{Meter}
 use Rattle.model.specs.Tree.{Node, split, leaf}
 use Rattle.model.specs.Job.{Offer}
 use Rattle.model.specs.Grow.{Entry, noEntry, becomeSplit}
 use Rattle.model.proofs.Written.{length-written}
 use Rattle.layout.specs.Layout.{wordsPerNode, valuesPerNode}
 use Rattle.layout.specs.Tree.{rowsPerSpan, laid, nodeWords, nodeVal, entryWords, entryValues, entryCosts, entrySpans}
-use Rattle.layout.specs.Tree.{NodeLists, holding, HasRoom, put, splitWords, putSplit}
+use Rattle.layout.specs.Tree.{NodeListsOf, holding, HasRoom, put, splitWords, putSplit}
 use Rattle.layout.proofs.Cells.{set-paste, laid-same, laid-set, laid-length, written-more, written-changed, written-read}
 
 -- ---- the sizes of an entry
 words-size : (n : Node) (pred : ℕ) → length (nodeWords n pred) ≡ wordsPerNode
 words-size (split prop val gt le) pred = refl
 words-size leaf pred = refl
-
-pub words-each : (e : Entry singles) → length (entryWords e) ≡ wordsPerNode
-words-each e = words-size (e .node) (e .info .pred)
-
-module _ (tree : List (Entry singles)) where
-  pub words-length : length (laid entryWords tree) ≡ length tree * wordsPerNode
-  words-length = laid-length entryWords wordsPerNode words-each tree
-
-  pub values-length : length (laid entryValues tree) ≡ length tree * valuesPerNode
-  values-length = laid-length entryValues valuesPerNode (λ e. refl) tree
-
-  pub costs-length : length (laid entryCosts tree) ≡ length tree
-  costs-length = laid-length entryCosts 1 (λ e. refl) tree ∙ mul-one (length tree)
-
-  pub spans-length : length (laid entrySpans tree) ≡ length tree * rowsPerSpan
-  spans-length = laid-length entrySpans rowsPerSpan (λ e. refl) tree
-
--- ---- lengths
-pub record SameLengths (x y : NodeLists) : Type 0 where
-  pub words : length (y .words) ≡ length (x .words)
-  pub values : length (y .values) ≡ length (x .values)
-  pub costs : length (y .costs) ≡ length (x .costs)
-  pub spans : length (y .spans) ≡ length (x .spans)
-
-pub room-fewer : {m n : ℕ} {x : NodeLists} → HasRoom n x → m ≤ n → HasRoom m x
-room-fewer {m} {n} {x} h le = record {
-  words = le-trans (mul-le-mul-right wordsPerNode le) (h .words);
-  values = le-trans (mul-le-mul-right valuesPerNode le) (h .values);
-  costs = le-trans le (h .costs);
-  spans = le-trans (mul-le-mul-right rowsPerSpan le) (h .spans);
-}
-
-pub room-same : {n : ℕ} {x y : NodeLists} → SameLengths x y → HasRoom n x → HasRoom n y
-room-same {n} {x} {y} s h = record {
-  words = rw (s .words) (h .words);
-  values = rw (s .values) (h .values);
-  costs = rw (s .costs) (h .costs);
-  spans = rw (s .spans) (h .spans);
-}
-
-module _ (tree : List (Entry singles)) (lent : NodeLists) where
-  -- lists that hold a tree are as long as those lent
-  pub holding-lengths : HasRoom (length tree) lent → SameLengths lent (holding tree lent)
-  unfolding holding
-  holding-lengths room = record {
-    words = length-written (laid entryWords tree) (lent .words) (rw (words-length tree) (room .words));
-    values = length-written (laid entryValues tree) (lent .values) (rw (values-length tree) (room .values));
-    costs = length-written (laid entryCosts tree) (lent .costs) (rw (costs-length tree) (room .costs));
-    spans = length-written (laid entrySpans tree) (lent .spans) (rw (spans-length tree) (room .spans));
-  }
-
-  -- even without room for the tree, they are not shorter
-  pub holding-room : {n : ℕ} → HasRoom n lent → HasRoom n (holding tree lent)
-  unfolding holding
-  holding-room {n} room = record {
-    words = le-trans (room .words) (longer (laid entryWords tree) (lent .words));
-    values = le-trans (room .values) (longer (laid entryValues tree) (lent .values));
-    costs = le-trans (room .costs) (longer (laid entryCosts tree) (lent .costs));
-    spans = le-trans (room .spans) (longer (laid entrySpans tree) (lent .spans));
-  }
-    where
-      longer : {A : Type 0} (new l : List A) → length l ≤ length (writtenOver new l)
-      longer new l = rw (length-append, length-drop) (omega arith)
-
--- no tree at all
-pub holding-none : (lent : NodeLists) → holding [] lent ≡ lent
-unfolding holding
-holding-none lent = refl
 
 -- ---- a node's first four words
 abbrev front : Node → List ℕ
@@ -106,98 +37,167 @@ front-words : (n : Node) (pred : ℕ) → nodeWords n pred ≡ front n ++ (pred 
 front-words (split prop val gt le) pred = refl
 front-words leaf pred = refl
 
--- ---- entries that leave the same cells: their depths and what they offer may differ
-pub record SameCells (e d : Entry singles) : Type 0 where
-  pub words : entryWords e ≡ entryWords d
-  pub values : entryValues e ≡ entryValues d
-  pub costs : entryCosts e ≡ entryCosts d
-  pub spans : entrySpans e ≡ entrySpans d
+module _ {M : Meter} where
+  pub words-each : (e : Entry M) → length (entryWords e) ≡ wordsPerNode
+  words-each e = words-size (e .node) (e .info .pred)
 
-pub same-cells : (e d : Entry singles) → e .node ≡ d .node → e .info ≡ d .info → e .span ≡ d .span → SameCells e d
-same-cells e d n i s = record { words = rw (n, i); values = rw (n, i); costs = rw i; spans = rw s }
+  module _ (tree : List (Entry M)) where
+    pub words-length : length (laid entryWords tree) ≡ length tree * wordsPerNode
+    words-length = laid-length entryWords wordsPerNode words-each tree
 
-pub holding-same : (t u : List (Entry singles)) (lent : NodeLists) → length t ≡ length u
-    → ((i : ℕ) → i < length t → SameCells (getD t i noEntry) (getD u i noEntry))
-    → holding t lent ≡ holding u lent
-unfolding holding
-holding-same t u lent n same =
-    rw (
-      laid-same entryWords t u noEntry n (λ i l. same i l .words),
-      laid-same entryValues t u noEntry n (λ i l. same i l .values),
-      laid-same entryCosts t u noEntry n (λ i l. same i l .costs),
-      laid-same entrySpans t u noEntry n (λ i l. same i l .spans),
-    )
+    pub values-length : length (laid entryValues tree) ≡ length tree * valuesPerNode
+    values-length = laid-length entryValues valuesPerNode (λ e. refl) tree
 
-pub put-same : (i : ℕ) (e d : Entry singles) (x : NodeLists) → SameCells e d → put i e x ≡ put i d x
-unfolding put
-put-same i e d x s = rw (s .words, s .values, s .costs, s .spans)
+    pub costs-length : length (laid entryCosts tree) ≡ length tree
+    costs-length = laid-length entryCosts 1 (λ e. refl) tree ∙ mul-one (length tree)
 
--- ---- one entry more, one made a split, one read
-module _ (tree : List (Entry singles)) (lent : NodeLists) where
-  pub put-more : (e : Entry singles) → HasRoom (length tree + 1) lent → put (length tree) e (holding tree lent) ≡ holding (tree ++ (e ∷ [])) lent
-  unfolding put holding
-  put-more e room =
-      let words =
-      written-more entryWords wordsPerNode words-each tree e (lent .words) (room .words) in
-      let values =
-      written-more entryValues valuesPerNode (λ d. refl) tree e (lent .values) (room .values) in
-      let costs : paste (writtenOver (laid entryCosts tree) (lent .costs)) (length tree) (entryCosts e) 1 ≡ writtenOver (laid entryCosts (tree ++ (e ∷ []))) (lent .costs) =
-      ap (λ (k : ℕ). paste (writtenOver (laid entryCosts tree) (lent .costs)) k (entryCosts e) 1) (sym (mul-one (length tree)))
-      ∙ written-more entryCosts 1 (λ d. refl) tree e (lent .costs) (rw mul-one (room .costs)) in
-      let spans =
-      written-more entrySpans rowsPerSpan (λ d. refl) tree e (lent .spans) (room .spans) in
-      cc
+    pub spans-length : length (laid entrySpans tree) ≡ length tree * rowsPerSpan
+    spans-length = laid-length entrySpans rowsPerSpan (λ e. refl) tree
 
-  -- node i becomes a split, as the code makes it one
-  pub put-split : (i : ℕ) (o : Offer singles) (n : ℕ) → i < length tree
-      → putSplit i (o .prop) (o .val) n (holding tree lent) ≡ holding (set tree i (becomeSplit (getD tree i noEntry) o n)) lent
-  unfolding holding becomeSplit
-  put-split i o n lt =
-      let e : Entry singles = getD tree i noEntry in
-      let d : Entry singles = becomeSplit e o n in
-      let t : List (Entry singles) = set tree i d in
-      let next : 1 ∷ o .prop ∷ n ∷ suc n ∷ e .info .pred ∷ [] ≡ splitWords (o .prop) n ++ (e .info .pred ∷ []) = rw add-one in
-      let words =
-      written-changed entryWords wordsPerNode words-each tree i 4 d noEntry (lent .words) (front (e .node)) (splitWords (o .prop) n) (e .info .pred ∷ []) lt
-      (front-words (e .node) (e .info .pred)) next (front-size (e .node)) refl in
-      let far : suc i * valuesPerNode ≤ length tree * valuesPerNode = mul-le-mul-right valuesPerNode lt in
-      let long = values-length tree in
-      let all = length-append (laid entryValues tree) (drop (length (laid entryValues tree)) (lent .values)) in
-      let values : set (writtenOver (laid entryValues tree) (lent .values)) (i * valuesPerNode) (o .val) ≡ writtenOver (laid entryValues t) (lent .values) =
-      set-paste (writtenOver (laid entryValues tree) (lent .values)) (i * valuesPerNode) (o .val) (omega arith)
-      ∙ written-changed entryValues valuesPerNode (λ b. refl) tree i 1 d noEntry (lent .values) (nodeVal (e .node) ∷ []) (o .val ∷ []) (e .info .offset ∷ []) lt
-      refl refl refl refl in
-      let costs : laid entryCosts t ≡ laid entryCosts tree = laid-set entryCosts tree i d noEntry refl in
-      let spans : laid entrySpans t ≡ laid entrySpans tree = laid-set entrySpans tree i d noEntry refl in
-      cc
+  -- ---- lengths
+  pub record SameLengths (x y : NodeListsOf M) : Type 0 where
+    pub words : length (y .words) ≡ length (x .words)
+    pub values : length (y .values) ≡ length (x .values)
+    pub costs : length (y .costs) ≡ length (x .costs)
+    pub spans : length (y .spans) ≡ length (x .spans)
 
-  module _ (i : ℕ) (lt : i < length tree) where
-    pub held-word : (k : ℕ) → k < wordsPerNode → getD (holding tree lent .words) (i * wordsPerNode + k) 0 ≡ getD (entryWords (getD tree i noEntry)) k 0
+  pub room-fewer : {m n : ℕ} {x : NodeListsOf M} → HasRoom n x → m ≤ n → HasRoom m x
+  room-fewer {m} {n} {x} h le = record {
+    words = le-trans (mul-le-mul-right wordsPerNode le) (h .words);
+    values = le-trans (mul-le-mul-right valuesPerNode le) (h .values);
+    costs = le-trans le (h .costs);
+    spans = le-trans (mul-le-mul-right rowsPerSpan le) (h .spans);
+  }
+
+  pub room-same : {n : ℕ} {x y : NodeListsOf M} → SameLengths x y → HasRoom n x → HasRoom n y
+  room-same {n} {x} {y} s h = record {
+    words = rw (s .words) (h .words);
+    values = rw (s .values) (h .values);
+    costs = rw (s .costs) (h .costs);
+    spans = rw (s .spans) (h .spans);
+  }
+
+  module _ (tree : List (Entry M)) (lent : NodeListsOf M) where
+    -- lists that hold a tree are as long as those lent
+    pub holding-lengths : HasRoom (length tree) lent → SameLengths lent (holding tree lent)
     unfolding holding
-    held-word k small = written-read entryWords wordsPerNode words-each tree i k noEntry 0 (lent .words) lt small
+    holding-lengths room = record {
+      words = length-written (laid entryWords tree) (lent .words) (rw (words-length tree) (room .words));
+      values = length-written (laid entryValues tree) (lent .values) (rw (values-length tree) (room .values));
+      costs = length-written (laid entryCosts tree) (lent .costs) (rw (costs-length tree) (room .costs));
+      spans = length-written (laid entrySpans tree) (lent .spans) (rw (spans-length tree) (room .spans));
+    }
 
-    pub held-value : (k : ℕ) → k < valuesPerNode
-        → getD (holding tree lent .values) (i * valuesPerNode + k) (pos 0) ≡ getD (entryValues (getD tree i noEntry)) k (pos 0)
+    -- even without room for the tree, they are not shorter
+    pub holding-room : {n : ℕ} → HasRoom n lent → HasRoom n (holding tree lent)
     unfolding holding
-    held-value k small = written-read entryValues valuesPerNode (λ e. refl) tree i k noEntry (pos 0) (lent .values) lt small
+    holding-room {n} room = record {
+      words = le-trans (room .words) (longer (laid entryWords tree) (lent .words));
+      values = le-trans (room .values) (longer (laid entryValues tree) (lent .values));
+      costs = le-trans (room .costs) (longer (laid entryCosts tree) (lent .costs));
+      spans = le-trans (room .spans) (longer (laid entrySpans tree) (lent .spans));
+    }
+      where
+        longer : {A : Type 0} (new l : List A) → length l ≤ length (writtenOver new l)
+        longer new l = rw (length-append, length-drop) (omega arith)
 
-    pub held-cost : getD (holding tree lent .costs) i nan ≡ getD tree i noEntry .info .cost
-    unfolding holding
-    held-cost =
-        let at : i ≡ i * 1 + 0 = omega arith in
-        ap (λ (k : ℕ). getD (writtenOver (laid entryCosts tree) (lent .costs)) k nan) at
-        ∙ written-read entryCosts 1 (λ e. refl) tree i 0 noEntry nan (lent .costs) lt (omega arith)
+  -- no tree at all
+  pub holding-none : (lent : NodeListsOf M) → holding [] lent ≡ lent
+  unfolding holding
+  holding-none lent = refl
 
-    pub held-row : (k : ℕ) → k < rowsPerSpan → getD (holding tree lent .spans) (i * rowsPerSpan + k) 0 ≡ getD (entrySpans (getD tree i noEntry)) k 0
-    unfolding holding
-    held-row k small = written-read entrySpans rowsPerSpan (λ e. refl) tree i k noEntry 0 (lent .spans) lt small
+  -- ---- entries that leave the same cells: their depths and what they offer may differ
+  pub record SameCells (e d : Entry M) : Type 0 where
+    pub words : entryWords e ≡ entryWords d
+    pub values : entryValues e ≡ entryValues d
+    pub costs : entryCosts e ≡ entryCosts d
+    pub spans : entrySpans e ≡ entrySpans d
 
-    -- the first cells, which the code reads at i times their number
-    pub held-kind : getD (holding tree lent .words) (i * wordsPerNode) 0 ≡ getD (entryWords (getD tree i noEntry)) 0 0
-    held-kind = ap (λ (k : ℕ). getD (holding tree lent .words) k 0) (sym (add-zero (i * wordsPerNode))) ∙ held-word 0 (omega arith)
+  pub same-cells : (e d : Entry M) → e .node ≡ d .node → e .info ≡ d .info → e .span ≡ d .span → SameCells e d
+  same-cells e d n i s = record { words = rw (n, i); values = rw (n, i); costs = rw i; spans = rw s }
 
-    pub held-first : getD (holding tree lent .spans) (i * rowsPerSpan) 0 ≡ getD tree i noEntry .span .first
-    held-first = ap (λ (k : ℕ). getD (holding tree lent .spans) k 0) (sym (add-zero (i * rowsPerSpan))) ∙ held-row 0 (omega arith)
+  pub holding-same : (t u : List (Entry M)) (lent : NodeListsOf M) → length t ≡ length u
+      → ((i : ℕ) → i < length t → SameCells (getD t i noEntry) (getD u i noEntry))
+      → holding t lent ≡ holding u lent
+  unfolding holding
+  holding-same t u lent n same =
+      rw (
+        laid-same entryWords t u noEntry n (λ i l. same i l .words),
+        laid-same entryValues t u noEntry n (λ i l. same i l .values),
+        laid-same entryCosts t u noEntry n (λ i l. same i l .costs),
+        laid-same entrySpans t u noEntry n (λ i l. same i l .spans),
+      )
 
-    pub held-end : getD (holding tree lent .spans) (i * rowsPerSpan + 1) 0 ≡ getD tree i noEntry .span .end
-    held-end = held-row 1 (omega arith)
+  pub put-same : (i : ℕ) (e d : Entry M) (x : NodeListsOf M) → SameCells e d → put i e x ≡ put i d x
+  unfolding put
+  put-same i e d x s = rw (s .words, s .values, s .costs, s .spans)
+
+  -- ---- one entry more, one made a split, one read
+  module _ (tree : List (Entry M)) (lent : NodeListsOf M) where
+    pub put-more : (e : Entry M) → HasRoom (length tree + 1) lent → put (length tree) e (holding tree lent) ≡ holding (tree ++ (e ∷ [])) lent
+    unfolding put holding
+    put-more e room =
+        let words =
+        written-more entryWords wordsPerNode words-each tree e (lent .words) (room .words) in
+        let values =
+        written-more entryValues valuesPerNode (λ d. refl) tree e (lent .values) (room .values) in
+        let costs : paste (writtenOver (laid entryCosts tree) (lent .costs)) (length tree) (entryCosts e) 1 ≡ writtenOver (laid entryCosts (tree ++ (e ∷ []))) (lent .costs) =
+        ap (λ (k : ℕ). paste (writtenOver (laid entryCosts tree) (lent .costs)) k (entryCosts e) 1) (sym (mul-one (length tree)))
+        ∙ written-more entryCosts 1 (λ d. refl) tree e (lent .costs) (rw mul-one (room .costs)) in
+        let spans =
+        written-more entrySpans rowsPerSpan (λ d. refl) tree e (lent .spans) (room .spans) in
+        cc
+
+    -- node i becomes a split, as the code makes it one
+    pub put-split : (i : ℕ) (o : Offer M) (n : ℕ) → i < length tree
+        → putSplit i (o .prop) (o .val) n (holding tree lent) ≡ holding (set tree i (becomeSplit (getD tree i noEntry) o n)) lent
+    unfolding holding becomeSplit
+    put-split i o n lt =
+        let e : Entry M = getD tree i noEntry in
+        let d : Entry M = becomeSplit e o n in
+        let t : List (Entry M) = set tree i d in
+        let next : 1 ∷ o .prop ∷ n ∷ suc n ∷ e .info .pred ∷ [] ≡ splitWords (o .prop) n ++ (e .info .pred ∷ []) = rw add-one in
+        let words =
+        written-changed entryWords wordsPerNode words-each tree i 4 d noEntry (lent .words) (front (e .node)) (splitWords (o .prop) n) (e .info .pred ∷ []) lt
+        (front-words (e .node) (e .info .pred)) next (front-size (e .node)) refl in
+        let far : suc i * valuesPerNode ≤ length tree * valuesPerNode = mul-le-mul-right valuesPerNode lt in
+        let long = values-length tree in
+        let all = length-append (laid entryValues tree) (drop (length (laid entryValues tree)) (lent .values)) in
+        let values : set (writtenOver (laid entryValues tree) (lent .values)) (i * valuesPerNode) (o .val) ≡ writtenOver (laid entryValues t) (lent .values) =
+        set-paste (writtenOver (laid entryValues tree) (lent .values)) (i * valuesPerNode) (o .val) (omega arith)
+        ∙ written-changed entryValues valuesPerNode (λ b. refl) tree i 1 d noEntry (lent .values) (nodeVal (e .node) ∷ []) (o .val ∷ []) (e .info .offset ∷ []) lt
+        refl refl refl refl in
+        let costs : laid entryCosts t ≡ laid entryCosts tree = laid-set entryCosts tree i d noEntry refl in
+        let spans : laid entrySpans t ≡ laid entrySpans tree = laid-set entrySpans tree i d noEntry refl in
+        cc
+
+    module _ (i : ℕ) (lt : i < length tree) where
+      pub held-word : (k : ℕ) → k < wordsPerNode → getD (holding tree lent .words) (i * wordsPerNode + k) 0 ≡ getD (entryWords (getD tree i noEntry)) k 0
+      unfolding holding
+      held-word k small = written-read entryWords wordsPerNode words-each tree i k noEntry 0 (lent .words) lt small
+
+      pub held-value : (k : ℕ) → k < valuesPerNode
+          → getD (holding tree lent .values) (i * valuesPerNode + k) (pos 0) ≡ getD (entryValues (getD tree i noEntry)) k (pos 0)
+      unfolding holding
+      held-value k small = written-read entryValues valuesPerNode (λ e. refl) tree i k noEntry (pos 0) (lent .values) lt small
+
+      pub held-cost : getD (holding tree lent .costs) i (M .spare) ≡ getD tree i noEntry .info .cost
+      unfolding holding
+      held-cost =
+          let at : i ≡ i * 1 + 0 = omega arith in
+          ap (λ (k : ℕ). getD (writtenOver (laid entryCosts tree) (lent .costs)) k (M .spare)) at
+          ∙ written-read entryCosts 1 (λ e. refl) tree i 0 noEntry (M .spare) (lent .costs) lt (omega arith)
+
+      pub held-row : (k : ℕ) → k < rowsPerSpan → getD (holding tree lent .spans) (i * rowsPerSpan + k) 0 ≡ getD (entrySpans (getD tree i noEntry)) k 0
+      unfolding holding
+      held-row k small = written-read entrySpans rowsPerSpan (λ e. refl) tree i k noEntry 0 (lent .spans) lt small
+
+      -- the first cells, which the code reads at i times their number
+      pub held-kind : getD (holding tree lent .words) (i * wordsPerNode) 0 ≡ getD (entryWords (getD tree i noEntry)) 0 0
+      held-kind = ap (λ (k : ℕ). getD (holding tree lent .words) k 0) (sym (add-zero (i * wordsPerNode))) ∙ held-word 0 (omega arith)
+
+      pub held-first : getD (holding tree lent .spans) (i * rowsPerSpan) 0 ≡ getD tree i noEntry .span .first
+      held-first = ap (λ (k : ℕ). getD (holding tree lent .spans) k 0) (sym (add-zero (i * rowsPerSpan))) ∙ held-row 0 (omega arith)
+
+      pub held-end : getD (holding tree lent .spans) (i * rowsPerSpan + 1) 0 ≡ getD tree i noEntry .span .end
+      held-end = held-row 1 (omega arith)

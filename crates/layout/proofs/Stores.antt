@@ -7,21 +7,24 @@ use native.Mathlib.Omega.{arith}
 use lib.ListN.{getD, set}
 use lib.Seq.{paste, set-getD}
 use lib.IntN.{ℤ, pos}
-use lib.Ieee.{Float, inf}
 use lib.Dec.{eqb, eqb→eq}
-use Rattle.model.specs.Single.{singles}
+use Rattle.model.specs.Meter.{Meter}
+use Rattle.model.specs.Tree.{Info}
 use Rattle.model.specs.Deepen.{seedSplit}
-use Rattle.layout.specs.Layout.{wordsPerNode, valuesPerNode, kindAt, propAt, gtAt, leAt, predAt, valAt, offsetAt, nodeAt, putWords, putValues}
-use Rattle.layout.specs.Tree.{NodeLists, nodeLists, rowsPerSpan, HasRoom, put, leafWith, putSpan}
+use Rattle.layout.specs.Layout.{wordsPerNode, valuesPerNode, kindAt, propAt, gtAt, leAt, predAt, valAt, offsetAt, nodeAt, HasWords, HasValues, putWords, putValues}
+use Rattle.layout.specs.Tree.{NodeListsOf, rowsPerSpan, HasRoom, put, leafBeside, putSpan}
 use Rattle.layout.specs.Kept.{infoAt, keptNode}
-use Rattle.layout.specs.Values.{infoIs}
-use Rattle.layout.specs.declared.NodeInfo.{NodeInfo}
 use Rattle.layout.proofs.Cells.{set-paste, stores-two, stores-five}
 
 -- the stores of a leaf, list by list
-pub leaf-put : (x : NodeLists) (i first end : ℕ) (info : NodeInfo) → HasRoom (i + 1) x
-    → nodeLists (putWords i 0 0 0 0 (info .pred) (x .words)) (putValues i (pos 0) (info .offset) (x .values)) (set (x .costs) i (info .cost)) (putSpan i first end (x .spans))
-    ≡ put i (leafWith info first end) x
+pub leaf-put : {M : Meter} (x : NodeListsOf M) (i first end : ℕ) (info : Info M) → HasRoom (i + 1) x
+    → record {
+      words = putWords i 0 0 0 0 (info .pred) (x .words);
+      values = putValues i (pos 0) (info .offset) (x .values);
+      costs = set (x .costs) i (info .cost);
+      spans = putSpan i first end (x .spans);
+    }
+    ≡ put i (leafBeside info first end) x
 unfolding put
 leaf-put x i first end info room =
     let words = stores-five (x .words) (i * wordsPerNode) 0 0 0 0 (info .pred) (omega (arith, room .words)) in
@@ -31,44 +34,47 @@ leaf-put x i first end info room =
     cc
 
 -- ---- a split's fields stay, and what stands beside it is written
-module _ {words : List ℕ} {values : List ℤ} {costs : List Float} {spans : List ℕ} (i : ℕ) (room : HasRoom (i + 1) (nodeLists words values costs spans))
-    (k : eqb (kindAt words i) 1 ≡ true) where
-  kind : kindAt words i ≡ 1
-  kind = eqb→eq (kindAt words i) 1 (rw k tt)
+words-kept : (words : List ℕ) (i : ℕ) → HasWords words (i + 1) → eqb (kindAt words i) 1 ≡ true
+    → set words (i * wordsPerNode + 4) 0 ≡ paste words (i * wordsPerNode) (1 ∷ propAt words i ∷ gtAt words i ∷ leAt words i ∷ 0 ∷ []) wordsPerNode
+words-kept words i room k =
+    let at : ℕ = i * wordsPerNode in
+    let kind : kindAt words i ≡ 1 = eqb→eq (kindAt words i) 1 (rw k tt) in
+    let first : set words at 1 ≡ words = ap (set words at) (sym kind) ∙ set-getD words at 0 in
+    let four : set (set (set (set words at 1) (at + 1) (getD words (at + 1) 0)) (at + 2) (getD words (at + 2) 0)) (at + 3) (getD words (at + 3) 0) ≡ words =
+    rw (first, set-getD words (at + 1) 0, set-getD words (at + 2) 0, set-getD words (at + 3) 0) in
+    ap (λ (l : List ℕ). set l (at + 4) 0) (sym four) ∙ stores-five words at 1 (propAt words i) (gtAt words i) (leAt words i) 0 (omega arith)
 
-  words-kept : set words (i * wordsPerNode + 4) 0 ≡ paste words (i * wordsPerNode) (1 ∷ propAt words i ∷ gtAt words i ∷ leAt words i ∷ 0 ∷ []) wordsPerNode
-  words-kept =
-      let at : ℕ = i * wordsPerNode in
-      let first : set words at 1 ≡ words = ap (set words at) (sym kind) ∙ set-getD words at 0 in
-      let four : set (set (set (set words at 1) (at + 1) (getD words (at + 1) 0)) (at + 2) (getD words (at + 2) 0)) (at + 3) (getD words (at + 3) 0) ≡ words =
-      rw (first, set-getD words (at + 1) 0, set-getD words (at + 2) 0, set-getD words (at + 3) 0) in
-      ap (λ (l : List ℕ). set l (at + 4) 0) (sym four) ∙ stores-five words at 1 (propAt words i) (gtAt words i) (leAt words i) 0 (omega (arith, room .words))
+values-kept : (values : List ℤ) (i : ℕ) → HasValues values (i + 1)
+    → set values (i * valuesPerNode + 1) (pos 0) ≡ paste values (i * valuesPerNode) (valAt values i ∷ pos 0 ∷ []) valuesPerNode
+values-kept values i room =
+    ap (λ (l : List ℤ). set l (i * valuesPerNode + 1) (pos 0)) (sym (set-getD values (i * valuesPerNode) (pos 0)))
+    ∙ stores-two values (i * valuesPerNode) (valAt values i) (pos 0) (omega arith)
 
-  values-kept : set values (i * valuesPerNode + 1) (pos 0) ≡ paste values (i * valuesPerNode) (valAt values i ∷ pos 0 ∷ []) valuesPerNode
-  values-kept =
-      ap (λ (l : List ℤ). set l (i * valuesPerNode + 1) (pos 0)) (sym (set-getD values (i * valuesPerNode) (pos 0)))
-      ∙ stores-two values (i * valuesPerNode) (valAt values i) (pos 0) (omega (arith, room .values))
-
-  pub split-kept : {cost : Float} → cost ≡ inf false
-      → nodeLists (set words (i * wordsPerNode + 4) 0) (set values (i * valuesPerNode + 1) (pos 0)) (set costs i cost) (putSpan i 0 0 spans)
-      ≡ put i (seedSplit (nodeAt words values i) 0) (nodeLists words values costs spans)
-  unfolding put
-  split-kept e = rw (
-    k,
-    words-kept,
-    values-kept,
-    e,
-    set-paste costs i (inf false) (omega (arith, room .costs)),
-    stores-two spans (i * rowsPerSpan) 0 0 (omega (arith, room .spans)),
-  )
+pub split-kept : {M : Meter} {x : NodeListsOf M} (i : ℕ) → HasRoom (i + 1) x → eqb (kindAt (x .words) i) 1 ≡ true → {cost : M .Cost} → cost ≡ M .endless
+    → record {
+      words = set (x .words) (i * wordsPerNode + 4) 0;
+      values = set (x .values) (i * valuesPerNode + 1) (pos 0);
+      costs = set (x .costs) i cost;
+      spans = putSpan i 0 0 (x .spans);
+    }
+    ≡ put i (seedSplit (nodeAt (x .words) (x .values) i) 0) x
+unfolding put
+split-kept {M} {x} i room k e = rw (
+  k,
+  words-kept (x .words) i (room .words) k,
+  values-kept (x .values) i (room .values),
+  e,
+  set-paste (x .costs) i (M .endless) (omega (arith, room .costs)),
+  stores-two (x .spans) (i * rowsPerSpan) 0 0 (omega (arith, room .spans)),
+)
 
 -- ---- a node without rows
-module _ (n : NodeLists) (i : ℕ) where
+module _ {M : Meter} (n : NodeListsOf M) (i : ℕ) where
   pub kept-split : eqb (kindAt (n .words) i) 1 ≡ true → put i (seedSplit (nodeAt (n .words) (n .values) i) 0) n
       ≡ put i (keptNode (nodeAt (n .words) (n .values) i) (infoAt n i)) n
   kept-split k = rw k
 
-  pub kept-leaf : eqb (kindAt (n .words) i) 1 ≡ false → (info : NodeInfo)
-      → infoIs info ≡ record { cost = singles .nought; pred = predAt (n .words) i; offset = offsetAt (n .values) i }
-      → put i (leafWith info 0 0) n ≡ put i (keptNode (nodeAt (n .words) (n .values) i) (infoAt n i)) n
+  pub kept-leaf : eqb (kindAt (n .words) i) 1 ≡ false → (info : Info M)
+      → info ≡ record { cost = M .nought; pred = predAt (n .words) i; offset = offsetAt (n .values) i }
+      → put i (leafBeside info 0 0) n ≡ put i (keptNode (nodeAt (n .words) (n .values) i) (infoAt n i)) n
   kept-leaf k info e = rw (k, e)

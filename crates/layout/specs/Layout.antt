@@ -5,8 +5,9 @@ use mathlib.Core.List.{List, map}
 use lib.ListN.{length, getD, set}
 use lib.IntN.{ℤ, pos}
 use lib.Dec.{eqb}
-use lib.Ieee.{Float, nan}
+use lib.Ieee.{Float}
 use Rattle.model.specs.Lists.{range}
+use Rattle.model.specs.Meter.{Meter}
 use Rattle.model.specs.Single.{singles}
 use Rattle.model.specs.Tree.{Node, split, leaf}
 use Rattle.model.specs.Lent.{Stored}
@@ -41,16 +42,19 @@ abbrev pub offsetAt : List ℤ → ℕ → ℤ
 offsetAt values i = getD values (i * valuesPerNode + 1) (pos 0)
 
 -- entry i
-abbrev pub storedAt : List ℕ → List ℤ → List Float → ℕ → Stored singles
-storedAt words values costs i =
+abbrev pub storedAtOf : (M : Meter) → List ℕ → List ℤ → List (M .Cost) → ℕ → Stored M
+storedAtOf M words values costs i =
     record {
       kind = kindAt words i;
       prop = propAt words i;
       val = valAt values i;
       gt = gtAt words i;
       le = leAt words i;
-      info = record { cost = getD costs i nan; pred = predAt words i; offset = offsetAt values i };
+      info = record { cost = getD costs i (M .spare); pred = predAt words i; offset = offsetAt values i };
     }
+
+abbrev pub storedAt : List ℕ → List ℤ → List Float → ℕ → Stored singles
+storedAt = storedAtOf singles
 
 -- the words, and the values, of the first n nodes are there; node i is there if the first i + 1 are
 abbrev pub HasWords : List ℕ → ℕ → Type 0
@@ -60,7 +64,7 @@ abbrev pub HasValues : List ℤ → ℕ → Type 0
 HasValues values n = n * valuesPerNode ≤ length values
 
 -- and their costs
-pub record HasNodes (n : ℕ) (words : List ℕ) (values : List ℤ) (costs : List Float) : Type 0 where
+pub record HasNodes {A : Type 0} (n : ℕ) (words : List ℕ) (values : List ℤ) (costs : List A) : Type 0 where
   pub words-there : HasWords words n
   pub values-there : HasValues values n
   pub costs-there : n ≤ length costs
@@ -74,8 +78,11 @@ abbrev pub nodesHeld : List ℕ → List ℤ → ℕ
 nodesHeld words values = min (length words / wordsPerNode) (length values / valuesPerNode)
 
 -- the node list that the three lists hold
-unfoldable pub storedIn : List ℕ → List ℤ → List Float → List (Stored singles)
-storedIn words values costs = map (storedAt words values costs) (range 0 (nodesHeld words values))
+unfoldable pub storedInOf : (M : Meter) → List ℕ → List ℤ → List (M .Cost) → List (Stored M)
+storedInOf M words values costs = map (storedAtOf M words values costs) (range 0 (nodesHeld words values))
+
+abbrev pub storedIn : List ℕ → List ℤ → List Float → List (Stored singles)
+storedIn = storedInOf singles
 
 -- the lists with the words and the values of node i written
 abbrev pub putWords : ℕ → ℕ → ℕ → ℕ → ℕ → ℕ → List ℕ → List ℕ

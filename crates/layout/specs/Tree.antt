@@ -8,8 +8,9 @@ use lib.IntN.{ℤ, pos}
 use lib.Ieee.{Float}
 use lib.Seq.{paste}
 use Rattle.model.specs.Lists.{writtenOver}
+use Rattle.model.specs.Meter.{Meter}
 use Rattle.model.specs.Single.{singles}
-use Rattle.model.specs.Tree.{Node, split, leaf}
+use Rattle.model.specs.Tree.{Node, split, leaf, Info}
 use Rattle.model.specs.Grow.{Entry}
 use Rattle.layout.specs.Layout.{wordsPerNode, valuesPerNode, HasWords, HasValues}
 use Rattle.layout.specs.Values.{infoIs}
@@ -47,30 +48,33 @@ abbrev pub nodeVal : Node → ℤ
 nodeVal (split prop val gt le) = val
 nodeVal leaf = pos 0
 
-abbrev pub entryWords : Entry singles → List ℕ
+abbrev pub entryWords : {M : Meter} → Entry M → List ℕ
 entryWords e = nodeWords (e .node) (e .info .pred)
 
-abbrev pub entryValues : Entry singles → List ℤ
+abbrev pub entryValues : {M : Meter} → Entry M → List ℤ
 entryValues e = nodeVal (e .node) ∷ e .info .offset ∷ []
 
-abbrev pub entryCosts : Entry singles → List Float
+abbrev pub entryCosts : {M : Meter} → Entry M → List (M .Cost)
 entryCosts e = e .info .cost ∷ []
 
-abbrev pub entrySpans : Entry singles → List ℕ
+abbrev pub entrySpans : {M : Meter} → Entry M → List ℕ
 entrySpans e = e .span .first ∷ e .span .end ∷ []
 
 -- the four lists
-pub record NodeLists : Type 0 where
+pub record NodeListsOf (M : Meter) : Type 0 where
   pub words : List ℕ
   pub values : List ℤ
-  pub costs : List Float
+  pub costs : List (M .Cost)
   pub spans : List ℕ
+
+abbrev pub NodeLists : Type 0
+NodeLists = NodeListsOf singles
 
 abbrev pub nodeLists : List ℕ → List ℤ → List Float → List ℕ → NodeLists
 nodeLists words values costs spans = record { words = words; values = values; costs = costs; spans = spans }
 
 -- lists that hold the tree, over those lent
-unfoldable pub holding : List (Entry singles) → NodeLists → NodeLists
+unfoldable pub holding : {M : Meter} → List (Entry M) → NodeListsOf M → NodeListsOf M
 holding tree lent =
     record {
       words = writtenOver (laid entryWords tree) (lent .words);
@@ -80,14 +84,14 @@ holding tree lent =
     }
 
 -- there is room for n nodes
-pub record HasRoom (n : ℕ) (x : NodeLists) : Type 0 where
+pub record HasRoom {M : Meter} (n : ℕ) (x : NodeListsOf M) : Type 0 where
   pub words : HasWords (x .words) n
   pub values : HasValues (x .values) n
   pub costs : n ≤ length (x .costs)
   pub spans : HasSpans (x .spans) n
 
 -- the lists with entry i written, as the code writes it
-unfoldable pub put : ℕ → Entry singles → NodeLists → NodeLists
+unfoldable pub put : {M : Meter} → ℕ → Entry M → NodeListsOf M → NodeListsOf M
 put i e x =
     record {
       words = paste (x .words) (i * wordsPerNode) (entryWords e) wordsPerNode;
@@ -97,14 +101,22 @@ put i e x =
     }
 
 -- a leaf as the node lists have it: what stands beside it and its span
+abbrev pub leafBeside : {M : Meter} → Info M → ℕ → ℕ → Entry M
+leafBeside i first end = record { node = leaf; info = i; span = record { first = first; end = end }; depth = 0; offer = none }
+
 abbrev pub leafWith : NodeInfo → ℕ → ℕ → Entry singles
-leafWith i first end = record { node = leaf; info = infoIs i; span = record { first = first; end = end }; depth = 0; offer = none }
+leafWith i first end = leafBeside (infoIs i) first end
 
 -- a split's first words: kind, property and its children, which stand side by side
 abbrev pub splitWords : ℕ → ℕ → List ℕ
 splitWords prop gt = 1 ∷ prop ∷ gt ∷ (gt + 1) ∷ []
 
 -- the lists with node i made a split: what stands beside it and its span stay
-abbrev pub putSplit : ℕ → ℕ → ℤ → ℕ → NodeLists → NodeLists
+abbrev pub putSplit : {M : Meter} → ℕ → ℕ → ℤ → ℕ → NodeListsOf M → NodeListsOf M
 putSplit i prop val gt x =
-    nodeLists (paste (x .words) (i * wordsPerNode) (splitWords prop gt) 4) (set (x .values) (i * valuesPerNode) val) (x .costs) (x .spans)
+    record {
+      words = paste (x .words) (i * wordsPerNode) (splitWords prop gt) 4;
+      values = set (x .values) (i * valuesPerNode) val;
+      costs = x .costs;
+      spans = x .spans;
+    }

@@ -7,7 +7,8 @@ use mathlib.Core.List.{List, [], _∷_, _++_}
 use mathlib.Core.Option.{Option, none, some}
 use lib.ListN.{length, getD, set, take, drop}
 use lib.IntN.{ℤ, pos}
-use lib.Ieee.{Float, nan, lt}
+use lib.Ieee.{Float, nan}
+use Rattle.model.specs.Meter.{Meter}
 use Rattle.model.specs.Single.{singles}
 use Rattle.model.specs.Job.{Offer}
 use Rattle.model.specs.Grow.{Entry}
@@ -19,56 +20,59 @@ abbrev pub wordsPerLeaf : ℕ
 wordsPerLeaf = 3
 
 -- the leaf's place in the queue, if it offers a split
-abbrev pub waits : ℕ → ℕ → Option (Offer singles) → List (Waiting singles)
+abbrev pub waits : {M : Meter} → ℕ → ℕ → Option (Offer M) → List (Waiting M)
 waits node depth none = []
 waits node depth (some o) = record { node = node; depth = depth; offer = o } ∷ []
 
 -- of the entries i, i + 1, ..
-unfoldable pub waitingFrom : ℕ → List (Entry singles) → List (Waiting singles)
+unfoldable pub waitingFrom : {M : Meter} → ℕ → List (Entry M) → List (Waiting M)
 waitingFrom i [] = []
 waitingFrom i (e ∷ es) = waits i (e .depth) (e .offer) ++ waitingFrom (suc i) es
 
 -- the waiting leaves of a tree
-abbrev pub queueOf : List (Entry singles) → List (Waiting singles)
+abbrev pub queueOf : {M : Meter} → List (Entry M) → List (Waiting M)
 queueOf tree = waitingFrom 0 tree
 
 -- the list without its element at k
 abbrev pub without : {A : Type 0} → ℕ → List A → List A
 without k l = take k l ++ drop (suc k) l
 
-abbrev pub waitWords : Waiting singles → List ℕ
+abbrev pub waitWords : {M : Meter} → Waiting M → List ℕ
 waitWords w = w .node ∷ w .offer .prop ∷ w .depth ∷ []
 
-abbrev pub waitValues : Waiting singles → List ℤ
+abbrev pub waitValues : {M : Meter} → Waiting M → List ℤ
 waitValues w = w .offer .val ∷ []
 
-abbrev pub waitGains : Waiting singles → List Float
+abbrev pub waitGains : {M : Meter} → Waiting M → List (M .Cost)
 waitGains w = w .offer .gain ∷ []
 
 -- the three lists
-pub record QueueLists : Type 0 where
+pub record QueueListsOf (M : Meter) : Type 0 where
   pub words : List ℕ
   pub values : List ℤ
-  pub gains : List Float
+  pub gains : List (M .Cost)
+
+abbrev pub QueueLists : Type 0
+QueueLists = QueueListsOf singles
 
 abbrev pub queueLists : List ℕ → List ℤ → List Float → QueueLists
 queueLists words values gains = record { words = words; values = values; gains = gains }
 
 -- the leaves stand at the front of the lists, and what stands behind them is of no use
-pub record Queued (waiting : ℕ) (q : QueueLists) (leaves : List (Waiting singles)) : Type 0 where
+pub record Queued {M : Meter} (waiting : ℕ) (q : QueueListsOf M) (leaves : List (Waiting M)) : Type 0 where
   pub many : waiting ≡ length leaves
   pub words : take (waiting * wordsPerLeaf) (q .words) ≡ laid waitWords leaves
   pub values : take waiting (q .values) ≡ laid waitValues leaves
   pub gains : take waiting (q .gains) ≡ laid waitGains leaves
 
 -- there is room for n leaves
-pub record QueueRoom (n : ℕ) (q : QueueLists) : Type 0 where
+pub record QueueRoom {M : Meter} (n : ℕ) (q : QueueListsOf M) : Type 0 where
   pub words : n * wordsPerLeaf ≤ length (q .words)
   pub values : n ≤ length (q .values)
   pub gains : n ≤ length (q .gains)
 
 -- as long as before
-pub record SameQueue (q p : QueueLists) : Type 0 where
+pub record SameQueue {M : Meter} (q p : QueueListsOf M) : Type 0 where
   pub words : length (p .words) ≡ length (q .words)
   pub values : length (p .values) ≡ length (q .values)
   pub gains : length (p .gains) ≡ length (q .gains)
@@ -88,6 +92,9 @@ putWaitWords k node prop depth words =
     set (set (set words at node) (at + 1) prop) (at + 2) depth
 
 -- the first of the first n places with the greatest gain: at a tie the lower node number is taken
-unfoldable pub firstBest : List Float → ℕ → ℕ
-firstBest gains zero = 0
-firstBest gains (suc n) = let b = firstBest gains n in cond (lt (getD gains b nan) (getD gains n nan)) n b
+unfoldable pub firstBestOf : (M : Meter) → List (M .Cost) → ℕ → ℕ
+firstBestOf M gains zero = 0
+firstBestOf M gains (suc n) = let b = firstBestOf M gains n in cond (M .less (getD gains b (M .spare)) (getD gains n (M .spare))) n b
+
+abbrev pub firstBest : List Float → ℕ → ℕ
+firstBest = firstBestOf singles

@@ -12,7 +12,7 @@ use Rattle.model.specs.Settings.{maxNodes}
 use Rattle.model.specs.Single.{singles}
 use Rattle.model.specs.Lent.{Stored}
 use Rattle.model.specs.Operations.{ContextLists, leafContexts}
-use Rattle.layout.specs.Layout.{wordsPerNode, valuesPerNode, storedAt, nodesHeld, storedIn}
+use Rattle.layout.specs.Layout.{wordsPerNode, valuesPerNode, storedAt, nodesHeld, storedIn, storedInOf}
 use Rattle.layout.specs.Tree.{nodeLists}
 use Rattle.model.proofs.Places.{length-each, each-at}
 use Rattle.lent.specs.Lists.{nodesLent, storedNodes}
@@ -94,7 +94,7 @@ module _ (nodes : List MaNode) (words : List ℕ) (values : List ℤ) (costs : L
         (λ j small. getD-take (n * valuesPerNode) values (i * valuesPerNode + j) (pos 0) (omega arith)) cost
 
     contexts-read : storedIn some-words some-values costs ≡ take maxNodes (map storedOf nodes)
-    unfolding storedIn
+    unfolding storedInOf
     contexts-read = rw held-parts (read-first (storedAt some-words some-values costs) (λ i lt. entry-part costs i lt refl))
 
     pub contexts-alike : (count : ℕ) (x : ContextLists) → leafContexts (storedIn some-words some-values costs) count x ≡ leafContexts (map storedOf nodes) count x

@@ -7,12 +7,10 @@ use native.Mathlib.Numerals.{add-one}
 use native.Mathlib.Omega.{arith}
 use lib.ListN.{length, set, take, drop, length-append, length-drop, take-append-drop, length-set}
 use lib.Seq.{paste, take-all, take-at, drop-at, take-take, take-paste, length-paste, length-take-le, drop-append-le}
-use lib.IntN.{ℤ}
-use lib.Ieee.{Float}
-use Rattle.model.specs.Single.{singles}
+use Rattle.model.specs.Meter.{Meter}
 use Rattle.model.specs.Lent.{Waiting}
 use Rattle.layout.specs.Tree.{laid}
-use Rattle.layout.specs.Waiting.{wordsPerLeaf, putWaitWords, QueueLists, queueLists, Queued, QueueRoom, SameQueue, without, waitWords, waitValues, waitGains}
+use Rattle.layout.specs.Waiting.{wordsPerLeaf, putWaitWords, QueueListsOf, Queued, QueueRoom, SameQueue, without, waitWords, waitValues, waitGains}
 use Rattle.layout.proofs.Cells.{laid-append, laid-one, laid-length, laid-take, set-paste, stores-three}
 use Rattle.layout.proofs.Queue.{length-without}
 use Rattle.lists.specs.Moved.{moveUp}
@@ -73,11 +71,27 @@ module _ {E A : Type 0} (f : E → List A) (w : ℕ) (each : (e : E) → length 
       ∙ rw (is, whole) (sym (laid-one f t e))
 
 -- ---- the queue
-module _ (q : QueueLists) (leaves : List (Waiting singles)) (waiting : ℕ) (h : Queued waiting q leaves) where
+-- the lists of `waiting` leaves with that at place k taken out: the others behind it move up
+abbrev pub takenFrom : {M : Meter} → ℕ → ℕ → QueueListsOf M → QueueListsOf M
+takenFrom waiting k q =
+    record {
+      words = moveUp (k * wordsPerLeaf) wordsPerLeaf ((waiting - 1 - k) * wordsPerLeaf) (q .words);
+      values = moveUp k 1 (waiting - 1 - k) (q .values);
+      gains = moveUp k 1 (waiting - 1 - k) (q .gains);
+    }
+
+-- the lists with a leaf stored at place k
+abbrev pub queuedAt : {M : Meter} → ℕ → Waiting M → QueueListsOf M → QueueListsOf M
+queuedAt k w q =
+    record {
+      words = putWaitWords k (w .node) (w .offer .prop) (w .depth) (q .words);
+      values = set (q .values) k (w .offer .val);
+      gains = set (q .gains) k (w .offer .gain);
+    }
+
+module _ {M : Meter} (q : QueueListsOf M) (leaves : List (Waiting M)) (waiting : ℕ) (h : Queued waiting q leaves) where
   -- the leaf at place k taken out
-  pub taken-out : (k : ℕ) → k < waiting → QueueRoom waiting q
-      → Queued (waiting - 1) (queueLists (moveUp (k * wordsPerLeaf) wordsPerLeaf ((waiting - 1 - k) * wordsPerLeaf) (q .words)) (moveUp k 1 (waiting - 1 - k) (q .values)) (moveUp k 1 (waiting - 1 - k) (q .gains)))
-      (without k leaves)
+  pub taken-out : (k : ℕ) → k < waiting → QueueRoom waiting q → Queued (waiting - 1) (takenFrom waiting k q) (without k leaves)
   taken-out k lt room =
       let many = h .many in
       let inside : k < length leaves = omega arith in
@@ -91,11 +105,7 @@ module _ (q : QueueLists) (leaves : List (Waiting singles)) (waiting : ℕ) (h :
       }
 
   -- a leaf put behind the others, as the code stores it
-  pub added : (w : Waiting singles) → QueueRoom (waiting + 1) q
-      → Queued (waiting + 1) (queueLists (putWaitWords waiting (w .node) (w .offer .prop) (w .depth) (q .words))
-      (set (q .values) waiting (w .offer .val))
-      (set (q .gains) waiting (w .offer .gain)))
-      (leaves ++ (w ∷ []))
+  pub added : (w : Waiting M) → QueueRoom (waiting + 1) q → Queued (waiting + 1) (queuedAt waiting w q) (leaves ++ (w ∷ []))
   added w room =
       let many = h .many in
       record {
@@ -110,14 +120,12 @@ module _ (q : QueueLists) (leaves : List (Waiting singles)) (waiting : ℕ) (h :
             (put-behind waitGains 1 (λ w. refl) leaves (q .gains) w (rw (mul-one, ← many) (room .gains)) (rw (mul-one, ← many) (h .gains))));
       }
 
-pub same-taken : (q : QueueLists) (waiting k : ℕ) → k < waiting → QueueRoom waiting q
-    → SameQueue q (queueLists (moveUp (k * wordsPerLeaf) wordsPerLeaf ((waiting - 1 - k) * wordsPerLeaf) (q .words)) (moveUp k 1 (waiting - 1 - k) (q .values)) (moveUp k 1 (waiting - 1 - k) (q .gains)))
+pub same-taken : {M : Meter} (q : QueueListsOf M) (waiting k : ℕ) → k < waiting → QueueRoom waiting q → SameQueue q (takenFrom waiting k q)
 same-taken q waiting k lt room = record {
   words = moved-length (k * wordsPerLeaf) wordsPerLeaf ((waiting - 1 - k) * wordsPerLeaf) (q .words) (omega (arith, room .words));
   values = moved-length k 1 (waiting - 1 - k) (q .values) (omega (arith, room .values));
   gains = moved-length k 1 (waiting - 1 - k) (q .gains) (omega (arith, room .gains));
 }
 
-pub same-added : (q : QueueLists) (waiting node prop depth : ℕ) (val : ℤ) (gain : Float)
-    → SameQueue q (queueLists (putWaitWords waiting node prop depth (q .words)) (set (q .values) waiting val) (set (q .gains) waiting gain))
-same-added q waiting node prop depth val gain = record { words = simp length-set; values = simp length-set; gains = simp length-set }
+pub same-added : {M : Meter} (q : QueueListsOf M) (waiting : ℕ) (w : Waiting M) → SameQueue q (queuedAt waiting w q)
+same-added q waiting w = record { words = simp length-set; values = simp length-set; gains = simp length-set }

@@ -10,13 +10,13 @@ use Rattle.model.specs.Single.{singles}
 use Rattle.model.specs.Tree.{leaf, Record, blankRecord, nodesOf}
 use Rattle.model.specs.Lent.{recordIn, treeIn}
 use Rattle.model.proofs.Places.{length-each, each-at}
-use Rattle.layout.specs.Layout.{nodesHeld, storedAt, storedIn, nodeAt}
+use Rattle.layout.specs.Layout.{nodesHeld, storedAt, storedIn, storedInOf, nodeAt}
 use Rattle.tree.proofs.Lists.{take-each}
 
 module _ (words : List ℕ) (values : List ℤ) (costs : List Float) where
   -- ---- the node list
   pub stored-length : length (storedIn words values costs) ≡ nodesHeld words values
-  unfolding storedIn
+  unfolding storedInOf
   stored-length = length-each (storedAt words values costs) 0 (nodesHeld words values)
 
   -- ---- the tree of its first nodes
@@ -25,7 +25,7 @@ module _ (words : List ℕ) (values : List ℤ) (costs : List Float) where
     recordAt i = recordIn (storedAt words values costs i)
 
     pub tree-each : treeIn count (storedIn words values costs) ≡ map recordAt (range 0 count)
-    unfolding storedIn
+    unfolding storedInOf
     tree-each = ap (map recordIn) (take-each (storedAt words values costs) 0 count (nodesHeld words values) held) ∙ map-map recordIn (storedAt words values costs) (range 0 count)
 
     pub tree-length : length (treeIn count (storedIn words values costs)) ≡ count

@@ -5,6 +5,7 @@ use native.Mathlib.Omega.{arith}
 use lib.ListN.{length-set}
 use borrow.Author.Needs.{needs}
 use Rattle.layout.specs.Tree.{nodeLists}
+use Rattle.layout.specs.Values.{infoIs}
 use Rattle.layout.proofs.Stores.{leaf-put}
 use Rattle.layout.proofs.put_leaf.Statement.{statement}
 use Rattle.layout.proofs.put_leaf.Tie as tie
@@ -124,7 +125,7 @@ returns : tie.Need-returns
 returns c =
     let a = c .before .args in
     rw (toZ-ofZ w32 (a .info .offset) (record { sfits = c .struct-told .given .1 .1 .0 .1 }))
-    (leaf-put (nodeLists (a .words .now) (a .values .now) (a .costs .now) (a .spans .now)) (a .i) (a .first) (a .end) (a .info) (c .before .pre .0))
+    (leaf-put (nodeLists (a .words .now) (a .values .now) (a .costs .now) (a .spans .now)) (a .i) (a .first) (a .end) (infoIs (a .info)) (c .before .pre .0))
 
 pub put-leaf-spec : {M : Type 1} → statement M
 put-leaf-spec =

@@ -69,7 +69,7 @@ returns-2 c =
     let w : Waiting singles = record { node = a .node; depth = a .depth; offer = o } in
     rw (stored .0, stored .1 .0, stored .1 .1, toZ-ofZ w32 (o .val) (record { sfits = told .known-told .given .1 .0 .1 }), told .before .offer .given .1) (
       λ leaves h. added (lists told) leaves (a .waiting) h w (room told),
-      (refl, same-added (lists told) (a .waiting) (a .node) (o .prop) (a .depth) (o .val) (o .gain)),
+      (refl, same-added (lists told) (a .waiting) w),
     )
 
 pub enqueue-spec : {M : Type 1} → statement M

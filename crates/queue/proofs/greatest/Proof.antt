@@ -5,7 +5,8 @@ use native.Mathlib.Omega.{arith}
 use lib.ListN.{getD}
 use lib.Ieee.{nan, lt}
 use borrow.Author.Needs.{needs}
-use Rattle.layout.specs.Waiting.{firstBest}
+use Rattle.model.specs.Single.{singles}
+use Rattle.layout.specs.Waiting.{firstBest, firstBestOf}
 use Rattle.layout.proofs.Queue.{best-one}
 use Rattle.queue.proofs.Best.{best-turn, top-turn}
 use Rattle.queue.proofs.greatest.Statement.{statement}
@@ -18,14 +19,14 @@ abbrev μ-loop : tie.MeasureT-loop
 μ-loop gains waiting best₀ top₀ k₀ best top k = waiting - k
 
 returns : tie.Need-returns Inv-loop μ-loop
-unfolding firstBest
+unfolding firstBestOf
 returns c = rw (c .if1 .taken)
 
 shared-slice-read-top : tie.Need-shared-slice-read-top Inv-loop μ-loop
 shared-slice-read-top c = omega arith
 
 loop-holds : tie.Need-loop-holds Inv-loop μ-loop
-loop-holds c = (omega arith, omega arith, sym (best-one (c .before .before .before .args .gains .now)), refl)
+loop-holds c = (omega arith, omega arith, sym (best-one singles (c .before .before .before .args .gains .now)), refl)
 
 mul-gain : tie.Need-mul-gain Inv-loop μ-loop
 mul-gain c = omega arith
@@ -52,8 +53,8 @@ loop-again c =
     let test = lt (here .top) (getD gains (here .k) nan) in (
       omega arith,
       omega arith,
-      best-turn gains (here .k) (here .best) (here .top) (here .inv .2) (here .inv .3) (c .before .place-if .result) (c .before .place-if .ensures),
-      top-turn gains (here .k) (here .best) (here .top) (here .inv .2) (here .inv .3) test (c .before .place-if .result) (c .gain-if .result)
+      best-turn singles gains (here .k) (here .best) (here .top) (here .inv .2) (here .inv .3) (c .before .place-if .result) (c .before .place-if .ensures),
+      top-turn singles gains (here .k) (here .best) (here .top) (here .inv .2) (here .inv .3) test (c .before .place-if .result) (c .gain-if .result)
           (c .before .place-if .ensures) (c .gain-if .ensures),
     )
 
