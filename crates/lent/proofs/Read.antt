@@ -10,16 +10,15 @@ use native.Mathlib.Omega.{arith}
 use lib.IntN.{ℤ, pos}
 use lib.ListN.{length, getD, replicate, length-replicate, length-map, getD-replicate, List·getD-map}
 use lib.Seq.{ext-getD}
-use lib.Ieee.{Float, nan}
 use Rattle.model.specs.Lists.{range, writtenOver}
 use Rattle.model.specs.Settings.{Settings}
-use Rattle.model.specs.Single.{singles}
+use Rattle.model.specs.Meter.{Meter}
 use Rattle.model.specs.Rows.{Span, noSpan}
 use Rattle.model.specs.Tree.{Node, split, leaf, Info, Record, blankRecord}
 use Rattle.model.specs.Learn.{Result}
 use Rattle.model.specs.Lent.{Lent, stored, storedNode, noWaiting, treeIn, lentAfter}
 use Rattle.model.specs.Tree.{faultOf}
-use Rattle.model.specs.Profile.{single}
+use Rattle.model.specs.Profile.{Profile}
 use Rattle.model.specs.Refuse.{Refusal, refuseAt, isShortOfSeedRoom, learnRefusal, deepenRefusal}
 use Rattle.model.specs.Operations.{accepted, unless, treeOf, learn, deepen}
 use Rattle.model.proofs.Places.{length-each, each-at}
@@ -29,12 +28,12 @@ use Rattle.model.proofs.Tests.{named}
 use Rattle.model.proofs.Accepted.{passed-all, seed-rooms-in, learnedFrom, deepenedFrom}
 use Rattle.model.proofs.Demand3.{learned-fits, deepened-fits}
 use Rattle.model.proofs.Learned.{result-laws}
-use Rattle.model.proofs.SingleLawful.{single-lawful}
-use Rattle.layout.specs.Layout.{kindAt, propAt, gtAt, leAt, predAt, valAt, offsetAt, storedAt}
-use Rattle.layout.specs.Tree.{laid, NodeLists, HasRoom, nodeWords, nodeVal}
-use Rattle.layout.specs.Waiting.{QueueLists}
+use Rattle.model.proofs.Lawful.{Lawful}
+use Rattle.layout.specs.Layout.{kindAt, propAt, gtAt, leAt, predAt, valAt, offsetAt, storedAtOf}
+use Rattle.layout.specs.Tree.{laid, NodeListsOf, HasRoom, nodeWords, nodeVal}
+use Rattle.layout.specs.Waiting.{QueueListsOf}
 use Rattle.layout.proofs.Cells.{laid-length, written-read}
-use Rattle.lent.specs.Lists.{Lists, nodesLent, spansLent, leavesLent, spanAt, waitingAt, storedNodes, storedSpans, storedQueue, lentIn, recordWords, recordValues, recordCosts, spanRows, nodesAfter, clearQueue, listsAfter, readAfter, learnLists, deepenLists}
+use Rattle.lent.specs.Lists.{ListsOf, nodesLent, spansLent, leavesLent, spanAt, waitingAt, storedNodes, storedSpans, storedQueue, lentIn, recordWords, recordValues, recordCosts, spanRows, nodesAfter, clearQueue, listsAfter, readAfter, learnListsOf, deepenListsOf}
 
 -- ---- lists of entries read off other lists
 
@@ -55,28 +54,28 @@ module _ {E : Type 0} (z : E) (f g : ℕ → E) (new : List E) (n : ℕ) (fits :
 
 -- ---- nodes
 
-stored-cells : (words : List ℕ) (values : List ℤ) (costs : List Float) (i : ℕ) (n : Node) (info : Info singles)
+stored-cells : {M : Meter} (words : List ℕ) (values : List ℤ) (costs : List (M .Cost)) (i : ℕ) (n : Node) (info : Info M)
     → ((j : ℕ) → j < 5 → getD words (i * 5 + j) 0 ≡ getD (nodeWords n (info .pred)) j 0)
     → ((j : ℕ) → j < 2 → getD values (i * 2 + j) (pos 0) ≡ getD (nodeVal n ∷ info .offset ∷ []) j (pos 0))
-    → getD costs i nan ≡ info .cost → storedAt words values costs i ≡ storedNode n info
-stored-cells words values costs i n info w v c =
+    → getD costs i (M .spare) ≡ info .cost → storedAtOf M words values costs i ≡ storedNode n info
+stored-cells {M} words values costs i n info w v c =
     let first : i * 5 + 0 ≡ i * 5 = add-zero (i * 5) in
     let value : i * 2 + 0 ≡ i * 2 = add-zero (i * 2) in
     go n (rw first at (w 0 (omega arith))) (w 1 (omega arith)) (w 2 (omega arith)) (w 3 (omega arith)) (w 4 (omega arith)) (rw value at (v 0 (omega arith))) (v 1 (omega arith))
   where
     go : (n : Node) → kindAt words i ≡ getD (nodeWords n (info .pred)) 0 0 → propAt words i ≡ getD (nodeWords n (info .pred)) 1 0
         → gtAt words i ≡ getD (nodeWords n (info .pred)) 2 0 → leAt words i ≡ getD (nodeWords n (info .pred)) 3 0 → predAt words i ≡ getD (nodeWords n (info .pred)) 4 0
-        → valAt values i ≡ nodeVal n → offsetAt values i ≡ info .offset → storedAt words values costs i ≡ storedNode n info
+        → valAt values i ≡ nodeVal n → offsetAt values i ≡ info .offset → storedAtOf M words values costs i ≡ storedNode n info
     go (split prop val gt le) a b d e f g h = rw (a, b, d, e, f, g, h, c)
     go leaf a b d e f g h = rw (a, b, d, e, f, g, h, c)
 
-words-each : (r : Record singles) → length (recordWords r) ≡ 5
+words-each : {M : Meter} (r : Record M) → length (recordWords r) ≡ 5
 words-each r = go (r .node) where
   go : (n : Node) → length (nodeWords n (r .info .pred)) ≡ 5
   go (split prop val gt le) = refl
   go leaf = refl
 
-module _ (r : Result singles) (n : NodeLists) (room : HasRoom (length (r .records)) n) where
+module _ {M : Meter} (r : Result M) (n : NodeListsOf M) (room : HasRoom (length (r .records)) n) where
   abbrev k : ℕ
   k = length (r .records)
 
@@ -89,7 +88,7 @@ module _ (r : Result singles) (n : NodeLists) (room : HasRoom (length (r .record
   long-costs : length (laid recordCosts (r .records)) ≡ k
   long-costs = laid-length recordCosts 1 (λ e. refl) (r .records) ∙ mul-one k
 
-  abbrev m : NodeLists
+  abbrev m : NodeListsOf M
   m = nodesAfter r n
 
   same-words : length (m .words) ≡ length (n .words)
@@ -108,27 +107,27 @@ module _ (r : Result singles) (n : NodeLists) (room : HasRoom (length (r .record
   same-nodes = rw (same-words, same-values, same-costs)
 
   -- entry i of the written ones
-  node-here : (i : ℕ) → i < length (map stored (r .records)) → storedAt (m .words) (m .values) (m .costs) i ≡ getD (map stored (r .records)) i (stored blankRecord)
+  node-here : (i : ℕ) → i < length (map stored (r .records)) → storedAtOf M (m .words) (m .values) (m .costs) i ≡ getD (map stored (r .records)) i (stored blankRecord)
   unfolding nodesAfter
   node-here i h =
       let lt : i < k = omega (arith, length-map (r .records) stored) in
-      let e : Record singles = getD (r .records) i blankRecord in
+      let e : Record M = getD (r .records) i blankRecord in
       let one : i * 1 + 0 ≡ i = omega arith in
       stored-cells (m .words) (m .values) (m .costs) i (e .node) (e .info)
       (λ j small. written-read recordWords 5 words-each (r .records) i j blankRecord 0 (n .words) lt small)
       (λ j small. written-read recordValues 2 (λ x. refl) (r .records) i j blankRecord (pos 0) (n .values) lt small)
-      (rw one at (written-read recordCosts 1 (λ x. refl) (r .records) i 0 blankRecord nan (n .costs) lt (omega arith)))
+      (rw one at (written-read recordCosts 1 (λ x. refl) (r .records) i 0 blankRecord (M .spare) (n .costs) lt (omega arith)))
       ∙ sym (List·getD-map stored (r .records) i blankRecord)
 
   -- and past them
-  node-past : (i : ℕ) → length (map stored (r .records)) ≤ i → storedAt (m .words) (m .values) (m .costs) i ≡ storedAt (n .words) (n .values) (n .costs) i
+  node-past : (i : ℕ) → length (map stored (r .records)) ≤ i → storedAtOf M (m .words) (m .values) (m .costs) i ≡ storedAtOf M (n .words) (n .values) (n .costs) i
   unfolding nodesAfter
   node-past i h =
       let ge : k ≤ i = omega (arith, length-map (r .records) stored) in
       let word : (j : ℕ) → getD (m .words) (i * 5 + j) 0 ≡ getD (n .words) (i * 5 + j) 0 = λ j. getD-unwritten (laid recordWords (r .records)) (n .words) 0 (i * 5 + j) (omega (arith, long-words)) in
       let value : (j : ℕ) → getD (m .values) (i * 2 + j) (pos 0) ≡ getD (n .values) (i * 2 + j) (pos 0) =
       λ j. getD-unwritten (laid recordValues (r .records)) (n .values) (pos 0) (i * 2 + j) (omega (arith, long-values)) in
-      let cost : getD (m .costs) i nan ≡ getD (n .costs) i nan = getD-unwritten (laid recordCosts (r .records)) (n .costs) nan i (omega (arith, long-costs)) in
+      let cost : getD (m .costs) i (M .spare) ≡ getD (n .costs) i (M .spare) = getD-unwritten (laid recordCosts (r .records)) (n .costs) (M .spare) i (omega (arith, long-costs)) in
       let first : i * 5 + 0 ≡ i * 5 = add-zero (i * 5) in
       let front : i * 2 + 0 ≡ i * 2 = add-zero (i * 2) in
       rw (rw first at (word 0), word 1, word 2, word 3, word 4, rw front at (value 0), value 1, cost)
@@ -142,7 +141,7 @@ module _ (r : Result singles) (n : NodeLists) (room : HasRoom (length (r .record
       let c = room .costs in
       let fits : k ≤ nodesLent (n .words) (n .values) (n .costs) = omega arith in
       rw same-nodes
-      (read-over (stored blankRecord) (storedAt (m .words) (m .values) (m .costs)) (storedAt (n .words) (n .values) (n .costs)) (map stored (r .records))
+      (read-over (stored blankRecord) (storedAtOf M (m .words) (m .values) (m .costs)) (storedAtOf M (n .words) (n .values) (n .costs)) (map stored (r .records))
       (nodesLent (n .words) (n .values) (n .costs)) (omega arith) node-here (λ i h lt. node-past i h))
 
 -- ---- spans
@@ -168,13 +167,13 @@ module _ (spans : List Span) (l : List ℕ) (room : length spans * 2 ≤ length 
 
 -- ---- the queue
 
-pub queue-read : (q : QueueLists) → storedQueue (clearQueue q) ≡ replicate (length (storedQueue q)) noWaiting
+pub queue-read : {M : Meter} (q : QueueListsOf M) → storedQueue (clearQueue q) ≡ replicate (length (storedQueue q)) noWaiting
 unfolding storedQueue clearQueue
-queue-read q =
+queue-read {M} q =
     let n = leavesLent (q .words) (q .values) (q .gains) in
     let p = clearQueue q in
     let same : leavesLent (p .words) (p .values) (p .gains) ≡ n =
-    rw (length-replicate {A = ℕ} (length (q .words)) 0, length-replicate (length (q .values)) (pos 0), length-replicate (length (q .gains)) (singles .nought)) in
+    rw (length-replicate {A = ℕ} (length (q .words)) 0, length-replicate (length (q .values)) (pos 0), length-replicate (length (q .gains)) (M .nought)) in
     let long = length-each (waitingAt q) 0 n in
     let left = length-each (waitingAt p) 0 n in
     rw (same, long)
@@ -187,59 +186,59 @@ queue-read q =
       getD-blank {A = ℕ} (length (q .words)) (i * 3 + 2) 0,
       getD-blank {A = ℕ} (length (q .words)) (i * 3 + 1) 0,
       getD-replicate (length (q .values)) i (pos 0) (pos 0) (omega arith),
-      getD-replicate (length (q .gains)) i (singles .nought) nan (omega arith),
+      getD-replicate (length (q .gains)) i (M .nought) (M .spare) (omega arith),
     )
     (sym (getD-replicate n i noWaiting noWaiting lt))))
 
 -- ---- the operations
 
-pub lists-read : (r : Result singles) (x : Lists) → HasRoom (length (r .records)) (x .nodes) → length (r .spans) ≡ length (r .records) → lentIn (listsAfter r x) ≡ lentAfter r (lentIn x)
+pub lists-read : {M : Meter} (r : Result M) (x : ListsOf M) → HasRoom (length (r .records)) (x .nodes) → length (r .spans) ≡ length (r .records) → lentIn (listsAfter r x) ≡ lentAfter r (lentIn x)
 unfolding listsAfter lentAfter nodesAfter
 lists-read r x room paired = rw (nodes-read r (x .nodes) room, spans-at, queue-read (x .queue)) where
   spans-at : storedSpans (nodesAfter r (x .nodes) .spans) ≡ writtenOver (r .spans) (storedSpans (x .nodes .spans))
   spans-at = spans-read (r .spans) (x .nodes .spans) (omega (arith, paired, room .spans))
 
 -- room for what is written, as the checks have it
-pub room-read : (x : Lists) (n : ℕ) → n ≤ length (lentIn x .nodes) → n ≤ length (lentIn x .spans) → HasRoom n (x .nodes)
+pub room-read : {M : Meter} (x : ListsOf M) (n : ℕ) → n ≤ length (lentIn x .nodes) → n ≤ length (lentIn x .spans) → HasRoom n (x .nodes)
 unfolding storedNodes storedSpans
-room-read x n held spans =
+room-read {M} x n held spans =
     let m = x .nodes in
-    let long = length-each (storedAt (m .words) (m .values) (m .costs)) 0 (nodesLent (m .words) (m .values) (m .costs)) in
+    let long = length-each (storedAtOf M (m .words) (m .values) (m .costs)) 0 (nodesLent (m .words) (m .values) (m .costs)) in
     let many = length-each (spanAt (m .spans)) 0 (spansLent (m .spans)) in
     record { words = omega arith; values = omega arith; costs = omega arith; spans = omega arith }
 
-module _ (t : Settings singles) (logs : List Float) (x : Lists) where
-  pub learn-read : readAfter (learnLists t logs x) ≡ learn single t logs (lentIn x)
-  unfolding learnLists learn learnRefusal
-  learn-read = go (learnRefusal single t logs (lentIn x)) refl where
-    r : Result singles
-    r = learnedFrom single t logs (lentIn x)
+module _ (P : Profile) (law : Lawful P) (t : Settings (P .meter)) (logs : List (P .meter .Cost)) (x : ListsOf (P .meter)) where
+  pub learn-read : readAfter (learnListsOf P t logs x) ≡ learn P t logs (lentIn x)
+  unfolding learnListsOf learn learnRefusal
+  learn-read = go (learnRefusal P t logs (lentIn x)) refl where
+    r : Result (P .meter)
+    r = learnedFrom P t logs (lentIn x)
 
-    go : (o : Option Refusal) → learnRefusal single t logs (lentIn x) ≡ o → readAfter (unless o x (treeOf r) (listsAfter r x)) ≡ unless o (lentIn x) (treeOf r) (lentAfter r (lentIn x))
+    go : (o : Option Refusal) → learnRefusal P t logs (lentIn x) ≡ o → readAfter (unless o x (treeOf r) (listsAfter r x)) ≡ unless o (lentIn x) (treeOf r) (lentAfter r (lentIn x))
     go (some f) e = refl
     go none e =
-        let p = passed-all single t logs (lentIn x) false none e .0 in
-        let f = learned-fits single single-lawful (result-laws (single-lawful .bounds)) t logs (lentIn x) p in
+        let p = passed-all P t logs (lentIn x) false none e .0 in
+        let f = learned-fits P law (result-laws (law .bounds)) t logs (lentIn x) p in
         let few = f .kept .few in
         let nodes = f .node-room in
         let spans = f .span-room in
-        ap (λ (y : Lent singles). record { outcome = accepted (treeOf r); lent = y })
+        ap (λ (y : Lent (P .meter)). record { outcome = accepted (treeOf r); lent = y })
         (lists-read r x (room-read x (length (r .records)) (omega arith) (omega arith)) (f .kept .paired))
 
-  pub deepen-read : (count : ℕ) → readAfter (deepenLists t logs count x) ≡ deepen single t logs count (lentIn x)
-  unfolding deepenLists deepen deepenRefusal
-  deepen-read count = go (deepenRefusal single t logs count (lentIn x)) refl where
-    r : Result singles
-    r = deepenedFrom single t logs count (lentIn x)
+  pub deepen-read : (count : ℕ) → readAfter (deepenListsOf P t logs count x) ≡ deepen P t logs count (lentIn x)
+  unfolding deepenListsOf deepen deepenRefusal
+  deepen-read count = go (deepenRefusal P t logs count (lentIn x)) refl where
+    r : Result (P .meter)
+    r = deepenedFrom P t logs count (lentIn x)
 
-    go : (o : Option Refusal) → deepenRefusal single t logs count (lentIn x) ≡ o → readAfter (unless o x (treeOf r) (listsAfter r x)) ≡ unless o (lentIn x) (treeOf r) (lentAfter r (lentIn x))
+    go : (o : Option Refusal) → deepenRefusal P t logs count (lentIn x) ≡ o → readAfter (unless o x (treeOf r) (listsAfter r x)) ≡ unless o (lentIn x) (treeOf r) (lentAfter r (lentIn x))
     go (some f) e = refl
     go none e =
-        let h = passed-all single t logs (lentIn x) (isShortOfSeedRoom count (lentIn x)) (refuseAt (faultOf (treeIn count (lentIn x .nodes))) 8 none) e in
+        let h = passed-all P t logs (lentIn x) (isShortOfSeedRoom count (lentIn x)) (refuseAt (faultOf (treeIn count (lentIn x .nodes))) 8 none) e in
         let sound = named (faultOf (treeIn count (lentIn x .nodes))) 8 none .0 (h .2) .0 in
-        let f = deepened-fits single single-lawful (result-laws (single-lawful .bounds)) t logs (lentIn x) (h .0) count (seed-rooms-in count (lentIn x) (h .1)) sound in
+        let f = deepened-fits P law (result-laws (law .bounds)) t logs (lentIn x) (h .0) count (seed-rooms-in count (lentIn x) (h .1)) sound in
         let few = f .kept .few in
         let nodes = f .node-room in
         let spans = f .span-room in
-        ap (λ (y : Lent singles). record { outcome = accepted (treeOf r); lent = y })
+        ap (λ (y : Lent (P .meter)). record { outcome = accepted (treeOf r); lent = y })
         (lists-read r x (room-read x (length (r .records)) (omega arith) (omega arith)) (f .kept .paired))

@@ -23,6 +23,7 @@ use Rattle.layout.specs.Tree.{nodeLists}
 use Rattle.layout.specs.Waiting.{QueueLists}
 use Rattle.rows.specs.Flat.{Flat}
 use Rattle.model.proofs.Places.{length-each, each-written}
+use Rattle.model.proofs.SingleLawful.{single-lawful}
 use Rattle.lent.specs.Answer.{after}
 use Rattle.lent.specs.declared.Learned.{Learned}
 use Rattle.lent.specs.Lists as core
@@ -167,19 +168,19 @@ module _ (nodes : List MaNode) (words : List ℕ) (values : List ℤ) (costs : L
 
   module _ (t : Settings singles) (logs : List Float) where
     learn-made : madeAfter nodes (core.learnLists t logs lent) ≡ learnRecords t logs x
-    unfolding core.learnLists learnRecords learn
+    unfolding core.learnListsOf learnRecords learn
     learn-made =
         let r = learned (jobOf single t logs (usesModes t (lentIn x))) (t .limit) (rowsIn (lentIn x)) in
-        made-unless r (learnRefusal single t logs (core.lentIn lent)) (learn-read t logs lent)
+        made-unless r (learnRefusal single t logs (core.lentIn lent)) (learn-read single single-lawful t logs lent)
         ∙ ap (λ (o : Option Refusal). unless o x (treeOf r) (listsAfter r x)) (ap (learnRefusal single t logs) lent-read ∙ learn-cut t logs (lentIn x))
 
     deepen-made : (count : ℕ) → count ≤ maxNodes → madeAfter nodes (core.deepenLists t logs count lent) ≡ deepenRecords t logs count x
-    unfolding core.deepenLists deepenRecords deepen
+    unfolding core.deepenListsOf deepenRecords deepen
     deepen-made count few =
         let from : List (Record singles) → Result singles = λ seed. deepened (jobOf single t logs (usesModes t (lentIn x))) (t .limit) seed (rowsIn (lentIn x)) in
         let seed : treeIn count (core.lentIn lent .nodes) ≡ treeIn count (lentIn x .nodes) = ap (λ (y : Lent singles). treeIn count (y .nodes)) lent-read ∙ tree-cut count (lentIn x .nodes) few in
         let r = from (treeIn count (core.lentIn lent .nodes)) in
-        made-unless r (deepenRefusal single t logs count (core.lentIn lent)) (deepen-read t logs lent count)
+        made-unless r (deepenRefusal single t logs count (core.lentIn lent)) (deepen-read single single-lawful t logs lent count)
         ∙ ap (λ (o : Option Refusal). unless o x (treeOf r) (listsAfter r x)) (ap (deepenRefusal single t logs count) lent-read ∙ deepen-cut t logs (lentIn x) count few)
         ∙ ap (λ (s : List (Record singles)). unless (deepenRefusal single t logs count (lentIn x)) x (treeOf (from s)) (listsAfter (from s) x)) seed
 

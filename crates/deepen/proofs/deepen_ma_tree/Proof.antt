@@ -8,9 +8,10 @@ use Rattle.rows.specs.Flat.{flat}
 use Rattle.model.specs.Profile.{single}
 use Rattle.model.specs.Lent.{rowCount}
 use Rattle.model.specs.Refuse.{isShortOfSeedRoom, refusedBefore}
+use Rattle.model.proofs.SingleLawful.{single-lawful}
 use Rattle.checks.specs.Given.{settingsOf, checkOf}
 use Rattle.checks.proofs.Passed.{deepen-passed, deepen-refused}
-use Rattle.lent.specs.Lists.{Lists, lists, lentIn, deepenLists}
+use Rattle.lent.specs.Lists.{Lists, lists, lentIn, deepenListsOf}
 use Rattle.lent.proofs.Read.{deepen-read}
 use Rattle.lent.proofs.Answered.{refused-lists, both}
 use Rattle.lent.proofs.Rooms.{lends-rooms}
@@ -83,7 +84,7 @@ same-length-9 : tie.Need-same-length-9
 same-length-9 c = search needs
 
 returns : tie.Need-returns
-unfolding deepenLists
+unfolding deepenListsOf
 returns c =
     let checked = c .before .before .before in
     let told = c .before .number .given in
@@ -91,7 +92,7 @@ returns c =
     both
     (refused-lists (x checked) (deepenedIn (given .s) (given .logs .now) (given .count) (x checked .rows) (x checked .nodes)) (told .0 .0) (told .0 .1 .0)
     (deepen-refused (given .s) (given .logs .now) (lentIn (x checked)) (given .count) (told .0 .0) (told .0 .1 .0) (sym (answer checked) ∙ told .1)))
-    (deepen-read (settingsOf (given .s)) (given .logs .now) (x checked) (given .count))
+    (deepen-read single single-lawful (settingsOf (given .s)) (given .logs .now) (x checked) (given .count))
 
 abbrev after-deepen-sound : tie.After-slice-known14 → tie.After-deepen-sound
 after-deepen-sound c = c .before .before .before .before .before .before .before .before .before .before .before .before .before .before .before .before .before .before
@@ -134,7 +135,7 @@ returns-2 c =
     let checked = c .before .before .before .before .before .before .before .before .before .before .before .before .before .before .before .before .before .before .before .before .before .before .before .before .before .before .before .before .before .before .before .before .before in
     let made = after-deepen-sound c .deepen-sound in
     let given = start checked .args in
-    both (made .ensures) (deepen-read (settingsOf (given .s)) (given .logs .now) (x checked) (given .count))
+    both (made .ensures) (deepen-read single single-lawful (settingsOf (given .s)) (given .logs .now) (x checked) (given .count))
 
 pub deepen-ma-tree-spec : {M : Type 1} → statement M
 deepen-ma-tree-spec =

@@ -10,7 +10,7 @@ use Rattle.layout.specs.Tree.{nodeLists, HasRoom}
 use Rattle.layout.specs.Waiting.{queueLists}
 use Rattle.rows.specs.Flat.{flat}
 use Rattle.tree.specs.Answers.{faultNamed}
-use Rattle.lent.specs.Lists.{Lists, lists, deepenLists}
+use Rattle.lent.specs.Lists.{Lists, lists, deepenListsOf}
 use Rattle.lent.proofs.Answered.{refused-lists, accepted-lists}
 use Rattle.seed.specs.Ordered.{seedIn}
 use Rattle.from_seed.specs.Result.{deepenedIn}
@@ -61,7 +61,7 @@ same-length : tie.Need-same-length
 same-length c = search needs
 
 returns : tie.Need-returns
-unfolding deepenLists
+unfolding deepenListsOf
 returns c =
     let tested = c .before .before .before in
     let told = c .before .place .given in
@@ -106,7 +106,7 @@ same-length-12 : tie.Need-same-length-12
 same-length-12 c = after-deepen-rows c .deepen-rows .kept .1 .1 .1 .1 .1 .1 .1 .1 .1 .1 .0
 
 returns-2 : tie.Need-returns-2
-unfolding deepenLists
+unfolding deepenListsOf
 returns-2 c =
     let tested = c .before .before .before .before .before .before .before .before .before .before .before .before .before .before .before .before .before .before .before .before .before .before .before .before .before .before .before .before .before .before .before .before in
     let told = c .before .before .before .before .before .before .before .before .before .before .before .before .before .before .before .before .before .before .before .before .before .before .before .before .before .before .before .before .before .before .enum-told .given in

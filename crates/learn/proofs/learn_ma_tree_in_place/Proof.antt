@@ -7,9 +7,10 @@ use Rattle.rows.specs.Flat.{flat}
 use Rattle.model.specs.Profile.{single}
 use Rattle.model.specs.Lent.{rowCount}
 use Rattle.model.specs.Refuse.{learnRefusal}
+use Rattle.model.proofs.SingleLawful.{single-lawful}
 use Rattle.checks.specs.Given.{settingsOf, checkOf}
 use Rattle.checks.proofs.Passed.{learn-passed, learn-refused}
-use Rattle.lent.specs.Lists.{Lists, lists, lentIn, learnLists}
+use Rattle.lent.specs.Lists.{Lists, lists, lentIn, learnListsOf}
 use Rattle.lent.proofs.Read.{learn-read}
 use Rattle.lent.proofs.Answered.{refused-lists, accepted-lists, both}
 use Rattle.from_root.specs.Result.{resultIn}
@@ -80,13 +81,13 @@ same-length-9 : tie.Need-same-length-9
 same-length-9 c = search needs
 
 returns : tie.Need-returns
-unfolding learnLists
+unfolding learnListsOf
 returns c =
     let checked = c .before .before .before in
     let told = c .before .number .given in
     let given = start checked .args in
     both (refused-lists (x checked) (resultIn (given .s) (given .logs .now) (x checked .rows)) (told .0 .0) (told .0 .1 .0) (learn-refused (given .s) (given .logs .now) (lentIn (x checked)) (told .0 .0) (told .0 .1 .0) (sym (answer checked) ∙ told .1)))
-    (learn-read (settingsOf (given .s)) (given .logs .now) (x checked))
+    (learn-read single single-lawful (settingsOf (given .s)) (given .logs .now) (x checked))
 
 abbrev after-learn-rows : tie.After-slice-known14 → tie.After-learn-rows
 after-learn-rows c = c .before .before .before .before .before .before .before .before .before .before .before .before .before .before .before .before .before .before
@@ -125,7 +126,7 @@ same-length-20 : tie.Need-same-length-20
 same-length-20 c = after-learn-rows c .learn-rows .kept .1 .1 .1 .1 .1 .1 .1 .1 .1 .1 .0
 
 returns-2 : tie.Need-returns-2
-unfolding learnLists
+unfolding learnListsOf
 returns-2 c =
     let checked = c .before .before .before .before .before .before .before .before .before .before .before .before .before .before .before .before .before .before .before .before .before .before .before .before .before .before .before .before .before .before .before .before .before in
     let passed = c .before .before .before .before .before .before .before .before .before .before .before .before .before .before .before .before .before .before .before .before .before .before .before .before .before .before .before .before .before .before .before .rows .given in
@@ -133,7 +134,7 @@ returns-2 c =
     let given = start checked .args in
     both
     (accepted-lists (x checked) (resultIn (given .s) (given .logs .now) (x checked .rows)) (learn-passed (given .s) (given .logs .now) (lentIn (x checked)) (passed .0 .0) (sym (answer checked) ∙ passed .1) .0) (made .ensures .0) (made .ensures .1))
-    (learn-read (settingsOf (given .s)) (given .logs .now) (x checked))
+    (learn-read single single-lawful (settingsOf (given .s)) (given .logs .now) (x checked))
 
 pub learn-ma-tree-in-place-spec : {M : Type 1} → statement M
 learn-ma-tree-in-place-spec =
