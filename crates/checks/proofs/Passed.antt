@@ -17,9 +17,9 @@ use Rattle.model.specs.Tree.{faultOf}
 use Rattle.model.specs.Lent.{Lent, rowCount, treeIn, lentAfter}
 use Rattle.model.specs.Refuse.{Refusal, refuseIf, refuseAt, isShortOfSeedRoom, refusedBefore, learnRefusal, deepenRefusal}
 use Rattle.model.specs.Operations.{learn, treeOf}
-use Rattle.model.proofs.Accepted.{Passed, SeedRooms, learnedFrom, learn-accepted}
+use Rattle.model.proofs.Accepted.{Passed, SeedRooms, seed-rooms-in, learnedFrom, learn-accepted}
 use Rattle.model.proofs.Bounded.{LogsWithin, logs-within}
-use Rattle.model.proofs.Tests.{neither, not-below, passed, named}
+use Rattle.model.proofs.Tests.{neither, passed, named}
 use Rattle.model.proofs.Keeping.{all-at}
 use Rattle.checks.specs.declared.Settings.{Settings}
 use Rattle.checks.specs.declared.Check.the-variants.{Pass, Refused}
@@ -60,11 +60,6 @@ module _ (P : Profile) (t : model.Settings (P .meter)) (logs : List (P .meter .C
   before-none : (short : Bool) → refusedBefore P t logs x short none ≡ none → (learnRefusal P t logs x ≡ none) × (short ≡ false)
   unfolding refusedBefore learnRefusal
   before-none short e = let roomy : short ≡ false = (simp (passed, named, neither) at e) .1 .1 .1 .1 .1 .1 .0 .1 in (rw roomy at e, roomy)
-
--- 7 of deepening
-seed-rooms : (count : ℕ) (x : Lent singles) → isShortOfSeedRoom count x ≡ false → SeedRooms count x
-unfolding isShortOfSeedRoom
-seed-rooms count x e = let h = simp (neither, not-below) at e in omega arith
 
 module _ (s : Settings) (logs : List Float) (x : Lent singles) where
   -- the model's record, from a learning that is not refused
@@ -118,7 +113,7 @@ module _ (s : Settings) (logs : List Float) (x : Lent singles) where
     deepen-passed rows e =
         let h = pass-is deepening (rowCount x) rows e in
         let learns = before-none single (settingsOf s) logs x (isShortOfSeedRoom count x) (h .0) in
-        (deepen-then ∙ rw (h .0), facts rows (h .1) (unrefused (learns .0)), seed-rooms count x (learns .1))
+        (deepen-then ∙ rw (h .0), facts rows (h .1) (unrefused (learns .0)), seed-rooms-in count x (learns .1))
 
     pub deepen-refused : (n p : ℕ) → checkOf (rowCount x) deepening ≡ Refused n p → deepenRefusal single (settingsOf s) logs count x ≡ some (record { number = n; place = p })
     unfolding orElse

@@ -12,7 +12,7 @@ use lib.ListN.{length}
 use lib.Dec.{ltb, eqb→eq}
 use Rattle.model.specs.Lists.{isEmpty}
 use Rattle.model.specs.Settings.{Settings}
-use Rattle.model.specs.Single.{singles}
+use Rattle.model.specs.Meter.{Meter}
 use Rattle.model.specs.Lent.{Lent, rowCount}
 use Rattle.model.specs.Refuse.{isUneven, isShortAlphabet}
 use Rattle.model.proofs.Tests.{holds, neither, not-below}
@@ -26,7 +26,7 @@ scored-small s a c p q r =
     mul-le-mul (mul-le-mul u q) v
 
 -- 3: the tokens are those of whole rows, as many as the properties have
-pub whole-rows : (x : Lent singles) → isUneven x ≡ false → WholeRows (length (x .toks)) × (length (x .toks) / 14 ≡ rowCount x)
+pub whole-rows : {M : Meter} (x : Lent M) → isUneven x ≡ false → WholeRows (length (x .toks)) × (length (x .toks) / 14 ≡ rowCount x)
 unfolding isUneven
 whole-rows x e =
     let h = simp (neither, holds, not-below) at e in
@@ -37,7 +37,7 @@ pub given : {A : Type 0} (xs : List A) → not (isEmpty xs) ≡ ltb 0 (length xs
 given [] = refl
 given (x ∷ xs) = sym (lt-ltb 0 (length (x ∷ xs)) (omega arith))
 
-pub short-alphabet : (t : Settings singles) (x : Lent singles) (rows res : ℕ) → rowCount x ≡ rows → length (x .res) ≡ res
+pub short-alphabet : {M : Meter} (t : Settings M) (x : Lent M) (rows res : ℕ) → rowCount x ≡ rows → length (x .res) ≡ res
     → (t .modal && ltb 0 res && ltb 0 rows && ltb (t .alphabet) 128) ≡ isShortAlphabet t x
 unfolding isShortAlphabet
 short-alphabet t x rows res h k = rw (given (x .res), h, k) (and-assoc (t .modal && ltb 0 res) _ _ ∙ and-assoc (t .modal) _ _)

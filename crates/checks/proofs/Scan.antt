@@ -16,6 +16,7 @@ use lib.Ieee.{Float, nan, fin}
 use Rattle.model.specs.Lists.{range, keep, all, isEmpty}
 use Rattle.model.specs.Settings.{Settings}
 use Rattle.model.specs.Cost.{isUsable, usable}
+use Rattle.model.specs.Meter.{Meter}
 use Rattle.model.specs.Single.{singles}
 use Rattle.model.specs.Profile.{isBetween, single}
 use Rattle.model.specs.Lent.{Lent, rowCount}
@@ -40,7 +41,7 @@ module _ {A : Type 0} (p : A → Bool) (z : A) where
       go false e = refl
 
 -- ---- 2: of the predictors from p on, none is usable
-module _ (t : Settings singles) where
+module _ {M : Meter} (t : Settings M) where
   abbrev pub noneFrom : ℕ → Bool
   noneFrom p = isEmpty (keep (isUsable t) (range p (14 - p)))
 

@@ -5,6 +5,7 @@ use mathlib.Core.Option.{Option, none, some}
 use Prim.Native.Nat.{ℕ, _*_, _/_, _≤_}
 use lib.ListN.{length, replicate, length-replicate}
 use lib.IntN.{ℤ}
+use Rattle.model.specs.Meter.{Meter}
 use Rattle.model.specs.Settings as model
 use Rattle.model.specs.Single.{singles}
 use Rattle.model.specs.Rows.{noSpan}
@@ -36,27 +37,27 @@ settingsOf s =
     }
 
 -- the lent lists have so many properties, tokens and residuals
-pub record Holds (p t r : ℕ) (x : Lent singles) : Type 0 where
+pub record Holds {M : Meter} (p t r : ℕ) (x : Lent M) : Type 0 where
   pub props : length (x .props) ≡ p
   pub toks : length (x .toks) ≡ t
   pub res : length (x .res) ≡ r
 
 -- the lent rooms have so many entries
-pub record HasRooms (room : Rooms) (x : Lent singles) : Type 0 where
+pub record HasRooms {M : Meter} (room : Rooms) (x : Lent M) : Type 0 where
   pub nodes : length (x .nodes) ≡ room .nodes
   pub spans : length (x .spans) ≡ room .spans
   pub queue : length (x .queue) ≡ room .queue
   pub counts : length (x .counts) ≡ room .counts
 
 -- These lists are lent, with rooms of so many entries. The checks promise their answer for every such x: what the rooms hold is all the same to them
-pub record Lends (ps : List ℤ) (ts : List ℕ) (rs : List ℤ) (room : Rooms) (x : Lent singles) : Type 0 where
+pub record Lends {M : Meter} (ps : List ℤ) (ts : List ℕ) (rs : List ℤ) (room : Rooms) (x : Lent M) : Type 0 where
   pub props : x .props ≡ ps
   pub toks : x .toks ≡ ts
   pub res : x .res ≡ rs
   pub rooms : HasRooms room x
 
 -- there are such lists: those whose rooms are blank
-abbrev pub lentOf : List ℤ → List ℕ → List ℤ → Rooms → Lent singles
+abbrev pub lentOf : {M : Meter} → List ℤ → List ℕ → List ℤ → Rooms → Lent M
 lentOf ps ts rs room =
     record {
       props = ps;
@@ -68,7 +69,7 @@ lentOf ps ts rs room =
       counts = replicate (room .counts) 0;
     }
 
-pub lends : (ps : List ℤ) (ts : List ℕ) (rs : List ℤ) (room : Rooms) → Lends ps ts rs room (lentOf ps ts rs room)
+pub lends : {M : Meter} (ps : List ℤ) (ts : List ℕ) (rs : List ℤ) (room : Rooms) → Lends {M = M} ps ts rs room (lentOf ps ts rs room)
 lends ps ts rs room =
     record {
       props = refl;

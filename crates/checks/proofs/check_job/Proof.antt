@@ -152,7 +152,7 @@ returns-3 c = λ x h. c .refused3 .ensures ∙ ap (checkOf (rowCount x)) (sym (u
 first-bad-row-requires : tie.Need-first-bad-row-requires
 first-bad-row-requires c κs =
     let job = start-3 (c .before) .args in
-    let x = lentOf (now (job .props)) (now (job .tok)) (now (job .res)) (job .rooms) in
+    let x : Lent singles = lentOf (now (job .props)) (now (job .tok)) (now (job .res)) (job .rooms) in
     whole-rows x (is-3 (c .before) x (lends (now (job .props)) (now (job .tok)) (now (job .res)) (job .rooms)) (c .if3 .left)) .0
 
 enum-known-place : tie.Need-enum-known-place
