@@ -11,12 +11,12 @@ use lib.IntN.{ℤ}
 use lib.Dec.{eqb}
 use Rattle.model.specs.Rows.{Row, within, rowsHeld}
 use Rattle.model.specs.Mode.{fresh}
-use Rattle.model.specs.Single.{singles}
+use Rattle.model.specs.Meter.{Meter}
 use Rattle.model.specs.Tree.{Node, split, leaf, isLeaf}
 use Rattle.model.specs.Grow.{Entry, noEntry}
 use Rattle.model.specs.Settle.{settled}
 use Rattle.layout.specs.Layout.{kindAt}
-use Rattle.layout.specs.Tree.{NodeLists, nodeWords, firstAt, endAt}
+use Rattle.layout.specs.Tree.{NodeListsOf, nodeWords, firstAt, endAt}
 use Rattle.layout.proofs.Held.{holding-lengths, held-kind, held-first, held-end}
 use Rattle.mode.specs.Lent.{Inside, Clear, Rebasable}
 use Rattle.mode.proofs.Stepped.{step-rows}
@@ -24,15 +24,15 @@ use Rattle.rows.specs.Flat.{Flat, flat, rowCount, Changed}
 use Rattle.settle.specs.Leaves.{leafTokens, settledTokens, Settleable, HoldsLeaves}
 
 -- one entry's turn
-abbrev turn : Bool → Entry singles → List Row → List Row
+abbrev turn : {M : Meter} → Bool → Entry M → List Row → List Row
 turn uses e rows = cond (isLeaf (e .node)) (take (e .span .first) rows ++ fresh uses (within (e .span) rows) ++ drop (e .span .end) rows) rows
 
-settled-then : (uses : Bool) (s t : List (Entry singles)) (rows : List Row) → settled uses (s ++ t) rows ≡ settled uses t (settled uses s rows)
+settled-then : {M : Meter} (uses : Bool) (s t : List (Entry M)) (rows : List Row) → settled uses (s ++ t) rows ≡ settled uses t (settled uses s rows)
 unfolding settled
 settled-then uses [] t rows = refl
 settled-then uses (e ∷ es) t rows = settled-then uses es t (turn uses e rows)
 
-settled-one : (uses : Bool) (e : Entry singles) (rows : List Row) → settled uses (e ∷ []) rows ≡ turn uses e rows
+settled-one : {M : Meter} (uses : Bool) (e : Entry M) (rows : List Row) → settled uses (e ∷ []) rows ≡ turn uses e rows
 unfolding settled
 settled-one uses e rows = refl
 
@@ -46,9 +46,9 @@ pub settled-more : (words spans : List ℕ) (uses : Bool) (res : List ℤ) (n : 
 unfolding settledTokens
 settled-more words spans uses res n tok = rw (add-one n)
 
-module _ {words spans : List ℕ} {count : ℕ} {uses : Bool} {x : Flat} {tree : List (Entry singles)} {lent : NodeLists}
+module _ {M : Meter} {words spans : List ℕ} {count : ℕ} {uses : Bool} {x : Flat} {tree : List (Entry M)} {lent : NodeListsOf M}
     (h : HoldsLeaves words spans count uses x tree lent) where
-  abbrev entry : ℕ → Entry singles
+  abbrev entry : ℕ → Entry M
   entry i = getD tree i noEntry
 
   -- ---- what the lists show
@@ -110,15 +110,14 @@ module _ {words spans : List ℕ} {count : ℕ} {uses : Bool} {x : Flat} {tree :
         step n a (settledTokens words spans uses res n tok) ∙ ap (turn uses (entry n)) (steps n (omega arith) tok)
         ∙ sym (settled-one uses (entry n) (settled uses (take n tree) (rowsHeld props tok res)))
         ∙ sym (settled-then uses (take n tree) (entry n ∷ []) (rowsHeld props tok res))
-        ∙ ap (λ (t : List (Entry singles)). settled uses t (rowsHeld props tok res)) (sym (take-suc tree n noEntry (omega (arith, h .many))))
+        ∙ ap (λ (t : List (Entry M)). settled uses t (rowsHeld props tok res)) (sym (take-suc tree n noEntry (omega (arith, h .many))))
 
-pub settles : {words spans : List ℕ} {count : ℕ} {uses : Bool} {props : List ℤ} {tok tok' : List ℕ} {res : List ℤ} {tree : List
-    (Entry singles)} {lent : NodeLists}
+pub settles : {M : Meter} {words spans : List ℕ} {count : ℕ} {uses : Bool} {props : List ℤ} {tok tok' : List ℕ} {res : List ℤ} {tree : List (Entry M)} {lent : NodeListsOf M}
     → HoldsLeaves words spans count uses (flat props tok res) tree lent → tok' ≡ settledTokens words spans uses res count tok → length tok' ≡ length tok
     → Changed (settled uses tree) (flat props tok res) (flat props tok' res)
-settles {words} {spans} {count} {uses} {props} {tok} {tok'} {res} {tree} {lent} h e long = record {
+settles {M} {words} {spans} {count} {uses} {props} {tok} {tok'} {res} {tree} {lent} h e long = record {
   rows =
       ap (λ (t : List ℕ). rowsHeld props t res) e ∙ steps h props res refl refl count (omega arith) tok
-      ∙ ap (λ (t : List (Entry singles)). settled uses t (rowsHeld props tok res)) (ap (λ (n : ℕ). take n tree) (h .many) ∙ take-length tree);
+      ∙ ap (λ (t : List (Entry M)). settled uses t (rowsHeld props tok res)) (ap (λ (n : ℕ). take n tree) (h .many) ∙ take-length tree);
   size = record { props = refl; toks = long; res = refl };
 }

@@ -1,5 +1,5 @@
 -- The mode step on each leaf's span, on the flat lists (document 01, "Pruning": settling repeats the mode step on each leaf's span). Assumes nothing.
-use Prim.Native.Nat.{ℕ, zero, suc, _+_, _*_, _≤_, _<_}
+use Prim.Native.Nat.{ℕ, zero, suc, _+_, _≤_, _<_}
 use mathlib.Core.Path.{_≡_}
 use mathlib.Core.Bool.{Bool, true, false, cond}
 use mathlib.Core.List.{List}
@@ -7,11 +7,11 @@ use lib.ListN.{length, getD}
 use lib.IntN.{ℤ}
 use lib.Dec.{T, eqb}
 use Rattle.model.specs.Settings.{maxRows}
-use Rattle.model.specs.Single.{singles}
+use Rattle.model.specs.Meter.{Meter}
 use Rattle.model.specs.Tree.{isLeaf}
 use Rattle.model.specs.Grow.{Entry, noEntry}
 use Rattle.layout.specs.Layout.{kindAt, HasWords}
-use Rattle.layout.specs.Tree.{NodeLists, holding, HasRoom, firstAt, endAt, HasSpans}
+use Rattle.layout.specs.Tree.{NodeListsOf, holding, HasRoom, firstAt, endAt, HasSpans}
 use Rattle.mode.specs.Column.{stepTokens}
 use Rattle.mode.specs.Lent.{Rebasable}
 use Rattle.rows.specs.Flat.{Flat, rowCount, Shaped}
@@ -38,7 +38,7 @@ pub record Settleable (words spans : List ℕ) (count : ℕ) (uses : Bool) (tok 
   pub rows : uses ≡ true → (i : ℕ) → i < count → eqb (kindAt words i) 1 ≡ false → Rebasable tok res (firstAt spans i) (endAt spans i) counts
 
 -- words and spans hold the tree, over those lent, and the leaves' spans lie in the rows
-pub record HoldsLeaves (words spans : List ℕ) (count : ℕ) (uses : Bool) (x : Flat) (tree : List (Entry singles)) (lent : NodeLists) : Type 0 where
+pub record HoldsLeaves {M : Meter} (words spans : List ℕ) (count : ℕ) (uses : Bool) (x : Flat) (tree : List (Entry M)) (lent : NodeListsOf M) : Type 0 where
   pub words-are : words ≡ holding tree lent .words
   pub spans-are : spans ≡ holding tree lent .spans
   pub room : HasRoom (length tree) lent
