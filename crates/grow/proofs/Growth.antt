@@ -10,8 +10,9 @@ use lib.ListN.{length}
 use lib.Dec.{ltb, ltb→lt, lt→ltb}
 use lib.Ieee.{Float}
 use Rattle.model.specs.Rows.{Row}
+use Rattle.model.specs.Meter.{Meter}
 use Rattle.model.specs.Single.{singles}
-use Rattle.model.specs.Job.{Job}
+use Rattle.model.specs.Job.{Offer, Job}
 use Rattle.model.specs.Profile.{jobOf, single}
 use Rattle.model.specs.Grow.{State, stepTo, step, steps}
 use Rattle.model.proofs.Paths.{T→true}
@@ -45,25 +46,25 @@ either-none m n h = elim (decLt 0 m) [ no l ↦ inl (omega arith) | yes l ↦ el
     never l k = let z : _≡_ {A = Bool} true false = sym (rw (T→true (ltb 0 m) (lt→ltb 0 m l), T→true (ltb 0 n) (lt→ltb 0 n k))) ∙ h in true≢false z
 
 -- ---- the model's steps, the first of them taken first
-steps-front : (j : Job singles) (n : ℕ) (st : State singles) → steps j (suc n) st ≡ steps j n (step j st)
+steps-front : {M : Meter} (j : Job M) (n : ℕ) (st : State M) → steps j (suc n) st ≡ steps j n (step j st)
 unfolding steps
 steps-front j zero st = refl
 steps-front j (suc n) st = ap (step j) (steps-front j n st)
 
-steps-zero : (j : Job singles) (st : State singles) → steps j 0 st ≡ st
+steps-zero : {M : Meter} (j : Job M) (st : State M) → steps j 0 st ≡ st
 unfolding steps
 steps-zero j st = refl
 
 -- where no leaf waits
-module _ (s : Settings) (logs : List Float) (x : Flat) (st : State singles) (none-wait : length (queueOf (st .tree)) ≡ 0) where
-  no-step : step (jobIn s logs x) st ≡ st
+module _ {M : Meter} (j : Job M) (order : (o p : Offer M) → j .ahead o p ≡ M .less (p .gain) (o .gain)) (st : State M) (none-wait : length (queueOf (st .tree)) ≡ 0) where
+  no-step : step j st ≡ st
   unfolding step stepTo
-  no-step = ap (stepTo (jobIn s logs x) st) (choice-is (jobIn s logs x) (λ o p. refl) (st .tree) ∙ choice-none (queueOf (st .tree)) none-wait)
+  no-step = ap (stepTo j st) (choice-is j order (st .tree) ∙ choice-none (queueOf (st .tree)) none-wait)
 
-  no-steps : (n : ℕ) → steps (jobIn s logs x) n st ≡ st
+  no-steps : (n : ℕ) → steps j n st ≡ st
   unfolding steps
   no-steps zero = refl
-  no-steps (suc n) = ap (step (jobIn s logs x)) (no-steps n) ∙ no-step
+  no-steps (suc n) = ap (step j) (no-steps n) ∙ no-step
 
 -- ---- the invariant
 -- the state that the lists hold, from which `left` steps lead where `more` steps from st lead
@@ -162,5 +163,5 @@ module _ {s : Settings} {logs : List Float} {counts₀ counts : List ℕ} {x₀ 
       last : (now : State singles) → Grows s logs counts x lists q tree left lent now seeds given → steps (jobIn s logs x₀) left now ≡ now
       last now held = elim (either-none left (tree .waiting) test) [
         | inl none-left ↦ ap (λ (m : ℕ). steps (jobIn s logs x₀) m now) none-left ∙ steps-zero (jobIn s logs x₀) now
-        | inr (some-left, none-wait) ↦ no-steps s logs x₀ now (sym (held .queued some-left .many) ∙ none-wait) left
+        | inr (some-left, none-wait) ↦ no-steps (jobIn s logs x₀) (λ o p. refl) now (sym (held .queued some-left .many) ∙ none-wait) left
       ]

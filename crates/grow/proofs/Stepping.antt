@@ -14,6 +14,7 @@ use Rattle.ieee.specs.Within.{Within}
 use Rattle.model.specs.Settings.{maxDepth}
 use Rattle.model.specs.Rows.{Row, Span}
 use Rattle.model.specs.Mode.{spanMode}
+use Rattle.model.specs.Meter.{Meter}
 use Rattle.model.specs.Single.{singles}
 use Rattle.model.specs.Tree.{Info, leaf}
 use Rattle.model.specs.Evaluate.{infoOf, offered}
@@ -46,7 +47,7 @@ use Rattle.state.proofs.Numbers.{growth-number, evaluated-within, evaluated-num
 use Rattle.grow.proofs.Choosing as choosing
 
 -- a leaf that the code made holds the cells of the model's
-pub leaf-cells : (first end : ℕ) (l : Entry singles) (i : Info singles) → l .node ≡ leaf → i ≡ l .info → first ≡ l .span .first → end ≡ l .span .end
+pub leaf-cells : {M : Meter} (first end : ℕ) (l : Entry M) (i : Info M) → l .node ≡ leaf → i ≡ l .info → first ≡ l .span .first → end ≡ l .span .end
     → SameCells (record { node = leaf; info = i; span = record { first = first; end = end }; depth = 0; offer = none }) l
 leaf-cells first end l i n e a b = record { words = rw (n, e); values = rw (n, e); costs = rw e; spans = rw (a, b) }
 

@@ -17,6 +17,7 @@ use Rattle.model.specs.Settings.{maxDepth}
 use Rattle.model.specs.Rows.{Row}
 use Rattle.model.specs.Cost.{logOf, bestPredictor}
 use Rattle.model.specs.Evaluate.{infoOf, offered, isScored, offerOf, bestSplit}
+use Rattle.model.specs.Meter.{Meter}
 use Rattle.model.specs.Single.{singles}
 use Rattle.model.specs.Profile.{single, jobOf, isBetween}
 use Rattle.model.specs.Job.{Offer}
@@ -112,13 +113,13 @@ module _ {s : Settings} {logs : List Float} {counts : List ℕ} {x : Flat} (f : 
   job-fits uses = single-lawful .fits (settingsOf s) logs uses (rowCount x) (f .settings .price) (f .settings .alphabet .1) (f .few) (f .logs-reach .long) logs-fit
 
 -- ---- what is offered
-pub offered-shallow : (t : model.Settings singles) (logs : List Float) (depth : ℕ) (cost : Float) (rows : List Row) (o : Offer singles)
+pub offered-shallow : {M : Meter} (t : model.Settings M) (logs : List (M .Cost)) (depth : ℕ) (cost : M .Cost) (rows : List Row) (o : Offer M)
     → offered t logs depth cost rows ≡ some o → depth < maxDepth
 unfolding offered isScored
-offered-shallow t logs depth cost rows o e =
-    go (leb (t .smallest) (length rows)) (ltb depth maxDepth) (singles .less (t .splitCost) cost) refl (offerOf t cost (bestSplit t logs rows)) e
+offered-shallow {M} t logs depth cost rows o e =
+    go (leb (t .smallest) (length rows)) (ltb depth maxDepth) (M .less (t .splitCost) cost) refl (offerOf t cost (bestSplit t logs rows)) e
   where
-    go : (a b c : Bool) → ltb depth maxDepth ≡ b → (best : Option (Offer singles)) → cond (a && (b && c)) best none ≡ some o → depth < maxDepth
+    go : (a b c : Bool) → ltb depth maxDepth ≡ b → (best : Option (Offer M)) → cond (a && (b && c)) best none ≡ some o → depth < maxDepth
     go true true c q best e = ltb→lt depth maxDepth (rw q tt)
     go true false c q best e = let z : _≡_ {A = ℕ} 0 1 = cc in absurd (omega arith)
     go false b c q best e = let z : _≡_ {A = ℕ} 0 1 = cc in absurd (omega arith)
