@@ -7,6 +7,7 @@ use native.Mathlib.Omega.{arith}
 use lib.ListN.{length, getD, replicate, length-map, getD-replicate}
 use lib.Ieee.{Float}
 use Rattle.ieee.specs.Within.{within-not-nan}
+use Rattle.model.specs.Meter.{Meter}
 use Rattle.model.specs.Settings.{maxNodes}
 use Rattle.model.specs.Single.{singles}
 use Rattle.model.specs.Rows.{Row}
@@ -31,7 +32,7 @@ use Rattle.model.proofs.Tally.{tree-count}
 use Rattle.checks.specs.Given.{settingsOf}
 use Rattle.checks.specs.declared.Settings.{Settings}
 use Rattle.layout.specs.declared.Tree.{Tree}
-use Rattle.layout.specs.Tree.{laid, NodeLists, holding}
+use Rattle.layout.specs.Tree.{laid, NodeListsOf, NodeLists, holding}
 use Rattle.lent.specs.Lists.{recordWords, recordValues, recordCosts, spanRows, nodesAfter, clearQueue}
 use Rattle.mode.specs.Lent.{Clear}
 use Rattle.prune.specs.Held.{HoldsTree, Prunable, PrunedAs}
@@ -40,7 +41,7 @@ use Rattle.settle.specs.Leaves.{HoldsLeaves}
 use Rattle.rows.specs.Flat.{Flat, heldIn, rowCount, SameSize, Changed}
 use Rattle.rows.proofs.Cells.{length-held}
 use Rattle.rows.proofs.Shapes.{size-same, size-then, count-still}
-use Rattle.layout.specs.Waiting.{QueueLists, SameQueue}
+use Rattle.layout.specs.Waiting.{QueueListsOf, QueueLists, SameQueue}
 use Rattle.layout.proofs.Held.{room-fewer}
 use Rattle.state.specs.Fitting.{usesOf, Fitting}
 use Rattle.state.specs.Grows.{jobIn, Number, Grows}
@@ -71,11 +72,75 @@ laid-map : {D E A : Type 0} (part : E → List A) (f : D → E) (l : List D) →
 laid-map part f [] = refl
 laid-map part f (d ∷ l) = ap (λ (r : List _). part (f d) ++ r) (laid-map part f l)
 
-after-holding : (f : State singles) (written : ℕ) (flatly : Float) (lent : NodeLists) → nodesAfter (resultOf f written flatly) lent ≡ holding (withVacated written (f .tree)) lent
+after-holding : {M : Meter} (f : State M) (written : ℕ) (flatly : M .Total) (lent : NodeListsOf M) → nodesAfter (resultOf f written flatly) lent ≡ holding (withVacated written (f .tree)) lent
 unfolding nodesAfter resultOf holding
-after-holding f written flatly lent =
+after-holding {M} f written flatly lent =
     let es = withVacated written (f .tree) in
-    rw (laid-map recordWords recordOf es, laid-map recordValues recordOf es, laid-map recordCosts recordOf es, laid-map spanRows (λ (e : Entry singles). e .span) es)
+    rw (laid-map recordWords recordOf es, laid-map recordValues recordOf es, laid-map recordCosts recordOf es, laid-map spanRows (λ (e : Entry M). e .span) es)
+
+-- ---- a state pruned and settled, field by field
+
+module _ {M : Meter} (j : Job M) (st : State M) where
+  -- what pruning makes of it
+  abbrev cut : State M
+  cut = record { rows = st .rows; tree = prunedTree (j .price) (st .tree); bits = prunedBits (j .price) (st .tree) }
+
+  pruned-tree : pruned j st .tree ≡ cutTree (j .price) (st .tree)
+  unfolding pruned
+  pruned-tree = go (prunes j) where
+    go : (b : Bool) → cond b cut st .tree ≡ cond b (cut .tree) (st .tree)
+    go true = refl
+    go false = refl
+
+  pruned-rows : pruned j st .rows ≡ st .rows
+  unfolding pruned
+  pruned-rows = go (prunes j) where
+    go : (b : Bool) → cond b cut st .rows ≡ st .rows
+    go true = refl
+    go false = refl
+
+  pruned-bits : pruned j st .bits ≡ cutBits (j .price) (st .tree) (st .bits)
+  unfolding pruned
+  pruned-bits = go (prunes j) where
+    go : (b : Bool) → cond b cut st .bits ≡ cond b (cut .bits) (st .bits)
+    go true = refl
+    go false = refl
+
+  -- and settling
+  abbrev done : State M
+  done = record { rows = settled (j .uses) (st .tree) (st .rows); tree = st .tree; bits = st .bits }
+
+  settled-tree : settledState j st .tree ≡ st .tree
+  unfolding settledState
+  settled-tree = go (j .settling) where
+    go : (b : Bool) → cond b done st .tree ≡ st .tree
+    go true = refl
+    go false = refl
+
+  settled-bits : settledState j st .bits ≡ st .bits
+  unfolding settledState
+  settled-bits = go (j .settling) where
+    go : (b : Bool) → cond b done st .bits ≡ st .bits
+    go true = refl
+    go false = refl
+
+  settled-rows : settledState j st .rows ≡ cond (j .settling) (settled (j .uses) (st .tree) (st .rows)) (st .rows)
+  unfolding settledState
+  settled-rows = go (j .settling) where
+    go : (b : Bool) → cond b done st .rows ≡ cond b (done .rows) (st .rows)
+    go true = refl
+    go false = refl
+
+-- a split has two children: one leaf more than splits
+leaves-are : {M : Meter} (es : List (Entry M)) → Rooted (nodesOf (map recordOf es)) → 0 < length es → length es + 1 ≡ 2 * leafCount (treeNodes es)
+leaves-are {M} es rooted some =
+    let long = length-map es (λ (e : Entry M). e .node) in
+    let c = tree-count (treeNodes es) (subst Rooted (nodes-are es) rooted) (omega arith) in
+    omega arith
+  where
+    nodes-are : (es : List (Entry M)) → nodesOf (map recordOf es) ≡ treeNodes es
+    nodes-are [] = refl
+    nodes-are (e ∷ es) = ap (λ (l : List Node). e .node ∷ l) (nodes-are es)
 
 -- ---- lists that hold a grown state
 
@@ -124,27 +189,6 @@ module _ {s : Settings} {logs : List Float} {counts : List ℕ} {x : Flat} {n : 
   cut-done : Done (usesOf s x) given (length tree) (pruned j st)
   cut-done = pruned-done (single-lawful .bounds) j seeds given st (g .inv) (g .healthy) (g .few) (job-fits fitting (usesOf s x) .price-small)
 
-  pruned-tree : pruned j st .tree ≡ new
-  unfolding pruned
-  pruned-tree = go (prunes j) where
-    go : (b : Bool) → cond b (record { rows = st .rows; tree = prunedTree {M = singles} price tree; bits = prunedBits {M = singles} price tree }) st .tree ≡ cond b (prunedTree {M = singles} price tree) tree
-    go true = refl
-    go false = refl
-
-  pruned-rows : pruned j st .rows ≡ st .rows
-  unfolding pruned
-  pruned-rows = go (prunes j) where
-    go : (b : Bool) → cond b (record { rows = st .rows; tree = prunedTree {M = singles} price tree; bits = prunedBits {M = singles} price tree }) st .rows ≡ st .rows
-    go true = refl
-    go false = refl
-
-  pruned-bits : pruned j st .bits ≡ cutBits price tree (st .bits)
-  unfolding pruned
-  pruned-bits = go (prunes j) where
-    go : (b : Bool) → cond b (record { rows = st .rows; tree = prunedTree {M = singles} price tree; bits = prunedBits {M = singles} price tree }) st .bits ≡ cond b (prunedBits {M = singles} price tree) (st .bits)
-    go true = refl
-    go false = refl
-
   -- ---- settling: the leaves of what is left
 
   held-count : length (st .rows) ≡ rowCount x
@@ -169,55 +213,35 @@ module _ {s : Settings} {logs : List Float} {counts : List ℕ} {x : Flat} {n : 
           shaped = fitting .shaped;
           few = fitting .few;
           given = λ e. residuals-given (s .«modal_offsets») (x .res) e;
-          inside = λ i h lf. let b = subst (λ (es : List (Entry singles)). (a : ℕ) → a < length es → (getD es a noEntry .span .first ≤ getD es a noEntry .span .end) × (getD es a noEntry .span .end ≤ length (pruned j st .rows))) pruned-tree (cut-done .placed .bounds) i h in
-              (b .0, omega (arith, b .1, ap length pruned-rows, held-count));
+          inside = λ i h lf. let b = subst (λ (es : List (Entry singles)). (a : ℕ) → a < length es → (getD es a noEntry .span .first ≤ getD es a noEntry .span .end) × (getD es a noEntry .span .end ≤ length (pruned j st .rows))) (pruned-tree j st) (cut-done .placed .bounds) i h in
+              (b .0, omega (arith, b .1, ap length (pruned-rows j st), held-count));
         }
 
     few-kept : kept .nodes ≤ maxNodes
-    few-kept = omega (arith, k .nodes, ap length pruned-tree, cut-done .shorter, g .few)
+    few-kept = omega (arith, k .nodes, ap length (pruned-tree j st), cut-done .shorter, g .few)
 
     -- ---- the result
     done-tree : settledState j (pruned j st) .tree ≡ new
-    unfolding settledState
-    done-tree = go (j .settling) ∙ pruned-tree where
-      go : (b : Bool) → cond b (record { rows = settled (j .uses) (pruned j st .tree) (pruned j st .rows); tree = pruned j st .tree; bits = pruned j st .bits }) (pruned j st) .tree ≡ pruned j st .tree
-      go true = refl
-      go false = refl
+    done-tree = settled-tree j (pruned j st) ∙ pruned-tree j st
 
     done-bits : settledState j (pruned j st) .bits ≡ cutBits price tree (st .bits)
-    unfolding settledState
-    done-bits = go (j .settling) ∙ pruned-bits where
-      go : (b : Bool) → cond b (record { rows = settled (j .uses) (pruned j st .tree) (pruned j st .rows); tree = pruned j st .tree; bits = pruned j st .bits }) (pruned j st) .bits ≡ pruned j st .bits
-      go true = refl
-      go false = refl
+    done-bits = settled-bits j (pruned j st) ∙ pruned-bits j st
 
     done-rows : settledState j (pruned j st) .rows ≡ cond (s .settle) (settled (usesOf s x) new (heldIn x)) (heldIn x)
-    unfolding settledState
-    done-rows = go (s .settle) ∙ ap (λ (l : List Row). cond (s .settle) (settled (usesOf s x) new l) l) (pruned-rows ∙ sym (g .grown .rows)) where
-      go : (b : Bool) → cond b (record { rows = settled (j .uses) (pruned j st .tree) (pruned j st .rows); tree = pruned j st .tree; bits = pruned j st .bits }) (pruned j st) .rows
-          ≡ cond b (settled (usesOf s x) new (pruned j st .rows)) (pruned j st .rows)
-      go true = ap (λ (es : List (Entry singles)). settled (j .uses) es (pruned j st .rows)) pruned-tree
-      go false = refl
+    done-rows =
+        settled-rows j (pruned j st) ∙ ap (λ (es : List (Entry singles)). cond (s .settle) (settled (usesOf s x) es (pruned j st .rows)) (pruned j st .rows)) (pruned-tree j st)
+        ∙ ap (λ (l : List Row). cond (s .settle) (settled (usesOf s x) new l) l) (pruned-rows j st ∙ sym (g .grown .rows))
 
-    -- a split has two children: one leaf more than splits
-    leaves-are : length new + 1 ≡ 2 * leafCount (treeNodes new)
-    leaves-are = subst (λ (es : List (Entry singles)). length es + 1 ≡ 2 * leafCount (treeNodes es)) pruned-tree (go (pruned j st .tree) (cut-done .sound .rooted) (cut-done .rooted)) where
-      nodes-are : (es : List (Entry singles)) → nodesOf (map recordOf es) ≡ treeNodes es
-      nodes-are [] = refl
-      nodes-are (e ∷ es) = ap (λ (l : List Node). e .node ∷ l) (nodes-are es)
-
-      go : (es : List (Entry singles)) → Rooted (nodesOf (map recordOf es)) → 0 < length es → length es + 1 ≡ 2 * leafCount (treeNodes es)
-      go es rooted some =
-          let long = length-map es (λ (e : Entry singles). e .node) in
-          let c = tree-count (treeNodes es) (subst Rooted (nodes-are es) rooted) (omega arith) in
-          omega arith
+    new-leaves : length new + 1 ≡ 2 * leafCount (treeNodes new)
+    new-leaves =
+        subst (λ (es : List (Entry singles)). length es + 1 ≡ 2 * leafCount (treeNodes es)) (pruned-tree j st) (leaves-are (pruned j st .tree) (cut-done .sound .rooted) (cut-done .rooted))
 
     pub finished-lists : {y : Flat} {f : Tree} (flatly : Float) → Changed (λ (rows : List Row). cond (s .settle) (settled (usesOf s x) new rows) rows) x y
         → f .nodes ≡ kept .nodes → f .waiting ≡ 0 → f .bits ≡ kept .bits → FinishedTo x y m f lent (finished j st flatly)
     unfolding finished resultOf
     finished-lists {f = f} flatly changed nodes none-wait bits =
         let count = k .nodes in
-        let two = leaves-are in
+        let two = new-leaves in
         let many : leafCount (treeNodes (settledState j (pruned j st) .tree)) ≡ leafCount (treeNodes new) = ap (λ (es : List (Entry singles)). leafCount (treeNodes es)) done-tree in
         let half : (f .nodes + 1) / 2 ≡ leafCount (treeNodes new) = omega arith in
         record {
@@ -272,6 +296,6 @@ module _ {s : Settings} {logs : List Float} {counts : List ℕ} {x : Flat} {n : 
     finished-so {z} {l} {f} flatly e =
         finished-from (to .size) (subst (λ (u : Bool). FinishedTo y z l f lent (finished (jobOf single (settingsOf s) logs u) grownState flatly)) (sym (uses-still s (to .size))) e)
 
-pub clear-same : {q p : QueueLists} → SameQueue q p → clearQueue p ≡ clearQueue q
+pub clear-same : {M : Meter} {q p : QueueListsOf M} → SameQueue q p → clearQueue p ≡ clearQueue q
 unfolding clearQueue
 clear-same s = rw (s .words, s .values, s .gains)

@@ -6,6 +6,7 @@ use mathlib.Core.List.{List, _++_}
 use lib.ListN.{length, replicate}
 use lib.IntN.{ℤ}
 use lib.Ieee.{Float}
+use Rattle.model.specs.Meter.{Meter}
 use Rattle.model.specs.Settings.{maxNodes}
 use Rattle.model.specs.Single.{singles}
 use Rattle.model.specs.Rows.{Row}
@@ -26,14 +27,14 @@ use Rattle.state.specs.Grows.{Number}
 use Rattle.grow.specs.Grown.{GrownTo}
 
 -- pruned, if the price is above 0: the tree and its bits
-abbrev pub cutTree : Float → List (Entry singles) → List (Entry singles)
-cutTree price tree = cond (singles .less (singles .nought) price) (prunedTree {M = singles} price tree) tree
+abbrev pub cutTree : {M : Meter} → M .Cost → List (Entry M) → List (Entry M)
+cutTree {M} price tree = cond (M .less (M .nought) price) (prunedTree {M = M} price tree) tree
 
-abbrev pub cutBits : Float → List (Entry singles) → Float → Float
-cutBits price tree bits = cond (singles .less (singles .nought) price) (prunedBits {M = singles} price tree) bits
+abbrev pub cutBits : {M : Meter} → M .Cost → List (Entry M) → M .Total → M .Total
+cutBits {M} price tree bits = cond (M .less (M .nought) price) (prunedBits {M = M} price tree) bits
 
 -- the tree, then the entries that it vacated
-abbrev pub withVacated : ℕ → List (Entry singles) → List (Entry singles)
+abbrev pub withVacated : {M : Meter} → ℕ → List (Entry M) → List (Entry M)
 withVacated written tree = tree ++ replicate (written - length tree) noEntry
 
 pub record Cut (price : Float) (tree : List (Entry singles)) (bits : Float) (lent y : NodeLists) (r : Tree) : Type 0 where

@@ -10,6 +10,7 @@ use lib.Dec.{ltb}
 use lib.ListN.{length, getD, drop-of-length-le}
 use lib.Seq.{take-all}
 use lib.Ieee.{Float}
+use Rattle.model.specs.Meter.{Meter}
 use Rattle.model.specs.Single.{singles}
 use Rattle.model.specs.Rows.{Row, within}
 use Rattle.model.specs.Mode.{spanMode, fresh}
@@ -29,7 +30,7 @@ use Rattle.checks.specs.declared.Settings.{Settings}
 use Rattle.layout.specs.declared.Leaf.{Leaf}
 use Rattle.layout.specs.Values.{infoIs, offerIs}
 use Rattle.layout.specs.Tree.{NodeLists, holding, HasRoom, put, leafWith}
-use Rattle.layout.specs.Waiting.{QueueLists, Queued, SameQueue, waits, waitingFrom}
+use Rattle.layout.specs.Waiting.{QueueListsOf, QueueLists, Queued, SameQueue, waits, waitingFrom}
 use Rattle.layout.proofs.Held.{put-more, holding-none, holding-same, same-cells, room-fewer}
 use Rattle.layout.proofs.Queue.{fewer-room, same-room, few-waits}
 use Rattle.rows.specs.Cells.{span}
@@ -45,7 +46,7 @@ use Rattle.model.proofs.Invariant.{Invariant}
 use Rattle.leaf.proofs.Making.{uses-still, made-fitting}
 
 -- nothing waits yet
-pub none-queued : (q : QueueLists) → Queued 0 q []
+pub none-queued : {M : Meter} (q : QueueListsOf M) → Queued 0 q []
 none-queued q = record { many = refl; words = refl; values = refl; gains = refl }
 
 module _ {s : Settings} {logs : List Float} {counts : List ℕ} {x : Flat} {n : NodeLists} {q : QueueLists} {rows : ℕ} (p : Plantable s logs counts x n q rows) where
