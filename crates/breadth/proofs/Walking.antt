@@ -73,7 +73,7 @@ module _ (words : List ℕ) (count : ℕ) (is : SoundTree words count) where
     rooted = model.sound (treeIn count (storedIn words values costs)) (is .faultless values costs held) .rooted
 
     long : length (nodesWith values costs) ≡ count
-    long = nodes-length words values costs count held
+    long = nodes-length singles words values costs count held
 
     some : 0 < length (nodesWith values costs)
     some = rw long (tree.few words count is .0)
@@ -108,7 +108,7 @@ module _ (words : List ℕ) (count : ℕ) (is : SoundTree words count) where
           (Memᴰ·append-right (take head order) (List·Memᴰ·head refl)))
 
       after : Breadth (nodesWith values costs) (take (head + 1) order) (slice (head + 1) end order ++ childrenOf (nodeAt words values i))
-      after = rw (one-more, ← node-at words values costs count held i low)
+      after = rw (one-more, ← node-at singles words values costs count held i low)
           (visit (nodesWith values costs) (rooted values costs held) (some values costs held) (take head order) i (slice (head + 1) end order) next)
 
     below-count : i < count

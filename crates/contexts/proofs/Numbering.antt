@@ -45,7 +45,7 @@ module _ (words : List ℕ) (count : ℕ) (is : SoundTree words count) (order : 
     rooted = model.sound (treeIn count (storedIn words values costs)) (is .faultless values costs held) .rooted
 
     many : length (nodesWith values costs) ≡ count
-    many = nodes-length words values costs count held
+    many = nodes-length singles words values costs count held
 
     some : 0 < length (nodesWith values costs)
     some = rw many (few words count is .0)
@@ -87,7 +87,7 @@ module _ (words : List ℕ) (count : ℕ) (is : SoundTree words count) (order : 
     -- what is left, for node i as the words have it
     module _ (values : List ℤ) (costs : List Float) (held : count ≤ nodesHeld words values) where
       node : getD (nodesWith values costs) i leaf ≡ nodeAt words values i
-      node = node-at words values costs count held i low
+      node = node-at singles words values costs count held i low
 
       leaves-left : next + (cond (isLeaf (nodeAt words values i)) 1 0 + countIf (leafAt (nodesWith values costs)) (drop (k + 1) order)) ≡ leafCount (nodesWith values costs)
       leaves-left = rw (left, node) at (n .leaves values costs held)

@@ -10,6 +10,7 @@ use lib.Ieee.{Float}
 use lib.Dec.{ltb}
 use borrow.Author.Tests.{lt-ltb, le-ltb}
 use Rattle.model.specs.Lists.{writtenOver}
+use Rattle.model.specs.Single.{singles}
 use Rattle.model.specs.Tree.{nodesOf, faultOf}
 use Rattle.model.specs.Lent.{treeIn}
 use Rattle.model.specs.Learn.{leafCount}
@@ -27,19 +28,19 @@ module _ (words : List ℕ) (values : List ℤ) (costs : List Float) (count : �
   -- 8: the count exceeds the list
   pub beyond : nodesHeld words values < count → given ≡ record { outcome = refused (record { number = 8; place = 0 }); lent = x }
   unfolding leafContexts contextsRefusal
-  beyond h = rw (stored-length words values costs, lt-ltb (nodesHeld words values) count h)
+  beyond h = rw (stored-length singles words values costs, lt-ltb (nodesHeld words values) count h)
 
   module _ (held : count ≤ nodesHeld words values) where
     -- 8: a fault
     pub faulty : (i : ℕ) → faultOf (treeIn count (storedIn words values costs)) ≡ some i → given ≡ record { outcome = refused (record { number = 8; place = i }); lent = x }
     unfolding leafContexts contextsRefusal
-    faulty i e = rw (stored-length words values costs, le-ltb (nodesHeld words values) count held, e)
+    faulty i e = rw (stored-length singles words values costs, le-ltb (nodesHeld words values) count held, e)
 
     module _ (sound : faultOf (treeIn count (storedIn words values costs)) ≡ none) where
       -- 7: context list or queue space shorter than the node count
       pub cramped : (ltb (length (x .contexts)) count || ltb (length (x .queue)) count) ≡ true → given ≡ record { outcome = refused (record { number = 7; place = 0 }); lent = x }
       unfolding leafContexts contextsRefusal
-      cramped e = rw (stored-length words values costs, le-ltb (nodesHeld words values) count held, sound, e)
+      cramped e = rw (stored-length singles words values costs, le-ltb (nodesHeld words values) count held, sound, e)
 
       granted : (ltb (length (x .contexts)) count || ltb (length (x .queue)) count) ≡ false
           → given ≡ record {
@@ -47,7 +48,7 @@ module _ (words : List ℕ) (values : List ℤ) (costs : List Float) (count : �
             lent = record { contexts = writtenOver (contextsOf (nodesOf (treeIn count (storedIn words values costs)))) (x .contexts); queue = replicate (length (x .queue)) 0 };
           }
       unfolding leafContexts contextsRefusal
-      granted e = rw (stored-length words values costs, le-ltb (nodesHeld words values) count held, sound, e)
+      granted e = rw (stored-length singles words values costs, le-ltb (nodesHeld words values) count held, sound, e)
 
       -- n leaves were counted, and their contexts written over the front of the list
       pub counted : (n : ℕ) (new queue : List ℕ) → (ltb (length (x .contexts)) count || ltb (length (x .queue)) count) ≡ false

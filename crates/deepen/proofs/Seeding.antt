@@ -8,15 +8,16 @@ use lib.Ieee.{Float}
 use Rattle.model.proofs.Lawful.{JobFits}
 use Rattle.model.proofs.SingleLawful.{single-lawful}
 use Rattle.checks.specs.declared.Settings.{Settings}
-use Rattle.layout.specs.Layout.{storedIn}
-use Rattle.layout.specs.Tree.{NodeLists, HasRoom}
+use Rattle.layout.specs.Layout.{storedInOf}
+use Rattle.layout.specs.Tree.{NodeListsOf, HasRoom}
 use Rattle.tree.proofs.Entries.{tree-each}
 use Rattle.plant.proofs.SeedLists.{seed-each}
+use Rattle.model.specs.Meter.{Meter}
 use Rattle.model.specs.Lent.{treeIn}
 use Rattle.model.proofs.Accepted.{SeedRooms}
 use Rattle.rows.proofs.Cells.{length-held}
 use Rattle.state.specs.Grows.{jobIn}
-use Rattle.lent.specs.Lists.{Lists, lentIn}
+use Rattle.lent.specs.Lists.{ListsOf, Lists, lentIn}
 use Rattle.lent.proofs.Read.{room-read}
 use Rattle.start.proofs.Accepting.{accepted-fitting, accepted-plantable}
 use Rattle.seed.specs.Ordered.{seedIn}
@@ -46,11 +47,11 @@ accepted-seedable {s} {logs} x {rows} {count} d counts cleared =
 -- ---- the test for soundness looks at the seed
 
 -- the seed's nodes are there
-pub nodes-there : (x : Lists) (count : ℕ) → SeedRooms count (lentIn x) → HasRoom count (x .nodes)
+pub nodes-there : {M : Meter} (x : ListsOf M) (count : ℕ) → SeedRooms count (lentIn x) → HasRoom count (x .nodes)
 nodes-there x count rooms = room-read x count (rooms .nodes) (rooms .spans)
 
-pub seed-same : (count : ℕ) (n : NodeLists) → HasRoom count n → treeIn count (storedIn (n .words) (n .values) (n .costs)) ≡ seedIn count n
-seed-same count n room =
+pub seed-same : {M : Meter} (count : ℕ) (n : NodeListsOf M) → HasRoom count n → treeIn count (storedInOf M (n .words) (n .values) (n .costs)) ≡ seedIn count n
+seed-same {M} count n room =
     let w = room .words in
     let v = room .values in
-    tree-each (n .words) (n .values) (n .costs) count (omega arith) ∙ sym (seed-each count n room)
+    tree-each M (n .words) (n .values) (n .costs) count (omega arith) ∙ sym (seed-each count n room)

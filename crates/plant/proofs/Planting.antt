@@ -13,6 +13,7 @@ use lib.IntN.{ℤ}
 use lib.Dec.{T, eqb}
 use lib.Ieee.{Float, binary32, binary64, add, fits, isNan}
 use lib.Ieee.Fits.{and-i, fits-widens, add-fits}
+use Rattle.model.specs.Meter.{Meter}
 use Rattle.model.specs.Single.{singles}
 use Rattle.model.specs.Rows.{Row, within}
 use Rattle.model.specs.Mode.{spanMode, fresh}
@@ -94,12 +95,12 @@ module _ (a b c : List Row) where
       ∙ rw (f, e, take-append-seam a (b ++ c), drop-append-add a (b ++ c) (length b), drop-append-seam b c)
 
 -- ---- the queue gains what the entry offers
-queue-more : (tree : List (Entry singles)) (e : Entry singles) → queueOf (tree ++ (e ∷ [])) ≡ queueOf tree ++ waits (length tree) (e .depth) (e .offer)
+queue-more : {M : Meter} (tree : List (Entry M)) (e : Entry M) → queueOf (tree ++ (e ∷ [])) ≡ queueOf tree ++ waits (length tree) (e .depth) (e .offer)
 unfolding waitingFrom
 queue-more tree e =
     waiting-append 0 tree (e ∷ []) ∙ rw (zero-add, append-nil (waits (length tree) (e .depth) (e .offer)))
 
-queue-still : (tree : List (Entry singles)) (e : Entry singles) → e .offer ≡ none → queueOf (tree ++ (e ∷ [])) ≡ queueOf tree
+queue-still : {M : Meter} (tree : List (Entry M)) (e : Entry M) → e .offer ≡ none → queueOf (tree ++ (e ∷ [])) ≡ queueOf tree
 queue-still tree e o = queue-more tree e ∙ rw o (append-nil (queueOf tree))
 
 no-row : {A : Type 0} (l : List A) → length l ≡ 0 → l ≡ []
@@ -111,7 +112,7 @@ either true b e f = absurd (let z : _≡_ {A = ℕ} 0 1 = cc in omega arith)
 either false b e f = e
 
 -- ---- the count of one node more
-counted-more : {k m : ℕ} (tree : List (Entry singles)) (e : Entry singles) → k ≡ length tree → m ≡ k + 1 → m ≡ length (tree ++ (e ∷ []))
+counted-more : {E : Type 0} {k m : ℕ} (tree : List E) (e : E) → k ≡ length tree → m ≡ k + 1 → m ≡ length (tree ++ (e ∷ []))
 counted-more tree e here more = more ∙ ap (λ (n : ℕ). n + 1) here ∙ sym (length-append tree (e ∷ []))
 
 -- ---- a split, or a leaf without rows: none of its leaves waits, and it costs nothing

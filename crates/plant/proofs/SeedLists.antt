@@ -8,17 +8,17 @@ use native.Mathlib.Nat.{add-zero}
 use native.Mathlib.Omega.{arith}
 use lib.ListN.{length, getD, length-map, List·getD-map}
 use lib.IntN.{ℤ, pos}
-use lib.Ieee.{Float, nan}
 use lib.Dec.{eqb, ltb}
 use Rattle.model.specs.Lists.{range, countIf}
+use Rattle.model.specs.Meter.{Meter}
 use Rattle.model.specs.Settings.{maxNodes}
 use Rattle.model.specs.Single.{singles}
 use Rattle.model.specs.Tree.{Node, split, leaf, Record, blankRecord, nodesOf, hasChild, isFine, faultFrom, faultOf}
 use Rattle.model.specs.Lent.{recordIn}
 use Rattle.model.proofs.Written.{getD-unwritten}
 use Rattle.model.proofs.Sound.{sound-count}
-use Rattle.layout.specs.Layout.{kindAt, propAt, gtAt, leAt, predAt, valAt, storedAt, nodesHeld, nodeAt}
-use Rattle.layout.specs.Tree.{NodeLists, HasRoom, holding, laid, entryWords, entryValues, entryCosts, entrySpans}
+use Rattle.layout.specs.Layout.{kindAt, propAt, gtAt, leAt, predAt, valAt, storedAtOf, nodesHeld, nodeAt}
+use Rattle.layout.specs.Tree.{NodeListsOf, HasRoom, holding, laid, entryWords, entryValues, entryCosts, entrySpans}
 use Rattle.layout.proofs.Held.{words-length, values-length, costs-length, spans-length}
 use Rattle.model.specs.Grow.{Entry}
 use Rattle.model.proofs.Places.{length-each, each-at}
@@ -29,9 +29,9 @@ use Rattle.tree.proofs.Lists.{take-each}
 use Rattle.tree.proofs.Entries.{tree-each}
 use Rattle.seed.specs.Ordered.{seedIn, nodesIn}
 
-module _ (count : ℕ) (n : NodeLists) (room : HasRoom count n) where
-  abbrev recordAt : ℕ → Record singles
-  recordAt i = recordIn (storedAt (n .words) (n .values) (n .costs) i)
+module _ {M : Meter} (count : ℕ) (n : NodeListsOf M) (room : HasRoom count n) where
+  abbrev recordAt : ℕ → Record M
+  recordAt i = recordIn (storedAtOf M (n .words) (n .values) (n .costs) i)
 
   few-held : count ≤ nodesHeld (n .words) (n .values)
   few-held = omega (arith, room .words, room .values)
@@ -40,32 +40,32 @@ module _ (count : ℕ) (n : NodeLists) (room : HasRoom count n) where
   unfolding storedNodes
   seed-each =
       let lent : count ≤ nodesLent (n .words) (n .values) (n .costs) = omega (arith, few-held, room .costs) in
-      ap (map recordIn) (take-each (storedAt (n .words) (n .values) (n .costs)) 0 count (nodesLent (n .words) (n .values) (n .costs)) lent)
-      ∙ map-map recordIn (storedAt (n .words) (n .values) (n .costs)) (range 0 count)
+      ap (map recordIn) (take-each (storedAtOf M (n .words) (n .values) (n .costs)) 0 count (nodesLent (n .words) (n .values) (n .costs)) lent)
+      ∙ map-map recordIn (storedAtOf M (n .words) (n .values) (n .costs)) (range 0 count)
 
   pub seed-length : length (seedIn count n) ≡ count
   seed-length = rw seed-each (length-each recordAt 0 count)
 
-  pub record-in : (i : ℕ) (d : Record singles) → i < count → getD (seedIn count n) i d ≡ recordAt i
+  pub record-in : (i : ℕ) (d : Record M) → i < count → getD (seedIn count n) i d ≡ recordAt i
   record-in i d h = rw seed-each (each-at recordAt count i d h)
 
   pub nodes-in : nodesOf (seedIn count n) ≡ nodesIn count (n .words) (n .values)
-  nodes-in = rw seed-each (map-map (λ (r : Record singles). r .node) recordAt (range 0 count))
+  nodes-in = rw seed-each (map-map (λ (r : Record M). r .node) recordAt (range 0 count))
 
   pub nodes-length : length (nodesOf (seedIn count n)) ≡ count
-  nodes-length = length-map (seedIn count n) (λ (r : Record singles). r .node) ∙ seed-length
+  nodes-length = length-map (seedIn count n) (λ (r : Record M). r .node) ∙ seed-length
 
   pub node-in : (i : ℕ) → i < count → getD (nodesOf (seedIn count n)) i leaf ≡ nodeAt (n .words) (n .values) i
-  node-in i h = List·getD-map (λ (r : Record singles). r .node) (seedIn count n) i blankRecord
-      ∙ ap (λ (r : Record singles). r .node) (record-in i blankRecord h)
+  node-in i h = List·getD-map (λ (r : Record M). r .node) (seedIn count n) i blankRecord
+      ∙ ap (λ (r : Record M). r .node) (record-in i blankRecord h)
 
 -- ---- a fault hangs on the words alone
-module _ (words : List ℕ) (values values' : List ℤ) (costs costs' : List Float) where
-  abbrev one : ℕ → Record singles
-  one i = recordIn (storedAt words values costs i)
+module _ (M N : Meter) (words : List ℕ) (values values' : List ℤ) (costs : List (M .Cost)) (costs' : List (N .Cost)) where
+  abbrev one : ℕ → Record M
+  one i = recordIn (storedAtOf M words values costs i)
 
-  abbrev other : ℕ → Record singles
-  other i = recordIn (storedAt words values' costs' i)
+  abbrev other : ℕ → Record N
+  other i = recordIn (storedAtOf N words values' costs' i)
 
   child-same : (k i : ℕ) → hasChild k (nodeAt words values i) ≡ hasChild k (nodeAt words values' i)
   child-same k i = go (eqb (kindAt words i) 1)
@@ -99,8 +99,8 @@ module _ (words : List ℕ) (values values' : List ℤ) (costs costs' : List Flo
   faults : (count : ℕ) → faultOf (map one (range 0 count)) ≡ faultOf (map other (range 0 count))
   unfolding faultOf
   faults count =
-      let own : nodesOf (map one (range 0 count)) ≡ map (nodeAt words values) (range 0 count) = map-map (λ (r : Record singles). r .node) one (range 0 count) in
-      let its : nodesOf (map other (range 0 count)) ≡ map (nodeAt words values') (range 0 count) = map-map (λ (r : Record singles). r .node) other
+      let own : nodesOf (map one (range 0 count)) ≡ map (nodeAt words values) (range 0 count) = map-map (λ (r : Record M). r .node) one (range 0 count) in
+      let its : nodesOf (map other (range 0 count)) ≡ map (nodeAt words values') (range 0 count) = map-map (λ (r : Record N). r .node) other
       (range 0 count) in
       rw (length-each one 0 count, length-each other 0 count, own, its)
       (ap (cond (eqb count 0 || ltb maxNodes count) (some 0))
@@ -108,12 +108,12 @@ module _ (words : List ℕ) (values values' : List ℤ) (costs costs' : List Flo
       (length-each (nodeAt words values) 0 count ∙ sym (length-each (nodeAt words values') 0 count))
       (λ k. children-same k 0 count) 0 count))
 
-module _ (count : ℕ) (n : NodeLists) (room : HasRoom count n) (sound : faultOf (seedIn count n) ≡ none) where
+module _ {M : Meter} (count : ℕ) (n : NodeListsOf M) (room : HasRoom count n) (sound : faultOf (seedIn count n) ≡ none) where
   pub sound-tree : SoundTree (n .words) count
   sound-tree = record {
     held = room .words;
     faultless = λ values costs held.
-        ap faultOf (tree-each (n .words) values costs count held) ∙ faults (n .words) values (n .values) costs (n .costs) count
+        ap faultOf (tree-each singles (n .words) values costs count held) ∙ faults singles M (n .words) values (n .values) costs (n .costs) count
         ∙ ap faultOf (sym (seed-each count n room)) ∙ sound;
   }
 
@@ -121,7 +121,7 @@ module _ (count : ℕ) (n : NodeLists) (room : HasRoom count n) (sound : faultOf
   seed-few = let c = sound-count (seedIn count n) sound in let long = seed-length count n room in (omega (arith, c .0), omega (arith, c .1))
 
 -- ---- entries that are not yet written over
-module _ (tree : List (Entry singles)) (n : NodeLists) (i : ℕ) (here : length tree ≡ i) where
+module _ {M : Meter} (tree : List (Entry M)) (n : NodeListsOf M) (i : ℕ) (here : length tree ≡ i) where
   word-still : (k : ℕ) → getD (holding tree n .words) (i * 5 + k) 0 ≡ getD (n .words) (i * 5 + k) 0
   unfolding holding
   word-still k = getD-unwritten (laid entryWords tree) (n .words) 0 (i * 5 + k) (omega (arith, words-length tree))
@@ -130,9 +130,9 @@ module _ (tree : List (Entry singles)) (n : NodeLists) (i : ℕ) (here : length 
   unfolding holding
   value-still k = getD-unwritten (laid entryValues tree) (n .values) (pos 0) (i * 2 + k) (omega (arith, values-length tree))
 
-  cost-still : getD (holding tree n .costs) i nan ≡ getD (n .costs) i nan
+  cost-still : getD (holding tree n .costs) i (M .spare) ≡ getD (n .costs) i (M .spare)
   unfolding holding
-  cost-still = getD-unwritten (laid entryCosts tree) (n .costs) nan i (omega (arith, costs-length tree))
+  cost-still = getD-unwritten (laid entryCosts tree) (n .costs) (M .spare) i (omega (arith, costs-length tree))
 
   row-still : (k : ℕ) → getD (holding tree n .spans) (i * 2 + k) 0 ≡ getD (n .spans) (i * 2 + k) 0
   unfolding holding

@@ -11,7 +11,7 @@ use lib.ListN.{length, getD, take, drop, length-append, length-map, take-append-
 use lib.Seq.{take-suc, take-length, length-take-le, drop-append-le}
 use lib.Dec.{eqb}
 use Rattle.model.specs.Lists.{countIf, keep}
-use Rattle.model.specs.Single.{singles}
+use Rattle.model.specs.Meter.{Meter}
 use Rattle.model.specs.Rows.{Row}
 use Rattle.model.specs.Mode.{fresh}
 use Rattle.model.specs.Tree.{Node, split, leaf, isLeaf, Info, Record, blankRecord, nodesOf, leafReached, faultOf}
@@ -30,15 +30,14 @@ use Rattle.order.proofs.Leaves.{leaf-span}
 use Rattle.plant.specs.Sown.{seededTo}
 
 -- ---- one node more
-seed-one : (j : Job singles) (nodes : List Node) (depths : List ℕ) (rows : List Row) (k : ℕ) (rs : List (Record singles)) (r : Record singles)
-    (st : State singles)
+seed-one : {M : Meter} (j : Job M) (nodes : List Node) (depths : List ℕ) (rows : List Row) (k : ℕ) (rs : List (Record M)) (r : Record M) (st : State M)
     → seedFrom j nodes depths rows k (rs ++ (r ∷ [])) st
     ≡ withSeedNode j (r .node) (r .info) (getD depths (k + length rs) 0) (rowsAt nodes (k + length rs) rows) (seedFrom j nodes depths rows k rs st)
 unfolding seedFrom
 seed-one j nodes depths rows k [] r st = ap (λ (m : ℕ). withSeedNode j (r .node) (r .info) (getD depths m 0) (rowsAt nodes m rows) st) (sym (add-zero k))
-seed-one j nodes depths rows k (p ∷ rs) r st =
+seed-one {M} j nodes depths rows k (p ∷ rs) r st =
     let m : suc k + length rs ≡ k + suc (length rs) = omega arith in
-    let on : State singles = withSeedNode j (p .node) (p .info) (getD depths k 0) (rowsAt nodes k rows) st in
+    let on : State M = withSeedNode j (p .node) (p .info) (getD depths k 0) (rowsAt nodes k rows) st in
     seed-one j nodes depths rows (suc k) rs r on
     ∙ ap (λ (m : ℕ). withSeedNode j (r .node) (r .info) (getD depths m 0) (rowsAt nodes m rows) (seedFrom j nodes depths rows (suc k) rs on)) m
 
@@ -57,14 +56,14 @@ leaves-few nodes i =
     let all = ap (countIf isLeaf) (take-append-drop i nodes) in
     omega arith
 
-module _ (j : Job singles) (seed : List (Record singles)) (rows : List Row) where
+module _ {M : Meter} (j : Job M) (seed : List (Record M)) (rows : List Row) where
   abbrev nodes : List Node
   nodes = nodesOf seed
 
-  abbrev to : ℕ → State singles
+  abbrev to : ℕ → State M
   to = seededTo j seed rows
 
-  pub seeded-none : seededTo j seed rows 0 ≡ record { rows = []; tree = []; bits = singles .noTotal }
+  pub seeded-none : seededTo j seed rows 0 ≡ record { rows = []; tree = []; bits = M .noTotal }
   unfolding seededTo seedFrom
   seeded-none = refl
 
@@ -73,38 +72,38 @@ module _ (j : Job singles) (seed : List (Record singles)) (rows : List Row) wher
       (rowsAt (nodesOf seed) i rows) (seededTo j seed rows i)
   unfolding seededTo
   seeded-more i h =
-      let start : State singles = record { rows = []; tree = []; bits = singles .noTotal } in
+      let start : State M = record { rows = []; tree = []; bits = M .noTotal } in
       let at : 0 + length (take i seed) ≡ i = zero-add (length (take i seed)) ∙ length-take-le i seed (omega arith) in
-      let r : Record singles = getD seed i blankRecord in
-      ap (λ (l : List (Record singles)). seedFrom j nodes (depthsOf nodes) rows 0 l start) (take-suc seed i blankRecord h)
+      let r : Record M = getD seed i blankRecord in
+      ap (λ (l : List (Record M)). seedFrom j nodes (depthsOf nodes) rows 0 l start) (take-suc seed i blankRecord h)
       ∙ seed-one j nodes (depthsOf nodes) rows 0 (take i seed) r start
       ∙ ap (λ (k : ℕ). withSeedNode j (r .node) (r .info) (getD (depthsOf nodes) k 0) (rowsAt nodes k rows)
       (seedFrom j nodes (depthsOf nodes) rows 0 (take i seed) start)) at
       ∙ ap (λ (m : Node). withSeedNode j m (r .info) (getD (depthsOf nodes) i 0) (rowsAt nodes i rows)
       (seedFrom j nodes (depthsOf nodes) rows 0 (take i seed) start))
-      (sym (List·getD-map (λ (r : Record singles). r .node) seed i blankRecord))
+      (sym (List·getD-map (λ (r : Record M). r .node) seed i blankRecord))
 
   pub seeded-all : seededTo j seed rows (length seed) ≡ seedState j seed rows
   unfolding seededTo seedState
   seeded-all = rw take-length
 
   -- ---- its size
-  more-tree : (m : Node) (info : Info singles) (depth : ℕ) (mine : List Row) (st : State singles) → length (withSeedNode j m info depth mine st .tree)
+  more-tree : (m : Node) (info : Info M) (depth : ℕ) (mine : List Row) (st : State M) → length (withSeedNode j m info depth mine st .tree)
       ≡ suc (length (st .tree))
   more-tree (split prop val gt le) info depth mine st = let n = length-append (st .tree)
-      (seedSplit {M = singles} (split prop val gt le) depth ∷ []) in omega arith
+      (seedSplit {M = M} (split prop val gt le) depth ∷ []) in omega arith
   more-tree leaf info depth mine st = let n = length-append (st .tree) (seedLeaf j info depth (length (st .rows)) mine ∷ []) in omega arith
 
   pub seeded-length : (i : ℕ) → i ≤ length seed → length (seededTo j seed rows i .tree) ≡ i
-  seeded-length zero h = ap (λ (st : State singles). length (st .tree)) seeded-none
+  seeded-length zero h = ap (λ (st : State M). length (st .tree)) seeded-none
   seeded-length (suc i) h =
-      ap (λ (st : State singles). length (st .tree)) (seeded-more i h)
+      ap (λ (st : State M). length (st .tree)) (seeded-more i h)
       ∙ more-tree (getD nodes i leaf) (getD seed i blankRecord .info) (getD (depthsOf nodes) i 0) (rowsAt nodes i rows) (to i)
       ∙ ap suc (seeded-length i (omega arith))
 
   module _ (faultless : faultOf seed ≡ none) where
     some-node : 0 < length nodes
-    some-node = rw (length-map seed (λ (r : Record singles). r .node)) (sound-count seed faultless .0)
+    some-node = rw (length-map seed (λ (r : Record M). r .node)) (sound-count seed faultless .0)
 
     keep-none : (p : Row → Bool) (l : List Row) → ((r : Row) → p r ≡ false) → keep p l ≡ []
     keep-none p [] h = refl
@@ -126,15 +125,15 @@ module _ (j : Job singles) (seed : List (Record singles)) (rows : List Row) wher
     mine-length i = length-keep (λ (r : Row). eqb (leafReached nodes (r .props)) i) rows
         ∙ sym (count-map (λ (k : ℕ). eqb k i) (λ (r : Row). leafReached nodes (r .props)) rows)
 
-    more-rows : (m : Node) (info : Info singles) (depth : ℕ) (mine : List Row) (st : State singles) → (isLeaf m ≡ false → mine ≡ [])
+    more-rows : (m : Node) (info : Info M) (depth : ℕ) (mine : List Row) (st : State M) → (isLeaf m ≡ false → mine ≡ [])
         → length (withSeedNode j m info depth mine st .rows) ≡ length (st .rows) + length mine
     more-rows (split prop val gt le) info depth mine st e = let z : length mine ≡ 0 = ap length (e refl) in omega arith
     more-rows leaf info depth mine st e = length-append (st .rows) (fresh (j .uses) mine) ∙ ap (λ (k : ℕ). length (st .rows) + k) (length-fresh (j .uses) mine)
 
     pub seeded-rows : (i : ℕ) → i ≤ length seed → length (seededTo j seed rows i .rows) ≡ firstOf (leafNumbers (nodesOf seed) rows) i
-    seeded-rows zero h = ap (λ (st : State singles). length (st .rows)) seeded-none ∙ sym (first-none ks)
+    seeded-rows zero h = ap (λ (st : State M). length (st .rows)) seeded-none ∙ sym (first-none ks)
     seeded-rows (suc i) h =
-        ap (λ (st : State singles). length (st .rows)) (seeded-more i h)
+        ap (λ (st : State M). length (st .rows)) (seeded-more i h)
         ∙ more-rows (getD nodes i leaf) (getD seed i blankRecord .info) (getD (depthsOf nodes) i 0) (rowsAt nodes i rows) (to i) (split-empty i)
         ∙ (λ t. seeded-rows i (omega arith) t + mine-length i t) ∙ sym (first-more ks i)
 

@@ -13,11 +13,12 @@ use lib.Dec.{eqb, leb, ltb}
 use lib.Ieee.{Float, isNan}
 use Rattle.model.specs.Settings as settings
 use Rattle.model.specs.Settings.{maxNodes, maxDepth}
+use Rattle.model.specs.Meter.{Meter}
 use Rattle.model.specs.Single.{singles}
 use Rattle.model.specs.Rows.{Row, tokOf, Span}
 use Rattle.model.specs.Mode.{spanMode, fresh}
 use Rattle.model.specs.Evaluate.{isScored, offered}
-use Rattle.model.specs.Profile.{single, jobOf}
+use Rattle.model.specs.Profile.{Profile, single, jobOf}
 use Rattle.model.specs.Tree.{Node, split, leaf, Info, Record, nodesOf, faultOf}
 use Rattle.model.specs.Job as model
 use Rattle.model.specs.Job.{Job}
@@ -36,7 +37,7 @@ use Rattle.checks.specs.Given.{settingsOf}
 use Rattle.checks.specs.declared.Settings.{Settings}
 use Rattle.layout.proofs.Queue.{same-itself}
 use Rattle.layout.specs.declared.Tree.{Tree}
-use Rattle.layout.specs.Tree.{NodeLists, nodeLists, HasRoom, holding, laid, entrySpans}
+use Rattle.layout.specs.Tree.{NodeListsOf, NodeLists, nodeLists, HasRoom, holding, laid, entrySpans}
 use Rattle.layout.specs.Waiting.{QueueLists, Queued, queueOf}
 use Rattle.layout.proofs.Held.{room-fewer, spans-length}
 use Rattle.lent.specs.Lists.{storedNodes}
@@ -109,8 +110,8 @@ ordered-fitting {s} {logs} {counts} {x} {y} ks count f size e = fitting-still f 
         subst (λ (m : ℕ). getD (y .toks) m 0 < s .alphabet) whole (rw (tok-held (y .props) (y .toks) (y .res) i p inside small) at (low p small))
 
 -- ---- offers only where a leaf may be split
-abbrev Shallow : Entry singles → Type 0
-Shallow e = (o : model.Offer singles) → e .offer ≡ some o → e .depth < maxDepth
+abbrev Shallow : {M : Meter} → Entry M → Type 0
+Shallow {M} e = (o : model.Offer M) → e .offer ≡ some o → e .depth < maxDepth
 
 cond-some : {A : Type 0} (b : Bool) (o : Option A) (v : A) → cond b o none ≡ some v → b ≡ true
 cond-some true o v e = refl
@@ -119,9 +120,9 @@ cond-some {A} false o v e = absurd (tell e)
     tell : none ≡ some v → ⊥
     tell q = let z : _≡_ {A = ℕ} 0 1 = cc in omega arith
 
-module _ (t : settings.Settings singles) (logs : List Float) (uses : Bool) where
-  abbrev j : Job singles
-  j = jobOf single t logs uses
+module _ (P : Profile) (t : settings.Settings (P .meter)) (logs : List (P .meter .Cost)) (uses : Bool) where
+  abbrev j : Job (P .meter)
+  j = jobOf P t logs uses
 
   shallow-leaf : (rows : List Row) (mode : ℤ) (sp : Span) (depth : ℕ) → Shallow (leafOver j rows mode sp depth)
   unfolding leafOver offered isScored
@@ -129,7 +130,7 @@ module _ (t : settings.Settings singles) (logs : List Float) (uses : Bool) where
       let scored = cond-some _ _ o e in
       ltb-true depth maxDepth (and-true (ltb depth maxDepth) _ (and-true (leb (t .smallest) (length rows)) _ scored .1) .0)
 
-  shallow-node : (m : Node) (info : Info singles) (depth : ℕ) (mine : List Row) (st : State singles) → Each Shallow (st .tree)
+  shallow-node : (m : Node) (info : Info (P .meter)) (depth : ℕ) (mine : List Row) (st : State (P .meter)) → Each Shallow (st .tree)
       → Each Shallow (withSeedNode j m info depth mine st .tree)
   shallow-node (split prop val gt le) info depth mine st h = each-append Shallow (st .tree) (seedSplit (split prop val gt le) depth ∷ []) h
       ((λ o e. absurd (none-is-no-some o e)), tt)
@@ -138,7 +139,7 @@ module _ (t : settings.Settings singles) (logs : List Float) (uses : Bool) where
       each-append Shallow (st .tree) (seedLeaf j info depth (length (st .rows)) (r ∷ rs) ∷ []) h
       (shallow-leaf (fresh uses (r ∷ rs)) (spanMode uses (r ∷ rs)) (span (length (st .rows)) (length (st .rows) + length (r ∷ rs))) depth, tt)
 
-  shallow-from : (nodes : List Node) (depths : List ℕ) (rows : List Row) (i : ℕ) (rs : List (Record singles)) (st : State singles) → Each Shallow (st .tree)
+  shallow-from : (nodes : List Node) (depths : List ℕ) (rows : List Row) (i : ℕ) (rs : List (Record (P .meter))) (st : State (P .meter)) → Each Shallow (st .tree)
       → Each Shallow (seedFrom j nodes depths rows i rs st .tree)
   unfolding seedFrom
   shallow-from nodes depths rows i [] st h = h
@@ -147,12 +148,12 @@ module _ (t : settings.Settings singles) (logs : List Float) (uses : Bool) where
       shallow-from nodes depths rows (suc i) rs (withSeedNode j (r .node) (r .info) (getD depths i 0) mine st)
       (shallow-node (r .node) (r .info) (getD depths i 0) mine st h)
 
-  pub seed-shallow : (seed : List (Record singles)) (rows : List Row) (k : ℕ) (o : model.Offer singles) → getD (seedState j seed rows .tree) k noEntry .offer
+  pub seed-shallow : (seed : List (Record (P .meter))) (rows : List Row) (k : ℕ) (o : model.Offer (P .meter)) → getD (seedState j seed rows .tree) k noEntry .offer
       ≡ some o → getD (seedState j seed rows .tree) k noEntry .depth < maxDepth
   unfolding seedState
   seed-shallow seed rows k =
       each-getD Shallow (seedState j seed rows .tree) k noEntry (λ o e. absurd (none-is-no-some o e))
-      (shallow-from (nodesOf seed) (depthsOf (nodesOf seed)) rows 0 seed (record { rows = []; tree = []; bits = singles .noTotal }) tt)
+      (shallow-from (nodesOf seed) (depthsOf (nodesOf seed)) rows 0 seed (record { rows = []; tree = []; bits = P .meter .noTotal }) tt)
 
 -- ---- lists
 numbers-length : (nodes : List Node) (rows : List Row) → length (leafNumbers nodes rows) ≡ length rows
@@ -160,8 +161,8 @@ unfolding leafNumbers
 numbers-length nodes rows = length-map rows _
 
 -- what lies under the entries written makes no difference
-over-same : (tree : List (Entry singles)) (n : NodeLists) (spans1 : List ℕ) → drop (length tree * 2) spans1 ≡ drop (length tree * 2) (n .spans)
-    → holding tree (nodeLists (n .words) (n .values) (n .costs) spans1) ≡ holding tree n
+over-same : {M : Meter} (tree : List (Entry M)) (n : NodeListsOf M) (spans1 : List ℕ) → drop (length tree * 2) spans1 ≡ drop (length tree * 2) (n .spans)
+    → holding tree (record { words = n .words; values = n .values; costs = n .costs; spans = spans1 }) ≡ holding tree n
 unfolding holding
 over-same tree n spans1 e =
     let rest : drop (length (laid entrySpans tree)) spans1 ≡ drop (length (laid entrySpans tree)) (n .spans) = rw (spans-length tree) e in
@@ -336,7 +337,7 @@ module _ {s : Settings} {logs : List Float} {counts : List ℕ} {x : Flat} {n : 
             (seed-sized Number (rowCount x) (jobIn s logs x) number-nought
             (λ mode rows h. evaluated-number (c .fitting) mode rows h) number-endless seed (heldIn x)
             (omega (arith, length-held (x .props) (x .toks) (x .res))));
-        shallow = λ k h. seed-shallow (settingsOf s) logs (usesOf s x) seed (heldIn x) k;
+        shallow = λ k h. seed-shallow single (settingsOf s) logs (usesOf s x) seed (heldIn x) k;
       }
 
       pub seeded : Seeded s logs counts2 x z n n2 q q2 count r

@@ -12,6 +12,7 @@ use lib.IntN.{ℤ}
 use lib.Ieee.{Float}
 use lib.Dec.{eqb}
 use Rattle.model.specs.Settings.{maxNodes}
+use Rattle.model.specs.Meter.{Meter}
 use Rattle.model.specs.Single.{singles}
 use Rattle.model.specs.Rows.{Row, Span}
 use Rattle.model.specs.Profile.{single, jobOf}
@@ -27,7 +28,7 @@ use Rattle.layout.proofs.Queue.{same-itself, same-queue}
 use Rattle.layout.specs.Layout.{kindAt, propAt, gtAt, leAt, valAt, nodesHeld, nodeAt}
 use Rattle.layout.specs.declared.Tree.{Tree}
 use Rattle.layout.specs.Tree.{NodeLists, HasRoom, holding}
-use Rattle.layout.specs.Waiting.{QueueLists, QueueRoom, SameQueue, waitingFrom}
+use Rattle.layout.specs.Waiting.{QueueListsOf, QueueLists, QueueRoom, SameQueue, waitingFrom}
 use Rattle.layout.proofs.Held.{SameLengths, room-fewer, holding-lengths, holding-room, holding-none}
 use Rattle.lent.specs.Lists.{spanAt}
 use Rattle.order.specs.Order.{firstOf}
@@ -56,7 +57,7 @@ one-if : (b : Bool) → cond b 0 1 ≡ cond {A = ℕ} (cond b false true) 1 0
 one-if true = refl
 one-if false = refl
 
-pub room-queue : {k m : ℕ} {q p : QueueLists} → k ≤ m → SameQueue q p → QueueRoom m q → QueueRoom k p
+pub room-queue : {M : Meter} {k m : ℕ} {q p : QueueListsOf M} → k ≤ m → SameQueue q p → QueueRoom m q → QueueRoom k p
 room-queue h same room = record {
   words = rw (same .words) (le-trans (mul-le-mul-right 3 h) (room .words));
   values = rw (same .values) (le-trans h (room .values));
@@ -254,4 +255,4 @@ depths-deep {n = n} {count = count} p out is k h =
     let held : count ≤ nodesHeld (n .words) (n .values) = omega (arith, p .room .words, p .room .values) in
     sym (getD-take count out k 0 h)
     ∙ ap (λ (l : List ℕ). getD l k 0) (is (n .values) (n .costs) held)
-    ∙ ap (λ (l : List Node). getD (depthsOf l) k 0) (nodes-each (n .words) (n .values) (n .costs) count held ∙ sym (nodes-in count n (p .room)))
+    ∙ ap (λ (l : List Node). getD (depthsOf l) k 0) (nodes-each singles (n .words) (n .values) (n .costs) count held ∙ sym (nodes-in count n (p .room)))

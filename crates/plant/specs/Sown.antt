@@ -8,6 +8,7 @@ use lib.ListN.{length, take, drop}
 use lib.Ieee.{Float, add, binary64}
 use lib.Dec.{eqb}
 use Rattle.model.specs.Settings.{maxNodes}
+use Rattle.model.specs.Meter.{Meter}
 use Rattle.model.specs.Single.{singles}
 use Rattle.model.specs.Rows.{Row}
 use Rattle.model.specs.Tree.{leaf, Record, nodesOf, faultOf}
@@ -24,7 +25,7 @@ use Rattle.layout.specs.declared.Leaf.{Leaf}
 use Rattle.layout.specs.Values.{offerIs}
 use Rattle.layout.specs.Layout.{kindAt, nodeAt}
 use Rattle.layout.specs.declared.Tree.{Tree}
-use Rattle.layout.specs.Tree.{NodeLists, holding, HasRoom, put, leafWith}
+use Rattle.layout.specs.Tree.{NodeListsOf, NodeLists, holding, HasRoom, put, leafWith}
 use Rattle.layout.specs.Waiting.{QueueLists, Queued, QueueRoom, SameQueue, queueOf, waits}
 use Rattle.lent.specs.Lists.{spanAt}
 use Rattle.order.specs.Order.{orderedBy, firstOf}
@@ -37,10 +38,10 @@ use Rattle.leaf.specs.Made.{MadeLeaf}
 use Rattle.seed.specs.Ordered.{seedIn}
 
 -- the model's state after the first i nodes of the seed
-unfoldable pub seededTo : Job singles → List (Record singles) → List Row → ℕ → State singles
-seededTo j seed rows i =
+unfoldable pub seededTo : {M : Meter} → Job M → List (Record M) → List Row → ℕ → State M
+seededTo {M} j seed rows i =
     let nodes = nodesOf seed in
-    seedFrom j nodes (depthsOf nodes) rows 0 (take i seed) (record { rows = []; tree = []; bits = singles .noTotal })
+    seedFrom j nodes (depthsOf nodes) rows 0 (take i seed) (record { rows = []; tree = []; bits = M .noTotal })
 
 -- The lists hold the state `st`, over what was lent; behind its rows stand those of the leaves still to come. What waits is kept only if leaves are scored
 pub record Sown (s : Settings) (logs : List Float) (counts : List ℕ) (x : Flat) (n : NodeLists) (q : QueueLists) (tree : Tree) (scored uses : Bool)
@@ -91,7 +92,7 @@ pub record NodeFits (s : Settings) (logs : List Float) (counts : List ℕ) (x : 
   pub queue-room : scored ≡ true → eqb (kindAt (n .words) (tree .nodes)) 1 ≡ false → QueueRoom (tree .waiting + 1) q
 
 -- node i is the next of the state, and its span holds the rows `mine`; a split has none
-pub record NextIs (n : NodeLists) (i : ℕ) (lent : NodeLists) (st : State singles) (mine : List Row) : Type 0 where
+pub record NextIs {M : Meter} (n : NodeListsOf M) (i : ℕ) (lent : NodeListsOf M) (st : State M) (mine : List Row) : Type 0 where
   pub first : spanAt (n .spans) i .first ≡ length (st .rows)
   pub end : spanAt (n .spans) i .end ≡ length (st .rows) + length mine
   pub bare : eqb (kindAt (n .words) i) 1 ≡ true → mine ≡ []

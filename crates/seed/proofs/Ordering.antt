@@ -88,11 +88,11 @@ module _ {x : Flat} {words : List ℕ} {values : List ℤ} {spans counts : List 
 
     numbers-are : nums ≡ ks
     unfolding leafNumbers
-    numbers-are = numbers-read ∙ ap (λ (n : List Node). map (λ (r : Row). leafReached n (r .props)) (heldIn x)) (nodes-each words values [] count held)
+    numbers-are = numbers-read ∙ ap (λ (n : List Node). map (λ (r : Row). leafReached n (r .props)) (heldIn x)) (nodes-each singles words values [] count held)
 
     low : (r : Row) → leafReached (nodesOf seed) (r .props) < count
     low r =
-        let all = nodes-length words values [] count held in
+        let all = nodes-length singles words values [] count held in
         let some : 0 < length (nodesOf seed) = omega (arith, few words count (o .sound) .0) in
         rw all at (reached-leaf (nodesOf seed) (model.sound seed (o .sound .faultless values [] held) .rooted .family .forward) some (r .props) .1)
 

@@ -7,11 +7,11 @@ use lib.ListN.{length, getD, drop, replicate}
 use lib.IntN.{ℤ}
 use Rattle.model.specs.Lists.{range}
 use Rattle.model.specs.Settings.{maxRows, maxNodes}
-use Rattle.model.specs.Single.{singles}
+use Rattle.model.specs.Meter.{Meter}
 use Rattle.model.specs.Rows.{Row}
 use Rattle.model.specs.Tree.{Node, Record}
 use Rattle.model.specs.Lent.{treeIn}
-use Rattle.layout.specs.Tree.{NodeLists}
+use Rattle.layout.specs.Tree.{NodeListsOf}
 use Rattle.lent.specs.Lists.{storedNodes, spanAt}
 use Rattle.order.specs.Order.{orderedBy, firstOf}
 use Rattle.order.specs.Leaves.{leafNumbers}
@@ -21,7 +21,7 @@ use Rattle.tree.specs.Trees.{SoundTree}
 use Rattle.layout.specs.Layout.{nodeAt}
 
 -- the seed: the first nodes of the node lists
-abbrev pub seedIn : ℕ → NodeLists → List (Record singles)
+abbrev pub seedIn : {M : Meter} → ℕ → NodeListsOf M → List (Record M)
 seedIn count n = treeIn count (storedNodes n)
 
 -- its nodes alone, which hang on words and thresholds only

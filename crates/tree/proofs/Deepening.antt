@@ -11,6 +11,7 @@ use lib.Seq.{drop-cons, getD-set-same, getD-set-other}
 use lib.IntN.{ℤ}
 use lib.Ieee.{Float}
 use lib.Dec.{eqb}
+use Rattle.model.specs.Single.{singles}
 use Rattle.model.specs.Tree.{Node, split, leaf, nodesOf}
 use Rattle.model.specs.Lent.{treeIn}
 use Rattle.model.specs.Deepen.{depthsFrom, depthsOf}
@@ -56,13 +57,13 @@ module _ (words : List ℕ) (values : List ℤ) (costs : List Float) (count : �
 
   pub depths-first : depthsOf nodes ≡ depthsFrom 0 nodes (replicate count 0)
   unfolding depthsOf
-  depths-first = rw (nodes-length words values costs count held)
+  depths-first = rw (nodes-length singles words values costs count held)
 
   pub depths-on : (i : ℕ) (l : List ℕ) → i < count → depthsFrom i (drop i nodes) l ≡ depthsFrom (suc i) (drop (suc i) nodes) (deeper (nodeAt words values i) i l)
   depths-on i l h =
-      let inside : i < length nodes = rw (nodes-length words values costs count held) h in
-      rw (drop-cons nodes i leaf inside, node-at words values costs count held i h) (one-node i (nodeAt words values i) (drop (suc i) nodes) l)
+      let inside : i < length nodes = rw (nodes-length singles words values costs count held) h in
+      rw (drop-cons nodes i leaf inside, node-at singles words values costs count held i h) (one-node i (nodeAt words values i) (drop (suc i) nodes) l)
 
   pub depths-end : (i : ℕ) (l : List ℕ) → i ≡ count → depthsFrom i (drop i nodes) l ≡ l
   unfolding depthsFrom
-  depths-end i l e = let out : length nodes ≤ i = omega (arith, nodes-length words values costs count held) in rw (drop-of-length-le nodes out)
+  depths-end i l e = let out : length nodes ≤ i = omega (arith, nodes-length singles words values costs count held) in rw (drop-of-length-le nodes out)

@@ -32,19 +32,19 @@ module _ (words : List ℕ) (count : ℕ) (is : SoundTree words count) where
   bare-sound = model.sound (bare words count) (is .faultless (zeros count) [] bare-held)
 
   pub few : (0 < count) × (count ≤ maxNodes)
-  few = let c = model.sound-count (bare words count) (is .faultless (zeros count) [] bare-held) in (rw (tree-length words (zeros count) [] count bare-held) at (c .0), rw (tree-length words (zeros count) [] count bare-held) at (c .1))
+  few = let c = model.sound-count (bare words count) (is .faultless (zeros count) [] bare-held) in (rw (tree-length singles words (zeros count) [] count bare-held) at (c .0), rw (tree-length singles words (zeros count) [] count bare-held) at (c .1))
 
   -- a split's property is one of 24, and its children stand behind it, below the count
   pub split-fits : (i : ℕ) → i < count → eqb (kindAt words i) 1 ≡ true → (propAt words i < propsPerRow) × Forward count i (split (propAt words i) (pos 0) (gtAt words i) (leAt words i))
   split-fits i h k =
-      let inside : i < length (bare words count) = rw (tree-length words (zeros count) [] count bare-held) h in
-      let among : i < length (nodesOf (bare words count)) = rw (nodes-length words (zeros count) [] count bare-held) h in
-      let prop = rw (record-at words (zeros count) [] count bare-held i blankRecord h, k) at (bare-sound .fits i inside) in
-      (ltb→lt (propAt words i) propsPerRow prop, rw (nodes-length words (zeros count) [] count bare-held, node-at words (zeros count) [] count bare-held i h, k) at (bare-sound .rooted .family .forward i among))
+      let inside : i < length (bare words count) = rw (tree-length singles words (zeros count) [] count bare-held) h in
+      let among : i < length (nodesOf (bare words count)) = rw (nodes-length singles words (zeros count) [] count bare-held) h in
+      let prop = rw (record-at singles words (zeros count) [] count bare-held i blankRecord h, k) at (bare-sound .fits i inside) in
+      (ltb→lt (propAt words i) propsPerRow prop, rw (nodes-length singles words (zeros count) [] count bare-held, node-at singles words (zeros count) [] count bare-held i h, k) at (bare-sound .rooted .family .forward i among))
 
   -- node i, with its threshold 0
   pub bare-node : (i : ℕ) → i < count → getD (nodesOf (bare words count)) i leaf ≡ nodeAt words (zeros count) i
-  bare-node i h = node-at words (zeros count) [] count bare-held i h
+  bare-node i h = node-at singles words (zeros count) [] count bare-held i h
 
   pub bare-length : length (nodesOf (bare words count)) ≡ count
-  bare-length = nodes-length words (zeros count) [] count bare-held
+  bare-length = nodes-length singles words (zeros count) [] count bare-held

@@ -7,6 +7,7 @@ use mathlib.Core.List.{List}
 use lib.IntN.{ℤ}
 use lib.Ieee.{Float}
 use lib.Dec.{eqb}
+use Rattle.model.specs.Single.{singles}
 use Rattle.model.specs.Tree.{Node, split, nodesOf, reach, leafReached}
 use Rattle.model.specs.Lent.{treeIn}
 use Rattle.model.proofs.Paths.{Forward, towards-in}
@@ -23,11 +24,11 @@ module _ (words : List ℕ) (values : List ℤ) (costs : List Float) (count : �
   reach-on : (fuel i : ℕ) → i < count → eqb (kindAt words i) 1 ≡ true
       → reach (suc fuel) (nodesIn words values count costs) ps i ≡ reach fuel (nodesIn words values count costs) ps (childAt words values ps i)
   unfolding reach
-  reach-on fuel i h k = rw (node-at words values costs count held i h, k)
+  reach-on fuel i h k = rw (node-at singles words values costs count held i h, k)
 
   pub reach-end : (fuel i : ℕ) → i < count → eqb (kindAt words i) 1 ≡ false → reach (suc fuel) (nodesIn words values count costs) ps i ≡ i
   unfolding reach
-  reach-end fuel i h k = rw (node-at words values costs count held i h, k)
+  reach-end fuel i h k = rw (node-at singles words values costs count held i h, k)
 
 -- ---- the way as a loop follows it
 -- node i is met on the way: enough steps are left, and the leaf reached is the one reached from there
@@ -46,7 +47,7 @@ module _ (words : List ℕ) (values : List ℤ) (count : ℕ) (held : count ≤ 
         inside = h;
         fuel = count - 1;
         enough = omega arith;
-        same = λ costs. rw (nodes-length words values costs count held) (ap (λ (f : ℕ). reach f (nodesIn words values count costs) ps 0) n);
+        same = λ costs. rw (nodes-length singles words values costs count held) (ap (λ (f : ℕ). reach f (nodesIn words values count costs) ps 0) n);
       }
 
   -- a split leads to a node behind it
