@@ -5,17 +5,24 @@ ghost use mathlib.Core.List.{List};
 ghost use Rattle.model.specs.Tree.{Node};
 ghost use Rattle.layout.specs.Layout.{gtAt, leAt};
 ghost use Rattle.preorder.specs.Order.{pushed, heightAfter, Pushable, ShowsNodes, Walkable, Rooted, Ordered};
+use layout::NodeNumber;
 
-// The children of node i, if it is a split, go onto the stack, gt on top.
-fn push_children(words: &[u32], kept: bool, i: usize, depth: usize, stack: &mut [u32]) -> usize
-    requires { ⌜ Pushable (now words) kept i depth (now stack) ⌝ }
+// The children of a node, if it is a split, go onto the stack, gt on top.
+fn push_children(
+    words: &[u32],
+    kept: bool,
+    node: NodeNumber,
+    depth: usize,
+    stack: &mut [u32],
+) -> usize
+    requires { ⌜ Pushable (now words) kept (node .0) depth (now stack) ⌝ }
     ensures { λ r. ⌜ r ≡ heightAfter kept depth ⌝ }
-    ensures { λ _. ⌜ now (stack .exit) ≡ pushed kept (gtAt (now (words .entry)) i) (leAt (now (words .entry)) i) depth (now (stack .entry)) ⌝ }
+    ensures { λ _. ⌜ now (stack .exit) ≡ pushed kept
+        (gtAt (now (words .entry)) (node .0)) (leAt (now (words .entry)) (node .0)) depth (now (stack .entry)) ⌝ }
 {
     if kept {
-        let at = i * layout::NODE_WORDS;
-        stack[depth] = words[at + 3];
-        stack[depth + 1] = words[at + 2];
+        stack[depth] = layout::le_of(words, node);
+        stack[depth + 1] = layout::gt_of(words, node);
         return depth + 2;
     }
     depth
@@ -44,7 +51,7 @@ fn walk(
         order[found] = node;
         places[i] = found as u32;
         found += 1;
-        depth = push_children(words, splits[i], i, top, stack);
+        depth = push_children(words, splits[i], NodeNumber(node), top, stack);
     }
     found
 }
