@@ -1,23 +1,96 @@
--- Entries gathered into a list one after the other, and copied back with blanks behind them. Assumes nothing.
-use mathlib.Core.Path.{_≡_, refl, ap, _∙_}
+-- Entries gathered into lists one after the other, and copied back with blanks behind them. Assumes nothing.
+use mathlib.Core.Path.{_≡_, refl, sym, ap, ap₂, _∙_}
 use Prim.Native.Nat.{ℕ, zero, suc, _+_, _-_, _*_, _≤_, _<_}
 use native.Mathlib.Nat.{zero-add, zero-mul, mul-one}
 use native.Mathlib.Numerals.{add-one}
 use native.Mathlib.Omega.{arith}
-use mathlib.Core.Bool.{Bool, true, false}
+use mathlib.Core.Bool.{Bool, false}
 use mathlib.Core.List.{List, [], _∷_, _++_}
-use lib.ListN.{length, getD, set, take, drop, replicate}
-use lib.Seq.{paste, take-at, drop-drop, take-append-add, drop-append-add, take-all}
-use Rattle.model.specs.Lists.{range}
-use Rattle.model.proofs.Places.{length-range, range-more}
-use Rattle.layout.specs.Tree.{laid}
-use Rattle.layout.proofs.Cells.{set-paste, laid-one, laid-length}
-use Rattle.moves.specs.Moves.{wordsFrom, wordCells, gathered, compacted}
+use mathlib.Core.Option.{none}
+use lib.ListN.{length, getD, set, take, drop, replicate, length-append, length-replicate, replicate-append-replicate}
+use lib.Seq.{paste, take-append-add}
+use lib.IntN.{pos}
+use lib.Ieee.{ofBits, binary32}
+use Rattle.model.specs.Lists.{writtenOver}
+use Rattle.model.specs.Single.{singles}
+use Rattle.model.specs.Tree.{Node, split, leaf, Info}
+use Rattle.model.specs.Lent.{storedNode}
+use Rattle.model.specs.Grow.{Entry, noEntry}
+use Rattle.model.proofs.Places.{length-each, each-at, each-more}
+use Rattle.layout.specs.Layout.{putWords, putValues}
+use Rattle.layout.specs.Tree.{NodeLists, nodeLists, laid, holding, HasRoom, put, putSpan, firstAt, endAt, entryWords, entryValues, entryCosts, entrySpans}
+use Rattle.layout.specs.Records.{recordOf, nodeOf}
+use Rattle.layout.specs.declared.MaNode.{MaNode}
+use Rattle.layout.proofs.Cells.{set-paste, stores-two, stores-five, laid-append, laid-length}
+use Rattle.layout.proofs.Held.{words-each, SameLengths, room-fewer, room-same, holding-lengths, holding-none, put-more}
+use Rattle.moves.specs.Moves.{recordFrom, entryFrom, entriesFrom}
 
+-- ---- the stores of a record and of a span are an entry put
+abbrev stored : ℕ → MaNode → ℕ → ℕ → NodeLists → NodeLists
+stored q m first end z =
+    nodeLists (putWords q (m .kind) (m .prop) (m .gt) (m .le) (m .info .pred) (z .words)) (putValues q (m .val) (m .info .offset) (z .values))
+    (set (z .costs) q (m .info .cost)) (putSpan q first end (z .spans))
+
+module _ (z : NodeLists) (q first end : ℕ) (room : HasRoom (q + 1) z) where
+  fields-put : (m : MaNode) (e : Entry singles) → entryWords e ≡ m .kind ∷ m .prop ∷ m .gt ∷ m .le ∷ m .info .pred ∷ []
+      → entryValues e ≡ m .val ∷ m .info .offset ∷ [] → entryCosts e ≡ m .info .cost ∷ [] → entrySpans e ≡ first ∷ end ∷ []
+      → stored q m first end z ≡ put q e z
+  unfolding put
+  fields-put m e a b c d = rw (
+    a,
+    b,
+    c,
+    d,
+    stores-five (z .words) (q * 5) (m .kind) (m .prop) (m .gt) (m .le) (m .info .pred) (omega (arith, room .words)),
+    stores-two (z .values) (q * 2) (m .val) (m .info .offset) (omega (arith, room .values)),
+    set-paste (z .costs) q (m .info .cost) (omega (arith, room .costs)),
+    stores-two (z .spans) (q * 2) first end (omega (arith, room .spans)),
+  )
+
+  node-put : (n : Node) (i : Info singles)
+      → stored q (recordOf (storedNode n i)) first end z ≡ put q (record { node = n; info = i; span = record { first = first; end = end }; depth = 0; offer = none }) z
+  node-put (split p v g l) i = fields-put _ _ refl refl refl refl
+  node-put leaf i = fields-put _ _ refl refl refl refl
+
+-- ---- the first entries are gathered
+module _ (x : NodeLists) (splits : List Bool) (order places : List ℕ) where
+  abbrev entryAt : ℕ → Entry singles
+  entryAt q = entryFrom x (getD splits (getD order q 0) false) places (getD order q 0)
+
+  pub length-entries : (q : ℕ) → length (entriesFrom x splits order places q) ≡ q
+  unfolding entriesFrom
+  length-entries q = length-each entryAt 0 q
+
+  pub entry-at : (n q : ℕ) → q < n → getD (entriesFrom x splits order places n) q noEntry ≡ entryAt q
+  unfolding entriesFrom
+  entry-at n q lt = each-at entryAt n q noEntry lt
+
+  pub gathered-none : (y : NodeLists) → y ≡ holding (entriesFrom x splits order places 0) y
+  unfolding entriesFrom
+  gathered-none y = sym (holding-none y)
+
+  module _ {n : ℕ} {y : NodeLists} (room : HasRoom n y) (q : ℕ) {z : NodeLists} (held : z ≡ holding (entriesFrom x splits order places q) y) where
+    pub gathered-lengths : q ≤ n → SameLengths y z
+    gathered-lengths le = rw held (holding-lengths (entriesFrom x splits order places q) y (rw (length-entries q) (room-fewer room le)))
+
+    pub gathered-room : q < n → HasRoom (q + 1) z
+    gathered-room lt = room-same (gathered-lengths (omega arith)) (room-fewer room (omega arith))
+
+    pub gathered-more : (m : MaNode) (first end : ℕ) → q < n
+        → m ≡ recordFrom (nodeOf (x .words) (x .values) (x .costs) (getD order q 0)) (getD splits (getD order q 0) false) places
+        → first ≡ firstAt (x .spans) (getD order q 0) → end ≡ endAt (x .spans) (getD order q 0)
+        → stored q m first end z ≡ holding (entriesFrom x splits order places (q + 1)) y
+    unfolding entriesFrom
+    gathered-more m first end lt is a b =
+        let t : List (Entry singles) = entriesFrom x splits order places q in
+        let next : HasRoom (length t + 1) y = rw (length-entries q) (room-fewer room (omega arith)) in
+        let more : entriesFrom x splits order places (q + 1) ≡ t ++ (entryAt q ∷ []) = rw (add-one q) (each-more entryAt q) in
+        rw (is, a, b) (node-put z q (firstAt (x .spans) (getD order q 0)) (endAt (x .spans) (getD order q 0)) (gathered-room lt) (entryAt q .node) (entryAt q .info))
+        ∙ ap₂ (λ (k : ℕ) (l : NodeLists). put k (entryAt q) l) (sym (length-entries q)) held ∙ put-more t y (entryAt q) next
+        ∙ ap (λ (s : List (Entry singles)). holding s y) (sym more)
+
+-- ---- copied back from lists of zeros
 module _ {A : Type 0} where
-  pub one-store : (l : List A) (q : ℕ) (a : A) → q < length l → set l q a ≡ paste l (q * 1) (a ∷ []) 1
-  one-store l q a h = rw mul-one (set-paste l q a h)
-
   drop-blank : (k n : ℕ) (b : A) → drop k (replicate n b) ≡ replicate (n - k) b
   drop-blank zero n b = let e : n - 0 ≡ n = omega arith in rw e
   drop-blank (suc k) zero b = let e : 0 - suc k ≡ 0 = omega arith in rw e
@@ -28,46 +101,49 @@ module _ {A : Type 0} where
   take-blank (suc k) zero b h = absurd (omega arith)
   take-blank (suc k) (suc n) b h = ap (λ (l : List A). b ∷ l) (take-blank k n b (omega arith))
 
-  module _ (w : ℕ) (cells : ℕ → List A) where
-    module _ (wide : (q : ℕ) → length (cells q) ≡ w) where
-      laid-long : (n : ℕ) → length (laid cells (range 0 n)) ≡ n * w
-      laid-long n = laid-length cells w wide (range 0 n) ∙ ap (λ (k : ℕ). k * w) (length-range 0 n)
+  module _ (part : Entry singles → List A) (w : ℕ) (wide : (e : Entry singles) → length (part e) ≡ w) (b : A) (blank : part noEntry ≡ replicate w b) where
+    laid-blank : (k : ℕ) → laid part (replicate k noEntry) ≡ replicate (k * w) b
+    laid-blank zero = let z : 0 * w ≡ 0 = zero-mul w in rw z
+    laid-blank (suc k) = let z : w + k * w ≡ suc k * w = omega arith in
+        ap₂ (λ (x y : List A). x ++ y) blank (laid-blank k) ∙ replicate-append-replicate w (k * w) b ∙ ap (λ (n : ℕ). replicate n b) z
 
-      pub gathered-none : (l : List A) → l ≡ gathered w cells 0 l
-      gathered-none l = rw zero-mul
+    pub copied : (t : List (Entry singles)) (count size : ℕ) (l : List A) → length t ≤ count → count * w ≤ size
+        → paste l 0 (writtenOver (laid part t) (replicate size b)) (count * w) ≡ writtenOver (laid part (t ++ replicate (count - length t) noEntry)) l
+    copied t count size l few most =
+        let p : List A = laid part t in
+        let more : ℕ = count - length t in
+        let long : length p ≡ length t * w = laid-length part w wide t in
+        let m : length t * w ≤ count * w = native.Mathlib.Nat.mul-le-mul-right w few in
+        let whole : count ≡ length t + more = omega arith in
+        let parts : count * w ≡ length p + more * w = ap (λ (k : ℕ). k * w) whole ∙ (omega arith) in
+        let tail : List A = drop (length p) (replicate size b) in
+        let all : laid part (t ++ replicate more noEntry) ≡ p ++ replicate (more * w) b =
+        laid-append part t (replicate more noEntry) ∙ ap (λ (r : List A). p ++ r) (laid-blank more) in
+        let front : take (count * w) (p ++ tail) ≡ p ++ replicate (more * w) b =
+        ap (λ (k : ℕ). take k (p ++ tail)) parts ∙ take-append-add p tail (more * w)
+        ∙ ap (λ (r : List A). p ++ r) (ap (take (more * w)) (drop-blank (length p) size b) ∙ take-blank (more * w) (size - length p) b (omega arith)) in
+        let sized : length (p ++ replicate (more * w) b) ≡ count * w = length-append p (replicate (more * w) b)
+        ∙ ap (λ (k : ℕ). length p + k) (length-replicate (more * w) b) ∙ sym parts in
+        rw (zero-add, front, all, sized)
 
-      pub gathered-more : (q : ℕ) (l : List A) → paste (gathered w cells q l) (q * w) (cells q) w ≡ gathered w cells (q + 1) l
-      gathered-more q l =
-          let p = laid cells (range 0 q) in
-          let long = laid-long q in
-          let e : q * w + w ≡ length p + w = omega arith in
-          let f : (q + 1) * w ≡ q * w + w = omega arith in
-          let one : laid cells (range 0 (q + 1)) ≡ p ++ cells q = ap (λ (n : ℕ). laid cells (range 0 n)) (add-one q) ∙ ap (laid cells) (range-more q) ∙ laid-one cells (range 0 q) q in
-          let rest : drop (q * w + w) (p ++ drop (q * w) l) ≡ drop (q * w + w) l = ap (λ (k : ℕ). drop k (p ++ drop (q * w) l)) e
-          ∙ drop-append-add p (drop (q * w) l) w ∙ drop-drop w (q * w) l in
-          rw (take-at p (drop (q * w) l) (q * w) long, take-all w (cells q) (omega (arith, wide q)), rest, one, f)
-
-      pub compacts : (blank : A) (n count size : ℕ) (l : List A) → n ≤ count → count * w ≤ size
-          → paste l 0 (gathered w cells n (replicate size blank)) (count * w) ≡ compacted w cells blank n count l
-      compacts blank n count size l few most =
-          let p = laid cells (range 0 n) in
-          let long = laid-long n in
-          let m : n * w ≤ count * w = native.Mathlib.Nat.mul-le-mul-right w few in
-          let parts : count * w ≡ length p + (count - n) * w = parted in
-          let front : take (count * w) (p ++ drop (n * w) (replicate size blank)) ≡ p ++ replicate ((count - n) * w) blank =
-          ap (λ (k : ℕ). take k (p ++ drop (n * w) (replicate size blank))) parts ∙ take-append-add p (drop (n * w) (replicate size blank)) ((count - n) * w)
-          ∙ ap (λ (l : List A). p ++ l) (ap (take ((count - n) * w)) (drop-blank (n * w) size blank)
-          ∙ take-blank ((count - n) * w) (size - n * w) blank (omega arith)) in
-          rw (zero-add, front)
-        where
-          parted : count * w ≡ length (laid cells (range 0 n)) + (count - n) * w
-          parted = let e : count ≡ n + (count - n) = omega arith in let a = laid-long n in
-              ap (λ (k : ℕ). k * w) e ∙ (omega arith)
-
--- every node has five words
-pub words-wide : (words : List ℕ) (splits : List Bool) (order places : List ℕ) (q : ℕ) → length (wordCells words splits order places q) ≡ 5
-words-wide words splits order places q = go (getD splits (getD order q 0) false)
-  where
-    go : (b : Bool) → length (wordsFrom words b places (getD order q 0)) ≡ 5
-    go true = refl
-    go false = refl
+-- all four, with blanks behind the n entries
+pub copied-back : (t : List (Entry singles)) {n : ℕ} → length t ≡ n → (count ws vs cs ss : ℕ) (x : NodeLists) → n ≤ count
+    → (count * 5 ≤ ws) × (count * 2 ≤ vs) × (count ≤ cs) × (count * 2 ≤ ss) → {z : NodeLists}
+    → z ≡ holding t (nodeLists (replicate ws 0) (replicate vs (pos 0)) (replicate cs (ofBits binary32 0)) (replicate ss 0))
+    → nodeLists (paste (x .words) 0 (z .words) (count * 5)) (paste (x .values) 0 (z .values) (count * 2)) (paste (x .costs) 0 (z .costs) count)
+    (paste (x .spans) 0 (z .spans) (count * 2)) ≡ holding (t ++ replicate (count - n) noEntry) x
+unfolding holding ofBits
+copied-back t {n} many count ws vs cs ss x le most {z} e =
+    let few : length t ≤ count = omega arith in
+    let costs : paste (x .costs) 0 (writtenOver (laid entryCosts t) (replicate cs (ofBits binary32 0))) count
+    ≡ writtenOver (laid entryCosts (t ++ replicate (count - length t) noEntry)) (x .costs) =
+    ap (paste (x .costs) 0 (writtenOver (laid entryCosts t) (replicate cs (ofBits binary32 0)))) (sym (mul-one count))
+    ∙ copied entryCosts 1 (λ d. refl) (ofBits binary32 0) refl t count cs (x .costs) few (rw mul-one (most .2)) in
+    rw (
+      e,
+      ← many,
+      copied entryWords 5 words-each 0 refl t count ws (x .words) few (most .0),
+      copied entryValues 2 (λ d. refl) (pos 0) refl t count vs (x .values) few (most .1),
+      costs,
+      copied entrySpans 2 (λ d. refl) 0 refl t count ss (x .spans) few (most .3),
+    )

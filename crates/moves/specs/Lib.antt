@@ -1,2 +1,2 @@
--- `Moves`: the lists in the new order.
+-- `Moves`: the entries in the new order.
 pub mod Moves

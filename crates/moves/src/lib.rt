@@ -1,195 +1,92 @@
-// The nodes that pruning leaves, moved into their new order in flat lists of numbers, list by list; the entries that are vacated become blank.
+// The nodes that pruning leaves, moved as records into their new order with their spans; the entries that are vacated
+// become blank.
 ghost use mathlib.Core.Path.{_≡_};
-ghost use mathlib.Core.Bool.{cond};
-ghost use mathlib.Core.List.{[], _∷_};
-ghost use Prim.Native.Nat.{_+_, _*_, _≤_, _<_};
+ghost use mathlib.Core.Bool.{true};
+ghost use Prim.Native.Nat.{_<_};
 ghost use lib.ListN.{length};
-ghost use lib.Seq.{paste};
-ghost use lib.IntN.{pos};
 ghost use Rattle.model.specs.Single.{singles};
-ghost use Rattle.layout.specs.Layout.{wordsPerNode, valuesPerNode, valAt};
-ghost use Rattle.layout.specs.Tree.{nodeLists, rowsPerSpan};
-ghost use Rattle.moves.specs.Moves.{wordsFrom, valuesFrom, spanFrom, wordCells, valueCells, costCells, spanCells, gathered, compacted, compactedLists};
-ghost use Rattle.moves.specs.Moves.{Renumbers, WordsMovable, AllWordsMovable, AllMovable};
+ghost use Rattle.model.specs.Tree.{leaf};
+ghost use Rattle.model.specs.Lent.{storedNode};
+ghost use Rattle.layout.specs.Values.{infoIs};
+ghost use Rattle.layout.specs.Records.{recordOf};
+ghost use Rattle.layout.specs.Tree.{nodeLists, holding, HasRoom};
+ghost use Rattle.moves.specs.Moves.{recordFrom, entriesFrom, compacted, AllMovable};
+use layout::MaNode;
+use layout::NodeInfo;
 
-// Stores the words of entry q.
-fn put_words(kind: u32, prop: u32, gt: u32, le: u32, pred: u32, q: usize, moved: &mut [u32])
-    requires { ⌜ q * wordsPerNode + wordsPerNode ≤ length (now moved) ⌝ }
-    ensures { λ _. ⌜ now (moved .exit) ≡ paste (now (moved .entry)) (q * wordsPerNode) (kind ∷ prop ∷ gt ∷ le ∷ pred ∷ []) wordsPerNode ⌝ }
+// A leaf of this cost, predictor and offset; a leaf has no use for the other fields.
+fn leaf_from(info: NodeInfo) -> MaNode
+    ensures { λ r. ⌜ r ≡ recordOf (storedNode {M = singles} leaf (infoIs info)) ⌝ }
 {
-    let at = q * layout::NODE_WORDS;
-    moved[at] = kind;
-    moved[at + 1] = prop;
-    moved[at + 2] = gt;
-    moved[at + 3] = le;
-    moved[at + 4] = pred;
-}
-
-// The words of node i, with its children's new numbers, become those of entry q. A leaf has no use for property and children.
-fn move_node_words(words: &[u32], kept: bool, places: &[u32], i: usize, q: usize, moved: &mut [u32])
-    requires { ⌜ WordsMovable (now words) kept (now places) i q (now moved) ⌝ }
-    ensures { λ _. ⌜ now (moved .exit)
-        ≡ paste (now (moved .entry)) (q * wordsPerNode) (wordsFrom (now (words .entry)) kept (now (places .entry)) i) wordsPerNode ⌝ }
-{
-    let at = i * layout::NODE_WORDS;
-    let pred = words[at + 4];
-    if kept {
-        let gt = words[at + 2] as usize;
-        let le = words[at + 3] as usize;
-        put_words(1, words[at + 1], places[gt], places[le], pred, q, moved);
-    } else {
-        put_words(0, 0, 0, 0, pred, q, moved);
+    MaNode {
+        kind: 0,
+        prop: 0,
+        val: 0,
+        gt: 0,
+        le: 0,
+        info,
     }
 }
 
-// The words of the n nodes that are left, in the new order; `count` only says below what the old numbers lie.
-fn gather_words(
-    words: &[u32],
+// The node for its new place: a split that is kept, with its children's new numbers; or else a leaf.
+fn renumbered(node: MaNode, kept: bool, places: &[u32]) -> MaNode
+    requires { ⌜ (kept ≡ true → (node .gt < length (now places)) × (node .le < length (now places))) ⌝ }
+    ensures { λ r. ⌜ r ≡ recordFrom node kept (now (places .entry)) ⌝ }
+{
+    let info = node.info;
+    if kept {
+        let gt = node.gt as usize;
+        let le = node.le as usize;
+        return MaNode {
+            kind: 1,
+            prop: node.prop,
+            val: node.val,
+            gt: places[gt],
+            le: places[le],
+            info,
+        };
+    }
+    leaf_from(info)
+}
+
+// The n nodes that are left, in the new order; `count` only says below what the old numbers lie.
+fn gather<'a, 'b>(
+    words: &'a [u32],
+    values: &'a [i32],
+    costs: &'a [f32],
+    spans: &[u32],
     splits: &[bool],
     order: &[u32],
     places: &[u32],
     n: usize,
     count: usize,
-    moved: &mut [u32],
+    new_words: &'b mut [u32],
+    new_values: &'b mut [i32],
+    new_costs: &'b mut [f32],
+    new_spans: &mut [u32],
 )
-    requires { ⌜ AllWordsMovable (now words) (now splits) (now order) (now places) n count ⌝ }
-    requires { ⌜ n * wordsPerNode ≤ length (now moved) ⌝ }
-    ensures { λ _. ⌜ now (moved .exit)
-        ≡ gathered wordsPerNode (wordCells (now (words .entry)) (now (splits .entry)) (now (order .entry)) (now (places .entry))) n (now (moved .entry)) ⌝ }
+    requires { ⌜ AllMovable (nodeLists (now words) (now values) (now costs) (now spans))
+        (now splits) (now order) (now places) n count ⌝ }
+    requires { ⌜ HasRoom n (nodeLists (now «new_words») (now «new_values») (now «new_costs») (now «new_spans»)) ⌝ }
+    ensures { λ _. ⌜ nodeLists (now («new_words» .exit)) (now («new_values» .exit)) (now («new_costs» .exit))
+        (now («new_spans» .exit))
+        ≡ holding (entriesFrom
+        (nodeLists (now (words .entry)) (now (values .entry)) (now (costs .entry)) (now (spans .entry)))
+        (now (splits .entry)) (now (order .entry)) (now (places .entry)) n)
+        (nodeLists (now («new_words» .entry)) (now («new_values» .entry)) (now («new_costs» .entry))
+        (now («new_spans» .entry))) ⌝ }
 {
     for q in 0..n {
         let i = order[q] as usize;
-        move_node_words(words, splits[i], places, i, q, moved);
+        let node = layout::node_at(i, words, values, costs);
+        let span = layout::span_at(spans, i);
+        let moved = renumbered(node, splits[i], places);
+        layout::put_node(q, moved, new_words, new_values, new_costs);
+        layout::put_span(new_spans, q, span);
     }
 }
 
-// A leaf has no use for a threshold.
-fn threshold_of(values: &[i32], kept: bool, i: usize) -> i32
-    requires { ⌜ i * valuesPerNode < length (now values) ⌝ }
-    ensures { λ r. ⌜ r ≡ cond kept (valAt (now (values .entry)) i) (pos 0) ⌝ }
-{
-    if kept {
-        return values[i * layout::NODE_VALUES];
-    }
-    0
-}
-
-// The threshold and the offset of node i become those of entry q.
-fn move_node_values(values: &[i32], kept: bool, i: usize, q: usize, moved: &mut [i32])
-    requires { ⌜ (i * valuesPerNode + valuesPerNode ≤ length (now values)) × (q * valuesPerNode + valuesPerNode ≤ length (now moved)) ⌝ }
-    ensures { λ _. ⌜ now (moved .exit) ≡ paste (now (moved .entry)) (q * valuesPerNode) (valuesFrom (now (values .entry)) kept i) valuesPerNode ⌝ }
-{
-    let to = q * layout::NODE_VALUES;
-    moved[to] = threshold_of(values, kept, i);
-    moved[to + 1] = values[i * layout::NODE_VALUES + 1];
-}
-
-// Their values, in the same way.
-fn gather_values(
-    values: &[i32],
-    splits: &[bool],
-    order: &[u32],
-    n: usize,
-    count: usize,
-    moved: &mut [i32],
-)
-    requires { ⌜ Renumbers (now order) n count ⌝ }
-    requires { ⌜ (count * valuesPerNode ≤ length (now values)) × (count ≤ length (now splits)) × (n * valuesPerNode ≤ length (now moved)) ⌝ }
-    ensures { λ _. ⌜ now (moved .exit)
-        ≡ gathered valuesPerNode (valueCells (now (values .entry)) (now (splits .entry)) (now (order .entry))) n (now (moved .entry)) ⌝ }
-{
-    for q in 0..n {
-        let i = order[q] as usize;
-        move_node_values(values, splits[i], i, q, moved);
-    }
-}
-
-// Their costs.
-fn gather_costs(costs: &[f32], order: &[u32], n: usize, count: usize, moved: &mut [f32])
-    requires { ⌜ Renumbers (now order) n count ⌝ }
-    requires { ⌜ (count ≤ length (now costs)) × (n ≤ length (now moved)) ⌝ }
-    ensures { λ _. ⌜ now (moved .exit) ≡ gathered 1 (costCells (now (costs .entry)) (now (order .entry))) n (now (moved .entry)) ⌝ }
-{
-    for q in 0..n {
-        let i = order[q] as usize;
-        moved[q] = costs[i];
-    }
-}
-
-// The span of node i becomes that of entry q.
-fn move_node_span(spans: &[u32], i: usize, q: usize, moved: &mut [u32])
-    requires { ⌜ (i * rowsPerSpan + rowsPerSpan ≤ length (now spans)) × (q * rowsPerSpan + rowsPerSpan ≤ length (now moved)) ⌝ }
-    ensures { λ _. ⌜ now (moved .exit) ≡ paste (now (moved .entry)) (q * rowsPerSpan) (spanFrom (now (spans .entry)) i) rowsPerSpan ⌝ }
-{
-    let from = i * layout::SPAN_ROWS;
-    let to = q * layout::SPAN_ROWS;
-    moved[to] = spans[from];
-    moved[to + 1] = spans[from + 1];
-}
-
-// Their spans.
-fn gather_spans(spans: &[u32], order: &[u32], n: usize, count: usize, moved: &mut [u32])
-    requires { ⌜ Renumbers (now order) n count ⌝ }
-    requires { ⌜ (count * rowsPerSpan ≤ length (now spans)) × (n * rowsPerSpan ≤ length (now moved)) ⌝ }
-    ensures { λ _. ⌜ now (moved .exit) ≡ gathered rowsPerSpan (spanCells (now (spans .entry)) (now (order .entry))) n (now (moved .entry)) ⌝ }
-{
-    for q in 0..n {
-        let i = order[q] as usize;
-        move_node_span(spans, i, q, moved);
-    }
-}
-
-// Each list goes by way of a list of zeros, which leaves the entries that are vacated blank.
-fn move_words(
-    words: &mut [u32],
-    splits: &[bool],
-    order: &[u32],
-    places: &[u32],
-    n: usize,
-    count: usize,
-)
-    requires { ⌜ AllWordsMovable (now words) (now splits) (now order) (now places) n count ⌝ }
-    ensures { λ _. ⌜ now (words .exit)
-        ≡ compacted wordsPerNode (wordCells (now (words .entry)) (now (splits .entry)) (now (order .entry)) (now (places .entry))) 0 n count
-        (now (words .entry)) ⌝ }
-{
-    let mut moved = [0u32; layout::MAX_WORDS];
-    gather_words(words, splits, order, places, n, count, &mut moved);
-    lists::copy_u32(&moved, count * layout::NODE_WORDS, words);
-}
-
-fn move_values(values: &mut [i32], splits: &[bool], order: &[u32], n: usize, count: usize)
-    requires { ⌜ Renumbers (now order) n count ⌝ }
-    requires { ⌜ (count * valuesPerNode ≤ length (now values)) × (count ≤ length (now splits)) ⌝ }
-    ensures { λ _. ⌜ now (values .exit)
-        ≡ compacted valuesPerNode (valueCells (now (values .entry)) (now (splits .entry)) (now (order .entry))) (pos 0) n count (now (values .entry)) ⌝ }
-{
-    let mut moved = [0i32; layout::MAX_VALUES];
-    gather_values(values, splits, order, n, count, &mut moved);
-    lists::copy_i32(&moved, count * layout::NODE_VALUES, values);
-}
-
-fn move_costs(costs: &mut [f32], order: &[u32], n: usize, count: usize)
-    requires { ⌜ Renumbers (now order) n count ⌝ }
-    requires { ⌜ count ≤ length (now costs) ⌝ }
-    ensures { λ _. ⌜ now (costs .exit) ≡ compacted 1 (costCells (now (costs .entry)) (now (order .entry))) (singles .nought) n count (now (costs .entry)) ⌝ }
-{
-    let mut moved = [0.0f32; layout::MAX_NODES];
-    gather_costs(costs, order, n, count, &mut moved);
-    lists::copy_f32(&moved, count, costs);
-}
-
-fn move_spans(spans: &mut [u32], order: &[u32], n: usize, count: usize)
-    requires { ⌜ Renumbers (now order) n count ⌝ }
-    requires { ⌜ count * rowsPerSpan ≤ length (now spans) ⌝ }
-    ensures { λ _. ⌜ now (spans .exit) ≡ compacted rowsPerSpan (spanCells (now (spans .entry)) (now (order .entry))) 0 n count (now (spans .entry)) ⌝ }
-{
-    let mut moved = [0u32; layout::MAX_SPAN_ROWS];
-    gather_spans(spans, order, n, count, &mut moved);
-    lists::copy_u32(&moved, count * layout::SPAN_ROWS, spans);
-}
-
-// Records and spans go with the nodes.
+// The nodes go by way of lists of zeros, which leaves the entries that are vacated blank.
 pub fn move_nodes(
     words: &mut [u32],
     values: &mut [i32],
@@ -201,13 +98,35 @@ pub fn move_nodes(
     n: usize,
     count: usize,
 )
-    requires { ⌜ AllMovable (nodeLists (now words) (now values) (now costs) (now spans)) (now splits) (now order) (now places) n count ⌝ }
+    requires { ⌜ AllMovable (nodeLists (now words) (now values) (now costs) (now spans))
+        (now splits) (now order) (now places) n count ⌝ }
     ensures { λ _. ⌜ nodeLists (now (words .exit)) (now (values .exit)) (now (costs .exit)) (now (spans .exit))
-        ≡ compactedLists (now (splits .entry)) (now (order .entry)) (now (places .entry)) n count
+        ≡ holding (compacted
+        (nodeLists (now (words .entry)) (now (values .entry)) (now (costs .entry)) (now (spans .entry)))
+        (now (splits .entry)) (now (order .entry)) (now (places .entry)) n count)
         (nodeLists (now (words .entry)) (now (values .entry)) (now (costs .entry)) (now (spans .entry))) ⌝ }
 {
-    move_words(words, splits, order, places, n, count);
-    move_values(values, splits, order, n, count);
-    move_costs(costs, order, n, count);
-    move_spans(spans, order, n, count);
+    let mut new_words = [0u32; layout::MAX_WORDS];
+    let mut new_values = [0i32; layout::MAX_VALUES];
+    let mut new_costs = [0.0f32; layout::MAX_NODES];
+    let mut new_spans = [0u32; layout::MAX_SPAN_ROWS];
+    gather(
+        words,
+        values,
+        costs,
+        spans,
+        splits,
+        order,
+        places,
+        n,
+        count,
+        &mut new_words,
+        &mut new_values,
+        &mut new_costs,
+        &mut new_spans,
+    );
+    lists::copy_u32(&new_words, count * layout::NODE_WORDS, words);
+    lists::copy_i32(&new_values, count * layout::NODE_VALUES, values);
+    lists::copy_f32(&new_costs, count, costs);
+    lists::copy_u32(&new_spans, count * layout::SPAN_ROWS, spans);
 }

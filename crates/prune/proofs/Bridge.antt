@@ -1,12 +1,12 @@
 -- The passes over lists that hold a tree are the model's pruning of it. Assumes nothing.
 use mathlib.Core.Path.{_≡_, refl, sym, ap, _∙_, subst}
 use mathlib.Core.Logic.{inl, inr}
-use Prim.Native.Nat.{ℕ, _+_, _*_, _≤_, _<_}
+use Prim.Native.Nat.{ℕ, _+_, _-_, _*_, _≤_, _<_}
 use native.Mathlib.Nat.{add-zero}
 use native.Mathlib.Omega.{arith}
-use mathlib.Core.Bool.{Bool, true, false, cond, not, true≢false}
-use mathlib.Core.List.{List, [], _∷_, List·Memᴰ}
-use lib.ListN.{length, getD, length-map, List·getD-map}
+use mathlib.Core.Bool.{Bool, true, false, not, true≢false}
+use mathlib.Core.List.{List, _++_, List·Memᴰ}
+use lib.ListN.{length, getD, replicate, length-map, length-append, length-replicate, List·getD-map}
 use lib.IntN.{ℤ, pos}
 use lib.Dec.{T, eqb}
 use lib.Ieee.{Float, nan}
@@ -20,13 +20,16 @@ use Rattle.model.proofs.Preorder.{place-at, mem-getD}
 use Rattle.model.proofs.Folding.{Folded, folds, length-pruned}
 use Rattle.model.proofs.Pruned.{closed, length-kept, entry-kept, order-short, old-number}
 use Rattle.layout.specs.Layout.{kindAt, propAt, gtAt, leAt, predAt, valAt}
-use Rattle.layout.specs.Tree.{NodeLists, holding, HasRoom, entryWords, entryValues, entryCosts, entrySpans, nodeWords, nodeVal}
+use Rattle.layout.specs.Tree.{NodeLists, holding, HasRoom, firstAt, endAt, entryWords, entryValues, entrySpans, nodeWords, nodeVal}
+use Rattle.layout.specs.Kept.{infoAt}
+use Rattle.layout.specs.Records.{nodeOf}
 use Rattle.preorder.specs.Order.{ShownAs, ShowsNodes, Walkable, Ordered}
-use Rattle.moves.specs.Moves.{wordCells, valueCells, costCells, spanCells, compactedLists, AllMovable}
+use Rattle.moves.specs.Moves.{nodeFrom, entryFrom, entriesFrom, compacted, AllMovable}
+use Rattle.moves.proofs.Moving.{length-entries, entry-at}
 use Rattle.prune.specs.Prices.{AllPriceable, ShowsTree, PricedAs}
 use Rattle.prune.specs.Held.{HoldsTree, prunedEntries}
-use Rattle.layout.proofs.Held.{words-each, room-same, holding-lengths, held-word, held-value, held-cost, held-row}
-use Rattle.prune.proofs.Held.{held-compacted}
+use Rattle.layout.proofs.Held.{SameCells, same-cells, room-same, holding-lengths, held-word, held-value, held-cost, held-row}
+use Rattle.prune.proofs.Held.{held-again, held-same}
 
 -- a node's last word is its predictor
 pred-word : (m : Node) (pred : ℕ) → getD (nodeWords m pred) 4 0 ≡ pred
@@ -190,13 +193,13 @@ module _ {x : NodeLists} {count : ℕ} {price : Float} {tree : List (Entry singl
 
       pub movable : count ≤ length splits → count ≤ length order → count ≤ length places → AllMovable x splits order places found count
       movable splits-there order-there places-there = record {
-        words-movable = record {
-          renumbers = record { few = omega (arith, found-is, fewer, h .many); most = h .few; order-there = omega (arith, found-is, fewer, h .many); old = old };
-          words-there = room .words;
-          splits-there = splits-there;
-          children = λ i a s. children i a s (getD pn i leaf) refl;
-        };
+        few = omega (arith, found-is, fewer, h .many);
+        most = h .few;
         room = room;
+        splits-there = splits-there;
+        order-there = omega (arith, found-is, fewer, h .many);
+        old = old;
+        children = λ i a s. children i a s (getD pn i leaf) refl;
       }
         where
           children : (i : ℕ) → i < count → getD splits i false ≡ true → (m : Node) → getD pn i leaf ≡ m → (gtAt (x .words) i < length places)
@@ -231,61 +234,34 @@ module _ {x : NodeLists} {count : ℕ} {price : Float} {tree : List (Entry singl
         pred : predAt (x .words) i ≡ entry i .info .pred
         pred = word i 4 in-count (omega arith) ∙ pred-word (entry i .node) (entry i .info .pred)
 
-        pub new-words : wordCells (x .words) splits order places q ≡ entryWords (getD new q noEntry)
+        -- the entry that is moved leaves the same cells
+        pub new-entry : SameCells (entryFrom x (getD splits i false) places i) (getD new q noEntry)
         unfolding moved
-        new-words = rw (entry-new q a, split-is i in-count) (go (getD pn i leaf) refl)
+        new-entry = rw (entry-new q a, split-is i in-count) (same-cells _ _ (go (getD pn i leaf) refl) info rows)
           where
-            go : (m : Node) → getD pn i leaf ≡ m
-                → Rattle.moves.specs.Moves.wordsFrom (x .words) (not (isLeaf m)) places i ≡ nodeWords (renumbered preorder-of m) (entry i .info .pred)
-            go leaf z = rw pred
+            info : infoAt x i ≡ entry i .info
+            info = λ j. record { cost = cost i in-count j; pred = pred j; offset = value i 1 in-count (omega arith) j }
+
+            rows : record { first = firstAt (x .spans) i; end = endAt (x .spans) i } ≡ entry i .span
+            rows = let first = rw add-zero at (span i 0 in-count (omega arith)) in
+                λ j. record { first = first j; end = span i 1 in-count (omega arith) j }
+
+            go : (m : Node) → getD pn i leaf ≡ m → nodeFrom (nodeOf (x .words) (x .values) (x .costs) i) (not (isLeaf m)) places ≡ renumbered preorder-of m
+            go leaf z = refl
             go (split p v g l) z =
                 let w = kept-split i p v g l z in
                 let gt : gtAt (x .words) i ≡ g = words-of i in-count (split p v g l) w 2 (omega arith) in
                 let le : leAt (x .words) i ≡ l = words-of i in-count (split p v g l) w 3 (omega arith) in
                 let prop : propAt (x .words) i ≡ p = words-of i in-count (split p v g l) w 1 (omega arith) in
-                rw (pred, gt, le, prop, place i g member (rw z (inl refl)), place i l member (rw z (inr refl)))
+                let val : valAt (x .values) i ≡ v = (rw add-zero at (value i 0 in-count (omega arith))) ∙ ap nodeVal w in
+                rw (gt, le, prop, val, place i g member (rw z (inl refl)), place i l member (rw z (inr refl)))
 
-        pub new-values : valueCells (x .values) splits order q ≡ entryValues (getD new q noEntry)
-        unfolding moved
-        new-values = rw (entry-new q a, split-is i in-count, value i 1 in-count (omega arith))
-            (ap (λ (v : ℤ). v ∷ entry i .info .offset ∷ []) (go (getD pn i leaf) refl))
-          where
-            val : valAt (x .values) i ≡ nodeVal (entry i .node)
-            val = rw add-zero at (value i 0 in-count (omega arith))
-
-            go : (m : Node) → getD pn i leaf ≡ m → cond (not (isLeaf m)) (valAt (x .values) i) (pos 0) ≡ nodeVal (renumbered preorder-of m)
-            go leaf z = refl
-            go (split p v g l) z = val ∙ ap nodeVal (kept-split i p v g l z)
-
-        pub new-costs : costCells (x .costs) order q ≡ entryCosts (getD new q noEntry)
-        unfolding moved
-        new-costs = rw (entry-new q a, cost i in-count)
-
-        pub new-spans : spanCells (x .spans) order q ≡ entrySpans (getD new q noEntry)
-        unfolding moved
-        new-spans = let first = rw add-zero at (span i 0 in-count (omega arith)) in rw (entry-new q a, first, span i 1 in-count (omega arith))
-
-      pub moved-lists : compactedLists splits order places found count x ≡ holding (prunedEntries price tree) lent
-      unfolding holding
-      moved-lists = rw (found-is, h .many) (λ j. record {
-        words = words-are j;
-        values = values-are j;
-        costs = costs-are j;
-        spans = spans-are j;
-      })
-        where
-          words-are : compactedLists splits order places (length new) (length tree) x .words ≡ holding (prunedEntries price tree) lent .words
-          words-are = held-compacted entryWords 5 words-each tree (lent .words) (x .words) (ap (λ (y : NodeLists). y .words) (h .lists))
-              (wordCells (x .words) splits order places) 0 new fewer refl (λ q a. new-words q (rw found-is a))
-
-          values-are : compactedLists splits order places (length new) (length tree) x .values ≡ holding (prunedEntries price tree) lent .values
-          values-are = held-compacted entryValues 2 (λ e. refl) tree (lent .values) (x .values) (ap (λ (y : NodeLists). y .values) (h .lists))
-              (valueCells (x .values) splits order) (pos 0) new fewer refl (λ q a. new-values q (rw found-is a))
-
-          costs-are : compactedLists splits order places (length new) (length tree) x .costs ≡ holding (prunedEntries price tree) lent .costs
-          costs-are = held-compacted entryCosts 1 (λ e. refl) tree (lent .costs) (x .costs) (ap (λ (y : NodeLists). y .costs) (h .lists))
-              (costCells (x .costs) order) (singles .nought) new fewer refl (λ q a. new-costs q (rw found-is a))
-
-          spans-are : compactedLists splits order places (length new) (length tree) x .spans ≡ holding (prunedEntries price tree) lent .spans
-          spans-are = held-compacted entrySpans 2 (λ e. refl) tree (lent .spans) (x .spans) (ap (λ (y : NodeLists). y .spans) (h .lists))
-              (spanCells (x .spans) order) 0 new fewer refl (λ q a. new-spans q (rw found-is a))
+      pub moved-lists : holding (compacted x splits order places found count) x ≡ holding (prunedEntries price tree) lent
+      moved-lists =
+          let t : List (Entry singles) = entriesFrom x splits order places found in
+          let blank : List (Entry singles) = replicate (count - found) noEntry in
+          let many-moved = length-entries x splits order places found in
+          let all : length (t ++ blank) ≡ length tree = length-append t blank ∙ (let a = length-replicate (count - found) (noEntry {M = singles}) in omega (arith, found-is, fewer, h .many)) in
+          ap (holding (t ++ blank)) (h .lists) ∙ held-again (t ++ blank) tree lent all
+          ∙ held-same t new lent (many-moved ∙ found-is) blank (λ q a. let b : q < found = omega arith in rw (entry-at x splits order places found q b) (new-entry q b))
+          ∙ rw (found-is, h .many)

@@ -1,54 +1,43 @@
--- Parts of equal width laid end to end: what the lists hold once the entries are moved. Assumes nothing.
-use mathlib.Core.Path.{_≡_, refl, sym, ap, ap₂, _∙_}
-use Prim.Native.Nat.{ℕ, zero, suc, _+_, _-_, _*_, _≤_, _<_}
-use native.Mathlib.Nat.{zero-add, zero-mul}
-use native.Mathlib.Omega.{arith}
-use mathlib.Core.List.{List, [], _∷_, _++_}
-use lib.ListN.{length, getD, drop, replicate, length-append, length-replicate, replicate-append-replicate}
-use lib.Seq.{drop-at}
-use Rattle.model.specs.Lists.{range, writtenOver}
+-- Lists that hold one tree hold another of its size over them, as if over what was lent; and what they hold goes by the cells. Assumes nothing.
+use mathlib.Core.Path.{_≡_, refl, sym, ap, _∙_}
+use Prim.Native.Nat.{ℕ, _*_, _<_}
+use mathlib.Core.List.{List, _++_}
+use lib.ListN.{length, getD, drop}
+use lib.Seq.{drop-append-seam}
+use Rattle.model.specs.Lists.{writtenOver}
 use Rattle.model.specs.Single.{singles}
 use Rattle.model.specs.Grow.{Entry, noEntry}
-use Rattle.layout.specs.Tree.{laid}
-use Rattle.layout.proofs.Cells.{laid-append, laid-length}
-use Rattle.moves.specs.Moves.{compacted}
+use Rattle.layout.specs.Tree.{laid, NodeLists, holding, entryWords, entryValues, entryCosts, entrySpans}
+use Rattle.layout.proofs.Cells.{laid-append, laid-same, laid-length}
+use Rattle.layout.proofs.Held.{words-each, SameCells}
 
-module _ {A : Type 0} (part : Entry singles → List A) (w : ℕ) (wide : (e : Entry singles) → length (part e) ≡ w) where
-  laid-blank : (b : A) → part noEntry ≡ replicate w b → (k : ℕ) → laid part (replicate k noEntry) ≡ replicate (k * w) b
-  laid-blank b e zero = let z : 0 * w ≡ 0 = zero-mul w in rw z
-  laid-blank b e (suc k) = let z : w + k * w ≡ suc k * w = omega arith in
-      ap₂ (λ (x y : List A). x ++ y) e (laid-blank b e k) ∙ replicate-append-replicate w (k * w) b ∙ ap (λ (n : ℕ). replicate n b) z
+module _ {A : Type 0} (part : Entry singles → List A) (t u : List (Entry singles)) where
+  written-again : (w : ℕ) → ((e : Entry singles) → length (part e) ≡ w) → length t ≡ length u → (lent : List A)
+      → writtenOver (laid part t) (writtenOver (laid part u) lent) ≡ writtenOver (laid part t) lent
+  written-again w wide same lent =
+      let size : length (laid part t) ≡ length (laid part u) = laid-length part w wide t ∙ ap (λ (n : ℕ). n * w) same ∙ sym (laid-length part w wide u) in
+      ap (λ (l : List A). laid part t ++ l) (ap (λ (k : ℕ). drop k (writtenOver (laid part u) lent)) size
+      ∙ drop-append-seam (laid part u) (drop (length (laid part u)) lent) ∙ ap (λ (k : ℕ). drop k lent) (sym size))
 
-  laid-cells : (cells : ℕ → List A) (new : List (Entry singles)) (f : ℕ) → ((q : ℕ) → q < length new → cells (f + q) ≡ part (getD new q noEntry))
-      → laid cells (range f (length new)) ≡ laid part new
-  laid-cells cells [] f same = refl
-  laid-cells cells (e ∷ es) f same =
-      let z : f + 0 ≡ f = omega arith in
-      ap₂ (λ (x y : List A). x ++ y) (ap cells (sym z) ∙ same 0 (omega arith))
-      (laid-cells cells es (suc f) (λ q h. let y : suc f + q ≡ f + suc q = omega arith in ap cells y ∙ same (suc q) (omega arith)))
+  laid-front : (back : List (Entry singles)) → laid part t ≡ laid part u → laid part (t ++ back) ≡ laid part (u ++ back)
+  laid-front back e = laid-append part t back ∙ ap (λ (l : List A). l ++ laid part back) e ∙ sym (laid-append part u back)
 
-  module _ (tree : List (Entry singles)) (lent l : List A) (held : l ≡ writtenOver (laid part tree) lent) where
-    -- the lists that moving leaves hold the new entries, and blank ones behind them
-    pub held-compacted : (cells : ℕ → List A) (b : A) (new : List (Entry singles)) → length new ≤ length tree → part noEntry ≡ replicate w b
-        → ((q : ℕ) → q < length new → cells q ≡ part (getD new q noEntry))
-        → compacted w cells b (length new) (length tree) l ≡ writtenOver (laid part (new ++ replicate (length tree - length new) noEntry)) lent
-    held-compacted cells b new few blank same =
-        ap₂ (λ (x y : List A). x ++ y) front back
-      where
-        more : List (Entry singles)
-        more = replicate (length tree - length new) noEntry
+module _ (t u : List (Entry singles)) (lent : NodeLists) (many : length t ≡ length u) where
+  pub held-again : holding t (holding u lent) ≡ holding t lent
+  unfolding holding
+  held-again = λ j. record {
+    words = written-again entryWords t u 5 words-each many (lent .words) j;
+    values = written-again entryValues t u 2 (λ e. refl) many (lent .values) j;
+    costs = written-again entryCosts t u 1 (λ e. refl) many (lent .costs) j;
+    spans = written-again entrySpans t u 2 (λ e. refl) many (lent .spans) j;
+  }
 
-        front : laid cells (range 0 (length new)) ++ replicate ((length tree - length new) * w) b ≡ laid part
-            (new ++ replicate (length tree - length new) noEntry)
-        front =
-            ap₂ (λ (x y : List A). x ++ y) (laid-cells cells new 0 (λ q h. rw zero-add (same q h))) (sym (laid-blank b blank (length tree - length new)))
-            ∙ sym (laid-append part new (replicate (length tree - length new) noEntry))
-
-        size : length (laid part (new ++ replicate (length tree - length new) noEntry)) ≡ length tree * w
-        size = laid-length part w wide (new ++ replicate (length tree - length new) noEntry)
-            ∙ ap (λ (n : ℕ). n * w) (length-append new (replicate (length tree - length new) noEntry)
-            ∙ (let a = length-replicate (length tree - length new) (noEntry {M = singles}) in omega arith))
-
-        back : drop (length tree * w) l ≡ drop (length (laid part (new ++ replicate (length tree - length new) noEntry))) lent
-        back = ap (drop (length tree * w)) held ∙ drop-at (laid part tree) (drop (length (laid part tree)) lent) (length tree * w) (laid-length part w wide tree)
-            ∙ ap (λ (n : ℕ). drop n lent) (laid-length part w wide tree ∙ sym size)
+  pub held-same : (back : List (Entry singles)) → ((i : ℕ) → i < length t → SameCells (getD t i noEntry) (getD u i noEntry))
+      → holding (t ++ back) lent ≡ holding (u ++ back) lent
+  unfolding holding
+  held-same back same = rw (
+    laid-front entryWords t u back (laid-same entryWords t u noEntry many (λ i l. same i l .words)),
+    laid-front entryValues t u back (laid-same entryValues t u noEntry many (λ i l. same i l .values)),
+    laid-front entryCosts t u back (laid-same entryCosts t u noEntry many (λ i l. same i l .costs)),
+    laid-front entrySpans t u back (laid-same entrySpans t u noEntry many (λ i l. same i l .spans)),
+  )

@@ -1,19 +1,69 @@
--- `moves::move_nodes` meets its contract, list by list. Assumes nothing.
+-- `moves::move_nodes` meets its contract: by way of lists of zeros. Assumes nothing.
+use mathlib.Core.Path.{_∙_}
+use native.Mathlib.Omega.{arith}
+use Rattle.layout.specs.Tree.{nodeLists}
+use Rattle.moves.proofs.Moving.{length-entries, copied-back}
 use borrow.Author.Needs.{needs}
 use Rattle.moves.proofs.move_nodes.Statement.{statement}
 use Rattle.moves.proofs.move_nodes.Tie as tie
 
-move-words-requires : tie.Need-move-words-requires
-move-words-requires c κs = search needs
+slice-aggregate-gather : tie.Need-slice-aggregate-gather
+slice-aggregate-gather c = search needs
 
-move-values-requires : tie.Need-move-values-requires
-move-values-requires c κs = search needs
+slice-aggregate-gather-2 : tie.Need-slice-aggregate-gather-2
+slice-aggregate-gather-2 c = search needs
 
-move-costs-requires : tie.Need-move-costs-requires
-move-costs-requires c κs = search needs
+slice-aggregate-gather-3 : tie.Need-slice-aggregate-gather-3
+slice-aggregate-gather-3 c = search needs
 
-move-spans-requires : tie.Need-move-spans-requires
-move-spans-requires c κs = search needs
+slice-aggregate-gather-4 : tie.Need-slice-aggregate-gather-4
+slice-aggregate-gather-4 c = search needs
+
+gather-requires : tie.Need-gather-requires
+gather-requires c κs =
+    let pre = c .before .before .before .before .before .before .before .before .before .before .before .before .before .before .pre in
+    let few = pre .few in
+    let most = pre .most in
+    (pre, record { words = omega arith; values = omega arith; costs = omega arith; spans = omega arith })
+
+slice-aggregate-copy-u32 : tie.Need-slice-aggregate-copy-u32
+slice-aggregate-copy-u32 c = search needs
+
+mul-copy-u32 : tie.Need-mul-copy-u32
+mul-copy-u32 c = search needs
+
+copy-u32-requires : tie.Need-copy-u32-requires
+copy-u32-requires c κs = search needs
+
+slice-aggregate-copy-i32 : tie.Need-slice-aggregate-copy-i32
+slice-aggregate-copy-i32 c = search needs
+
+mul-copy-i32 : tie.Need-mul-copy-i32
+mul-copy-i32 c = search needs
+
+copy-i32-requires : tie.Need-copy-i32-requires
+copy-i32-requires c κs = search needs
+
+slice-aggregate-copy-f32 : tie.Need-slice-aggregate-copy-f32
+slice-aggregate-copy-f32 c = search needs
+
+copy-f32-requires : tie.Need-copy-f32-requires
+copy-f32-requires c κs =
+    let pre = c .before .before .before .before .before .before .before .before .before .before .before .before .before .before .before .before .before .before .before .before .before .before .before .before .before .before .before .before .before .before .pre in
+    let kept = c .before .before .before .before .before .before .before .before .before .before .before .before .before .before .before .gather .kept in
+    (omega (arith, kept .1 .1 .1 .1 .1 .1 .1 .1 .1 .1 .1 .0, pre .most), pre .room .costs)
+
+slice-aggregate-copy-u32-2 : tie.Need-slice-aggregate-copy-u32-2
+slice-aggregate-copy-u32-2 c = search needs
+
+mul-copy-u32-2 : tie.Need-mul-copy-u32-2
+mul-copy-u32-2 c = omega (arith, c .before .before .before .before .before .before .before .before .before .before .before .before .before .before .before .before .before .before .before .before .before .before .before .before .before .before .before .before .before .before .before .before .before .before .pre .most)
+
+copy-u32-requires-2 : tie.Need-copy-u32-requires-2
+copy-u32-requires-2 c κs =
+    let pre = c .before .before .before .before .before .before .before .before .before .before .before .before .before .before .before .before .before .before .before .before .before .before .before .before .before .before .before .before .before .before .before .before .before .before .before .pre in
+    let kept = c .before .before .before .before .before .before .before .before .before .before .before .before .before .before .before .before .before .before .before .before .gather .kept in
+    (omega (arith, kept .1 .1 .1 .1 .1 .1 .1 .1 .1 .1 .1 .1 .0, pre .most), pre .room .spans)
 
 same-length : tie.Need-same-length
 same-length c = search needs
@@ -29,20 +79,38 @@ same-length-4 c = search needs
 
 returns : tie.Need-returns
 returns c =
-    let move-words = c .before .before .before .before .before .before .before .before .before .before .before .before .before .move-words in
-    let move-values = c .before .before .before .before .before .before .before .before .before .move-values in
-    let move-costs = c .before .before .before .before .before .before .move-costs in
-    let move-spans = c .before .before .move-spans in
-    λ j. record { words = move-words .ensures j; values = move-values .ensures j; costs = move-costs .ensures j; spans = move-spans .ensures j }
+    let start = c .before .before .before .before .before .before .before .before .before .before .before .before .before .before .before .before .before .before .before .before .before .before .before .before .before .before .before .before .before .before .before .before .before .before .before .before .before .before in
+    let few = start .pre .few in
+    let most = start .pre .most in
+    let gather = c .before .before .before .before .before .before .before .before .before .before .before .before .before .before .before .before .before .before .before .before .before .before .before .gather in
+    let copy-u32 = c .before .before .before .before .before .before .before .before .before .before .before .before .before .before .before .before .copy-u32 in
+    let copy-i32 = c .before .before .before .before .before .before .before .before .before .before .before .copy-i32 in
+    let copy-f32 = c .before .before .before .before .before .before .before .copy-f32 in
+    let copy-u322 = c .before .before .copy-u322 in
+    (λ j. nodeLists (copy-u32 .ensures j) (copy-i32 .ensures j) (copy-f32 .ensures j) (copy-u322 .ensures j))
+    ∙ copied-back _ (length-entries _ _ _ _ (start .args .n)) (start .args .count) 40955 16382 8191 16382 _ few
+    (omega arith, omega arith, omega arith, omega arith) (gather .ensures)
 
 pub move-nodes-spec : {M : Type 1} → statement M
 move-nodes-spec =
     tie.close
     (tie.spec
-    move-words-requires
-    move-values-requires
-    move-costs-requires
-    move-spans-requires
+    slice-aggregate-gather
+    slice-aggregate-gather-2
+    slice-aggregate-gather-3
+    slice-aggregate-gather-4
+    gather-requires
+    slice-aggregate-copy-u32
+    mul-copy-u32
+    copy-u32-requires
+    slice-aggregate-copy-i32
+    mul-copy-i32
+    copy-i32-requires
+    slice-aggregate-copy-f32
+    copy-f32-requires
+    slice-aggregate-copy-u32-2
+    mul-copy-u32-2
+    copy-u32-requires-2
     same-length
     same-length-2
     same-length-3
