@@ -2,12 +2,10 @@
 // `preorder`, and the lists moved into that order by `moves`.
 ghost use mathlib.Core.Path.{_≡_};
 ghost use mathlib.Core.List.{List};
-ghost use Prim.Native.Nat.{ℕ, _+_, _≤_, _<_};
-ghost use lib.ListN.{length, getD};
-ghost use lib.Ieee.{nan};
+ghost use Prim.Native.Nat.{ℕ, _≤_, _<_};
+ghost use lib.ListN.{length};
 ghost use Rattle.model.specs.Single.{singles};
 ghost use Rattle.model.specs.Grow.{Entry};
-ghost use Rattle.layout.specs.Layout.{predAt, offsetAt, HasNodes};
 ghost use Rattle.layout.specs.Tree.{NodeLists, nodeLists};
 ghost use Rattle.prune.specs.Prices.{splitPriced, leafPriced, pricedAt, IsNumber, Priceable, AllPriceable, ShowsTree, IsPriced, PricedAs};
 ghost use Rattle.prune.specs.Held.{HoldsTree, Prunable, PrunedAs};
@@ -19,19 +17,6 @@ struct Priced {
     split: bool,
     bits: f64,
     priced: f64,
-}
-
-// What stands beside node i.
-fn info_of(words: &[u32], values: &[i32], costs: &[f32], i: usize) -> NodeInfo
-    requires { ⌜ HasNodes (i + 1) (now words) (now values) (now costs) ⌝ }
-    ensures { λ r. ⌜ (r .cost ≡ getD (now (costs .entry)) i nan) × (r .pred ≡ predAt (now (words .entry)) i)
-        × (r .offset ≡ offsetAt (now (values .entry)) i) ⌝ }
-{
-    NodeInfo {
-        cost: costs[i],
-        pred: words[i * layout::NODE_WORDS + 4],
-        offset: values[i * layout::NODE_VALUES + 1],
-    }
 }
 
 // A leaf's price is its own cost.
@@ -64,10 +49,10 @@ fn price_split(info: NodeInfo, bits: f64, kept: f64) -> Priced
 }
 
 // The price of node i, whose children stand behind it and are priced.
-fn price_node(
-    words: &[u32],
-    values: &[i32],
-    costs: &[f32],
+fn price_node<'a>(
+    words: &'a [u32],
+    values: &'a [i32],
+    costs: &'a [f32],
     price: f32,
     bits: &[f64],
     priced: &[f64],
@@ -76,22 +61,22 @@ fn price_node(
     requires { ⌜ Priceable (now words) (now values) (now costs) price (now bits) (now priced) i ⌝ }
     ensures { λ r. ⌜ r ≡ pricedAt (now (words .entry)) (now (costs .entry)) price (now (bits .entry)) (now (priced .entry)) i ⌝ }
 {
-    let info = info_of(words, values, costs, i);
-    let at = i * layout::NODE_WORDS;
-    if words[at] != 1 {
+    let node = layout::node_at(i, words, values, costs);
+    let info = node.info;
+    if node.kind != 1 {
         return price_leaf(info);
     }
-    let gt = words[at + 2] as usize;
-    let le = words[at + 3] as usize;
+    let gt = node.gt as usize;
+    let le = node.le as usize;
     let kept = priced[gt] + priced[le] + price as f64;
     price_split(info, bits[gt] + bits[le], kept)
 }
 
 // Every node's price, from the last node back.
-fn price_all(
-    words: &[u32],
-    values: &[i32],
-    costs: &[f32],
+fn price_all<'a>(
+    words: &'a [u32],
+    values: &'a [i32],
+    costs: &'a [f32],
     count: usize,
     price: f32,
     bits: &mut [f64],
@@ -114,10 +99,10 @@ fn price_all(
 }
 
 // Which nodes are splits still, and the bits of the leaves that survive.
-fn price_nodes(
-    words: &[u32],
-    values: &[i32],
-    costs: &[f32],
+fn price_nodes<'a>(
+    words: &'a [u32],
+    values: &'a [i32],
+    costs: &'a [f32],
     count: usize,
     price: f32,
     splits: &mut [bool],
