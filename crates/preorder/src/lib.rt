@@ -21,8 +21,10 @@ fn push_children(
         (gtAt (now (words .entry)) (node .0)) (leAt (now (words .entry)) (node .0)) depth (now (stack .entry)) ⌝ }
 {
     if kept {
-        stack[depth] = layout::le_of(words, node);
-        stack[depth + 1] = layout::gt_of(words, node);
+        let gt = layout::gt_of(words, node);
+        let le = layout::le_of(words, node);
+        stack[depth] = le;
+        stack[depth + 1] = gt;
         return depth + 2;
     }
     depth

@@ -6,17 +6,17 @@ use borrow.Author.Needs.{needs}
 use Rattle.preorder.proofs.push_children.Statement.{statement}
 use Rattle.preorder.proofs.push_children.Tie as tie
 
+gt-of-requires : tie.Need-gt-of-requires
+gt-of-requires c κs = search needs
+
 le-of-requires : tie.Need-le-of-requires
 le-of-requires c κs = search needs
 
 mul-stack : tie.Need-mul-stack
-mul-stack c = omega (arith, c .before .before .before .before .pre .room (c .before .if1 .taken))
+mul-stack c = omega (arith, c .before .before .before .before .before .pre .room (c .before .before .if1 .taken))
 
 slice-write-stack : tie.Need-slice-write-stack
-slice-write-stack c = omega (arith, c .before .before .before .before .pre .room (c .before .if1 .taken))
-
-gt-of-requires : tie.Need-gt-of-requires
-gt-of-requires c κs = search needs
+slice-write-stack c = omega (arith, c .before .before .before .before .before .pre .room (c .before .before .if1 .taken))
 
 add-stack : tie.Need-add-stack
 add-stack c = omega (arith, c .before .before .before .before .before .pre .room (c .before .before .if1 .taken))
@@ -34,7 +34,7 @@ same-length : tie.Need-same-length
 same-length c = search needs
 
 returns : tie.Need-returns
-returns c = rw (c .before .before .if1 .taken, c .before .le-of .ensures, c .gt-of .ensures) (refl, refl)
+returns c = rw (c .before .before .if1 .taken, c .before .gt-of .ensures, c .le-of .ensures) (refl, refl)
 
 returns-2 : tie.Need-returns-2
 returns-2 c = search needs
@@ -43,10 +43,10 @@ pub push-children-spec : {M : Type 1} → statement M
 push-children-spec =
     tie.close
     (tie.spec
+    gt-of-requires
     le-of-requires
     mul-stack
     slice-write-stack
-    gt-of-requires
     add-stack
     mul-stack-2
     slice-write-stack-2
