@@ -11,7 +11,7 @@ ghost use Rattle.model.specs.Deepen.{seedSplit};
 ghost use Rattle.layout.specs.Layout.{wordsPerNode, valuesPerNode, kindAt, propAt, gtAt, leAt, predAt, valAt, nodeAt, putWords, putValues};
 ghost use Rattle.layout.specs.Layout.{HasWords, HasValues, HasNodes};
 ghost use Rattle.layout.specs.Records.{nodeOf};
-ghost use Rattle.layout.specs.Tree.{nodeLists, HasRoom, put, leafWith, splitWords, firstAt, endAt, putSpan, HasSpans};
+ghost use Rattle.layout.specs.Tree.{nodeLists, rowsPerSpan, HasRoom, put, leafWith, splitWords, firstAt, endAt, putSpan, HasSpans};
 ghost use Rattle.layout.specs.Kept.{infoAt, keptNode};
 ghost use Rattle.layout.specs.Waiting.{queueLists, QueueRoom, PendingAt, putWaitWords};
 
@@ -99,6 +99,29 @@ pub struct Tree {
     pub nodes: usize,
     pub waiting: usize,
     pub bits: f64,
+}
+
+// ---- how much n nodes take: words, values and rows of spans
+
+pub fn words_for(n: usize) -> usize
+    requires { ⌜ n ≤ maxNodes ⌝ }
+    ensures { λ r. ⌜ r ≡ n * wordsPerNode ⌝ }
+{
+    n * NODE_WORDS
+}
+
+pub fn values_for(n: usize) -> usize
+    requires { ⌜ n ≤ maxNodes ⌝ }
+    ensures { λ r. ⌜ r ≡ n * valuesPerNode ⌝ }
+{
+    n * NODE_VALUES
+}
+
+pub fn rows_for(n: usize) -> usize
+    requires { ⌜ n ≤ maxNodes ⌝ }
+    ensures { λ r. ⌜ r ≡ n * rowsPerSpan ⌝ }
+{
+    n * SPAN_ROWS
 }
 
 // ---- one field of a node

@@ -125,8 +125,8 @@ pub fn move_nodes(
         &mut new_costs,
         &mut new_spans,
     );
-    lists::copy_u32(&new_words, count * layout::NODE_WORDS, words);
-    lists::copy_i32(&new_values, count * layout::NODE_VALUES, values);
+    lists::copy_u32(&new_words, layout::words_for(count), words);
+    lists::copy_i32(&new_values, layout::values_for(count), values);
     lists::copy_f32(&new_costs, count, costs);
-    lists::copy_u32(&new_spans, count * layout::SPAN_ROWS, spans);
+    lists::copy_u32(&new_spans, layout::rows_for(count), spans);
 }

@@ -29,8 +29,8 @@ gather-requires c κs =
 slice-aggregate-copy-u32 : tie.Need-slice-aggregate-copy-u32
 slice-aggregate-copy-u32 c = search needs
 
-mul-copy-u32 : tie.Need-mul-copy-u32
-mul-copy-u32 c = search needs
+words-for-requires : tie.Need-words-for-requires
+words-for-requires c κs = search needs
 
 copy-u32-requires : tie.Need-copy-u32-requires
 copy-u32-requires c κs = search needs
@@ -38,8 +38,8 @@ copy-u32-requires c κs = search needs
 slice-aggregate-copy-i32 : tie.Need-slice-aggregate-copy-i32
 slice-aggregate-copy-i32 c = search needs
 
-mul-copy-i32 : tie.Need-mul-copy-i32
-mul-copy-i32 c = search needs
+values-for-requires : tie.Need-values-for-requires
+values-for-requires c κs = search needs
 
 copy-i32-requires : tie.Need-copy-i32-requires
 copy-i32-requires c κs = search needs
@@ -49,21 +49,21 @@ slice-aggregate-copy-f32 c = search needs
 
 copy-f32-requires : tie.Need-copy-f32-requires
 copy-f32-requires c κs =
-    let pre = c .before .before .before .before .before .before .before .before .before .before .before .before .before .before .before .before .before .before .before .before .before .before .before .before .before .before .before .before .before .before .pre in
-    let kept = c .before .before .before .before .before .before .before .before .before .before .before .before .before .before .before .gather .kept in
+    let pre = c .before .before .before .before .before .before .before .before .before .before .before .before .before .before .before .before .before .before .before .before .before .before .before .before .before .before .before .before .before .before .before .before .pre in
+    let kept = c .before .before .before .before .before .before .before .before .before .before .before .before .before .before .before .before .before .gather .kept in
     (omega (arith, kept .1 .1 .1 .1 .1 .1 .1 .1 .1 .1 .1 .0, pre .most), pre .room .costs)
 
 slice-aggregate-copy-u32-2 : tie.Need-slice-aggregate-copy-u32-2
 slice-aggregate-copy-u32-2 c = search needs
 
-mul-copy-u32-2 : tie.Need-mul-copy-u32-2
-mul-copy-u32-2 c = omega (arith, c .before .before .before .before .before .before .before .before .before .before .before .before .before .before .before .before .before .before .before .before .before .before .before .before .before .before .before .before .before .before .before .before .before .before .pre .most)
+rows-for-requires : tie.Need-rows-for-requires
+rows-for-requires c κs = c .before .before .before .before .before .before .before .before .before .before .before .before .before .before .before .before .before .before .before .before .before .before .before .before .before .before .before .before .before .before .before .before .before .before .before .before .pre .most
 
 copy-u32-requires-2 : tie.Need-copy-u32-requires-2
 copy-u32-requires-2 c κs =
-    let pre = c .before .before .before .before .before .before .before .before .before .before .before .before .before .before .before .before .before .before .before .before .before .before .before .before .before .before .before .before .before .before .before .before .before .before .before .pre in
-    let kept = c .before .before .before .before .before .before .before .before .before .before .before .before .before .before .before .before .before .before .before .before .gather .kept in
-    (omega (arith, kept .1 .1 .1 .1 .1 .1 .1 .1 .1 .1 .1 .1 .0, pre .most), pre .room .spans)
+    let pre = c .before .before .before .before .before .before .before .before .before .before .before .before .before .before .before .before .before .before .before .before .before .before .before .before .before .before .before .before .before .before .before .before .before .before .before .before .before .before .pre in
+    let kept = c .before .before .before .before .before .before .before .before .before .before .before .before .before .before .before .before .before .before .before .before .before .before .before .gather .kept in
+    rw (c .before .rows-for .ensures) (omega (arith, kept .1 .1 .1 .1 .1 .1 .1 .1 .1 .1 .1 .1 .0, pre .most), pre .room .spans)
 
 same-length : tie.Need-same-length
 same-length c = search needs
@@ -79,15 +79,15 @@ same-length-4 c = search needs
 
 returns : tie.Need-returns
 returns c =
-    let start = c .before .before .before .before .before .before .before .before .before .before .before .before .before .before .before .before .before .before .before .before .before .before .before .before .before .before .before .before .before .before .before .before .before .before .before .before .before .before in
+    let start = c .before .before .before .before .before .before .before .before .before .before .before .before .before .before .before .before .before .before .before .before .before .before .before .before .before .before .before .before .before .before .before .before .before .before .before .before .before .before .before .before .before in
     let few = start .pre .few in
     let most = start .pre .most in
-    let gather = c .before .before .before .before .before .before .before .before .before .before .before .before .before .before .before .before .before .before .before .before .before .before .before .gather in
-    let copy-u32 = c .before .before .before .before .before .before .before .before .before .before .before .before .before .before .before .before .copy-u32 in
-    let copy-i32 = c .before .before .before .before .before .before .before .before .before .before .before .copy-i32 in
-    let copy-f32 = c .before .before .before .before .before .before .before .copy-f32 in
-    let copy-u322 = c .before .before .copy-u322 in
-    (λ j. nodeLists (copy-u32 .ensures j) (copy-i32 .ensures j) (copy-f32 .ensures j) (copy-u322 .ensures j))
+    let gather = c .before .before .before .before .before .before .before .before .before .before .before .before .before .before .before .before .before .before .before .before .before .before .before .before .before .before .gather in
+    let words = rw (c .before .before .before .before .before .before .before .before .before .before .before .before .before .before .before .before .before .before .before .before .words-for .ensures) at (c .before .before .before .before .before .before .before .before .before .before .before .before .before .before .before .before .before .before .copy-u32 .ensures) in
+    let values = rw (c .before .before .before .before .before .before .before .before .before .before .before .before .before .before .values-for .ensures) at (c .before .before .before .before .before .before .before .before .before .before .before .before .copy-i32 .ensures) in
+    let costs = c .before .before .before .before .before .before .before .before .copy-f32 .ensures in
+    let spans = rw (c .before .before .before .before .rows-for .ensures) at (c .before .before .copy-u322 .ensures) in
+    (λ j. nodeLists (words j) (values j) (costs j) (spans j))
     ∙ copied-back _ (length-entries _ _ _ _ (start .args .n)) (start .args .count) 40955 16382 8191 16382 _ few
     (omega arith, omega arith, omega arith, omega arith) (gather .ensures)
 
@@ -101,15 +101,15 @@ move-nodes-spec =
     slice-aggregate-gather-4
     gather-requires
     slice-aggregate-copy-u32
-    mul-copy-u32
+    words-for-requires
     copy-u32-requires
     slice-aggregate-copy-i32
-    mul-copy-i32
+    values-for-requires
     copy-i32-requires
     slice-aggregate-copy-f32
     copy-f32-requires
     slice-aggregate-copy-u32-2
-    mul-copy-u32-2
+    rows-for-requires
     copy-u32-requires-2
     same-length
     same-length-2
