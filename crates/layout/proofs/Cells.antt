@@ -3,7 +3,7 @@ use mathlib.Core.Path.{_≡_, refl, sym, ap, _∙_}
 use mathlib.Core.List.{List, [], _∷_, _++_, append-assoc, append-nil}
 use Prim.Native.Nat.{ℕ, zero, suc, _+_, _*_, _-_, _≤_, _<_}
 use native.Mathlib.Nat.{zero-mul, suc-mul, mul-le-mul-right}
-use native.Mathlib.Numerals.{add-one, add-two, add-three, add-four}
+use native.Mathlib.Numerals.{add-one, add-two, add-three, add-four, add-five, add-six}
 use native.Mathlib.Omega.{arith}
 use lib.ListN.{length, getD, set, take, drop, length-append, length-drop, take-append-drop, List·getD-append, length-set}
 use lib.Seq.{sets-eq, paste, take-all, take-at, drop-at, drop-append-add, getD-append-add, drop-drop, length-take-le, split-at, set-split}
@@ -35,9 +35,11 @@ module _ {A : Type 0} (l : List A) (at : ℕ) where
   pub stores-four : (a b c d : A) → at + 4 ≤ length l → set (set (set (set l at a) (at + 1) b) (at + 2) c) (at + 3) d ≡ paste l at (a ∷ b ∷ c ∷ d ∷ []) 4
   stores-four a b c d h = rw (add-one, add-two, add-three) (sets-eq (a ∷ b ∷ c ∷ d ∷ []) l at h)
 
-  pub stores-five : (a b c d e : A) → at + 5 ≤ length l
-      → set (set (set (set (set l at a) (at + 1) b) (at + 2) c) (at + 3) d) (at + 4) e ≡ paste l at (a ∷ b ∷ c ∷ d ∷ e ∷ []) 5
-  stores-five a b c d e h = rw (add-one, add-two, add-three, add-four) (sets-eq (a ∷ b ∷ c ∷ d ∷ e ∷ []) l at h)
+  pub stores-seven : (a b c d e f g : A) → at + 7 ≤ length l
+      → set (set (set (set (set (set (set l at a) (at + 1) b) (at + 2) c) (at + 3) d) (at + 4) e) (at + 5) f) (at + 6) g
+      ≡ paste l at (a ∷ b ∷ c ∷ d ∷ e ∷ f ∷ g ∷ []) 7
+  stores-seven a b c d e f g h =
+      rw (add-one, add-two, add-three, add-four, add-five, add-six) (sets-eq (a ∷ b ∷ c ∷ d ∷ e ∷ f ∷ g ∷ []) l at h)
 
 module _ {E A : Type 0} (f : E → List A) where
   pub laid-append : (s t : List E) → laid f (s ++ t) ≡ laid f s ++ laid f t

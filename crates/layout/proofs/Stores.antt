@@ -11,38 +11,38 @@ use lib.Dec.{eqb, eqb→eq}
 use Rattle.model.specs.Meter.{Meter}
 use Rattle.model.specs.Tree.{Info}
 use Rattle.model.specs.Deepen.{seedSplit}
-use Rattle.layout.specs.Layout.{wordsPerNode, valuesPerNode, kindAt, propAt, gtAt, leAt, predAt, valAt, offsetAt, nodeAt, HasWords, HasValues, putWords, putValues}
-use Rattle.layout.specs.Tree.{NodeListsOf, rowsPerSpan, HasRoom, put, leafBeside, putSpan}
+use Rattle.layout.specs.Layout.{wordsPerNode, valuesPerNode, kindAt, propAt, gtAt, leAt, predAt, valAt, offsetAt, nodeAt, HasWords, HasValues, putWords, putSpan, putValues}
+use Rattle.layout.specs.Tree.{NodeListsOf, HasRoom, put, leafBeside}
 use Rattle.layout.specs.Kept.{infoAt, keptNode}
-use Rattle.layout.proofs.Cells.{set-paste, stores-two, stores-five}
+use Rattle.layout.proofs.Cells.{set-paste, stores-two, stores-seven}
 
 -- the stores of a leaf, list by list
 pub leaf-put : {M : Meter} (x : NodeListsOf M) (i first end : ℕ) (info : Info M) → HasRoom (i + 1) x
     → record {
-      words = putWords i 0 0 0 0 (info .pred) (x .words);
+      words = putSpan i first end (putWords i 0 0 0 0 (info .pred) (x .words));
       values = putValues i (pos 0) (info .offset) (x .values);
       costs = set (x .costs) i (info .cost);
-      spans = putSpan i first end (x .spans);
     }
     ≡ put i (leafBeside info first end) x
 unfolding put
 leaf-put x i first end info room =
-    let words = stores-five (x .words) (i * wordsPerNode) 0 0 0 0 (info .pred) (omega (arith, room .words)) in
+    let words = stores-seven (x .words) (i * wordsPerNode) 0 0 0 0 (info .pred) first end (omega (arith, room .words)) in
     let values = stores-two (x .values) (i * valuesPerNode) (pos 0) (info .offset) (omega (arith, room .values)) in
     let costs = set-paste (x .costs) i (info .cost) (omega (arith, room .costs)) in
-    let spans = stores-two (x .spans) (i * rowsPerSpan) first end (omega (arith, room .spans)) in
     cc
 
 -- ---- a split's fields stay, and what stands beside it is written
 words-kept : (words : List ℕ) (i : ℕ) → HasWords words (i + 1) → eqb (kindAt words i) 1 ≡ true
-    → set words (i * wordsPerNode + 4) 0 ≡ paste words (i * wordsPerNode) (1 ∷ propAt words i ∷ gtAt words i ∷ leAt words i ∷ 0 ∷ []) wordsPerNode
+    → putSpan i 0 0 (set words (i * wordsPerNode + 4) 0)
+    ≡ paste words (i * wordsPerNode) (1 ∷ propAt words i ∷ gtAt words i ∷ leAt words i ∷ 0 ∷ 0 ∷ 0 ∷ []) wordsPerNode
 words-kept words i room k =
     let at : ℕ = i * wordsPerNode in
     let kind : kindAt words i ≡ 1 = eqb→eq (kindAt words i) 1 (rw k tt) in
     let first : set words at 1 ≡ words = ap (set words at) (sym kind) ∙ set-getD words at 0 in
     let four : set (set (set (set words at 1) (at + 1) (getD words (at + 1) 0)) (at + 2) (getD words (at + 2) 0)) (at + 3) (getD words (at + 3) 0) ≡ words =
     rw (first, set-getD words (at + 1) 0, set-getD words (at + 2) 0, set-getD words (at + 3) 0) in
-    ap (λ (l : List ℕ). set l (at + 4) 0) (sym four) ∙ stores-five words at 1 (propAt words i) (gtAt words i) (leAt words i) 0 (omega arith)
+    ap (λ (l : List ℕ). putSpan i 0 0 (set l (at + 4) 0)) (sym four)
+    ∙ stores-seven words at 1 (propAt words i) (gtAt words i) (leAt words i) 0 0 0 (omega arith)
 
 values-kept : (values : List ℤ) (i : ℕ) → HasValues values (i + 1)
     → set values (i * valuesPerNode + 1) (pos 0) ≡ paste values (i * valuesPerNode) (valAt values i ∷ pos 0 ∷ []) valuesPerNode
@@ -52,10 +52,9 @@ values-kept values i room =
 
 pub split-kept : {M : Meter} {x : NodeListsOf M} (i : ℕ) → HasRoom (i + 1) x → eqb (kindAt (x .words) i) 1 ≡ true → {cost : M .Cost} → cost ≡ M .endless
     → record {
-      words = set (x .words) (i * wordsPerNode + 4) 0;
+      words = putSpan i 0 0 (set (x .words) (i * wordsPerNode + 4) 0);
       values = set (x .values) (i * valuesPerNode + 1) (pos 0);
       costs = set (x .costs) i cost;
-      spans = putSpan i 0 0 (x .spans);
     }
     ≡ put i (seedSplit (nodeAt (x .words) (x .values) i) 0) x
 unfolding put
@@ -65,7 +64,6 @@ split-kept {M} {x} i room k e = rw (
   values-kept (x .values) i (room .values),
   e,
   set-paste (x .costs) i (M .endless) (omega (arith, room .costs)),
-  stores-two (x .spans) (i * rowsPerSpan) 0 0 (omega (arith, room .spans)),
 )
 
 -- ---- a node without rows

@@ -1,4 +1,4 @@
--- How a node list stands in three flat lists of numbers: five words, two values and one cost a node. Assumes nothing.
+-- How a node list stands in three flat lists of numbers: seven words, of which two are its span, two values and one cost a node. Assumes nothing.
 use Prim.Native.Nat.{ℕ, _+_, _*_, _/_, _≤_, min}
 use mathlib.Core.Bool.{cond}
 use mathlib.Core.List.{List, map}
@@ -13,12 +13,12 @@ use Rattle.model.specs.Tree.{Node, split, leaf}
 use Rattle.model.specs.Lent.{Stored}
 
 abbrev pub wordsPerNode : ℕ
-wordsPerNode = 5
+wordsPerNode = 7
 
 abbrev pub valuesPerNode : ℕ
 valuesPerNode = 2
 
--- a node's words: kind, property, gt, le and predictor
+-- a node's words: kind, property, gt, le and predictor, and then its span's first row and the row behind its last
 abbrev pub kindAt : List ℕ → ℕ → ℕ
 kindAt words i = getD words (i * wordsPerNode) 0
 
@@ -33,6 +33,12 @@ leAt words i = getD words (i * wordsPerNode + 3) 0
 
 abbrev pub predAt : List ℕ → ℕ → ℕ
 predAt words i = getD words (i * wordsPerNode + 4) 0
+
+abbrev pub firstAt : List ℕ → ℕ → ℕ
+firstAt words i = getD words (i * wordsPerNode + 5) 0
+
+abbrev pub endAt : List ℕ → ℕ → ℕ
+endAt words i = getD words (i * wordsPerNode + 6) 0
 
 -- its values: threshold and offset
 abbrev pub valAt : List ℤ → ℕ → ℤ
@@ -84,11 +90,14 @@ storedInOf M words values costs = map (storedAtOf M words values costs) (range 0
 abbrev pub storedIn : List ℕ → List ℤ → List Float → List (Stored singles)
 storedIn = storedInOf singles
 
--- the lists with the words and the values of node i written
+-- the lists with the words, the span and the values of node i written
 abbrev pub putWords : ℕ → ℕ → ℕ → ℕ → ℕ → ℕ → List ℕ → List ℕ
 putWords i kind prop gt le pred words =
     let at = i * wordsPerNode in
     set (set (set (set (set words at kind) (at + 1) prop) (at + 2) gt) (at + 3) le) (at + 4) pred
+
+abbrev pub putSpan : ℕ → ℕ → ℕ → List ℕ → List ℕ
+putSpan i first end words = let at = i * wordsPerNode in set (set words (at + 5) first) (at + 6) end
 
 abbrev pub putValues : ℕ → ℤ → ℤ → List ℤ → List ℤ
 putValues i val offset values = set (set values (i * valuesPerNode) val) (i * valuesPerNode + 1) offset

@@ -8,6 +8,7 @@ use mathlib.Core.Option.{Option, none, some}
 use lib.ListN.{length, getD, set, take, drop}
 use lib.IntN.{ℤ, pos}
 use lib.Ieee.{Float, nan}
+use denote.Ref.{RefT, now}
 use Rattle.model.specs.Meter.{Meter}
 use Rattle.model.specs.Single.{singles}
 use Rattle.model.specs.Job.{Offer}
@@ -57,6 +58,10 @@ QueueLists = QueueListsOf singles
 
 abbrev pub queueLists : List ℕ → List ℤ → List Float → QueueLists
 queueLists words values gains = record { words = words; values = values; gains = gains }
+
+-- what lent lists hold
+abbrev pub queueNow : RefT (List ℕ) → RefT (List ℤ) → RefT (List Float) → QueueLists
+queueNow words values gains = queueLists (now words) (now values) (now gains)
 
 -- the leaves stand at the front of the lists, and what stands behind them is of no use
 pub record Queued {M : Meter} (waiting : ℕ) (q : QueueListsOf M) (leaves : List (Waiting M)) : Type 0 where

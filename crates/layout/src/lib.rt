@@ -8,21 +8,18 @@ ghost use lib.Seq.{paste};
 ghost use lib.Dec.{eqb};
 ghost use Rattle.model.specs.Settings.{maxNodes, maxRows};
 ghost use Rattle.model.specs.Deepen.{seedSplit};
-ghost use Rattle.layout.specs.Layout.{wordsPerNode, valuesPerNode, kindAt, propAt, gtAt, leAt, predAt, valAt, nodeAt, putWords, putValues};
-ghost use Rattle.layout.specs.Layout.{HasWords, HasValues, HasNodes};
+ghost use Rattle.layout.specs.Layout.{wordsPerNode, valuesPerNode, kindAt, propAt, gtAt, leAt, predAt, firstAt, endAt, valAt, nodeAt};
+ghost use Rattle.layout.specs.Layout.{putWords, putSpan, putValues, HasWords, HasValues, HasNodes};
 ghost use Rattle.layout.specs.Records.{nodeOf};
-ghost use Rattle.layout.specs.Tree.{nodeLists, rowsPerSpan, HasRoom, put, leafWith, splitWords, firstAt, endAt, putSpan, HasSpans};
+ghost use Rattle.layout.specs.Tree.{nodesNow, HasRoom, put, leafWith, splitWords};
 ghost use Rattle.layout.specs.Kept.{infoAt, keptNode};
 ghost use Rattle.layout.specs.Waiting.{queueLists, QueueRoom, PendingAt, putWaitWords};
 
-// A node's words are kind, property, gt, le and predictor.
-pub const NODE_WORDS: usize = 5;
+// A node's words are kind, property, gt, le and predictor, and then its span: the first row and the row behind the last.
+pub const NODE_WORDS: usize = 7;
 
 // Its values are threshold and offset.
 pub const NODE_VALUES: usize = 2;
-
-// Its span is its first row and the row behind its last.
-pub const SPAN_ROWS: usize = 2;
 
 // A waiting leaf's words are node, property and depth.
 pub const LEAF_WORDS: usize = 3;
@@ -33,9 +30,6 @@ pub const MAX_NODES: usize = 8191;
 pub const MAX_WORDS: usize = MAX_NODES * NODE_WORDS;
 
 pub const MAX_VALUES: usize = MAX_NODES * NODE_VALUES;
-
-// Rows of the spans of the most nodes.
-pub const MAX_SPAN_ROWS: usize = MAX_NODES * SPAN_ROWS;
 
 // Properties of a row, and predictors.
 pub const NUM_MA_PROPS: usize = 24;
@@ -101,7 +95,7 @@ pub struct Tree {
     pub bits: f64,
 }
 
-// ---- how much n nodes take: words, values and rows of spans
+// ---- how much n nodes take: words and values
 
 pub fn words_for(n: usize) -> usize
     requires { ⌜ n ≤ maxNodes ⌝ }
@@ -115,13 +109,6 @@ pub fn values_for(n: usize) -> usize
     ensures { λ r. ⌜ r ≡ n * valuesPerNode ⌝ }
 {
     n * NODE_VALUES
-}
-
-pub fn rows_for(n: usize) -> usize
-    requires { ⌜ n ≤ maxNodes ⌝ }
-    ensures { λ r. ⌜ r ≡ n * rowsPerSpan ⌝ }
-{
-    n * SPAN_ROWS
 }
 
 // ---- one field of a node
@@ -241,29 +228,30 @@ pub fn put_leaf(
     words: &mut [u32],
     values: &mut [i32],
     costs: &mut [f32],
-    spans: &mut [u32],
     i: usize,
     info: NodeInfo,
     first: usize,
     end: usize,
 )
-    requires { ⌜ HasRoom (i + 1) (nodeLists (now words) (now values) (now costs) (now spans)) ⌝ }
+    requires { ⌜ HasRoom (i + 1) (nodesNow words values costs) ⌝ }
     requires { ⌜ (i < maxNodes) × (first ≤ maxRows) × (end ≤ maxRows) ⌝ }
-    ensures { λ _. ⌜ nodeLists (now (words .exit)) (now (values .exit)) (now (costs .exit)) (now (spans .exit))
-        ≡ put i (leafWith info first end) (nodeLists (now (words .entry)) (now (values .entry)) (now (costs .entry)) (now (spans .entry))) ⌝ }
+    ensures { λ _. ⌜ nodesNow (words .exit) (values .exit) (costs .exit)
+        ≡ put i (leafWith info first end) (nodesNow (words .entry) (values .entry) (costs .entry)) ⌝ }
 {
-    let at = i * NODE_WORDS;
-    words[at] = 0;
-    words[at + 1] = 0;
-    words[at + 2] = 0;
-    words[at + 3] = 0;
-    words[at + 4] = info.pred;
-    let offset = info.offset;
-    values[i * NODE_VALUES] = 0;
-    values[i * NODE_VALUES + 1] = offset;
-    costs[i] = info.cost;
-    spans[i * SPAN_ROWS] = first as u32;
-    spans[i * SPAN_ROWS + 1] = end as u32;
+    let leaf = MaNode {
+        kind: 0,
+        prop: 0,
+        val: 0,
+        gt: 0,
+        le: 0,
+        info,
+    };
+    put_node(i, leaf, words, values, costs);
+    let span = Span {
+        first: first as u32,
+        end: end as u32,
+    };
+    put_span(words, i, span);
 }
 
 // Node i becomes a split over the nodes gt and gt + 1. Its predictor, its offset, its cost and its span stay.
@@ -281,37 +269,30 @@ pub fn put_split(words: &mut [u32], values: &mut [i32], i: usize, prop: u32, val
 }
 
 // A split keeps its fields: its cost is endless, its predictor and offset are 0, its span (0, 0).
-fn keep_split(words: &mut [u32], values: &mut [i32], costs: &mut [f32], spans: &mut [u32], i: usize)
-    requires { ⌜ HasRoom (i + 1) (nodeLists (now words) (now values) (now costs) (now spans)) ⌝ }
+fn keep_split(words: &mut [u32], values: &mut [i32], costs: &mut [f32], i: usize)
+    requires { ⌜ HasRoom (i + 1) (nodesNow words values costs) ⌝ }
     requires { ⌜ (i < maxNodes) × (eqb (kindAt (now words) i) 1 ≡ true) ⌝ }
-    ensures { λ _. ⌜ nodeLists (now (words .exit)) (now (values .exit)) (now (costs .exit)) (now (spans .exit))
+    ensures { λ _. ⌜ nodesNow (words .exit) (values .exit) (costs .exit)
         ≡ put i (seedSplit (nodeAt (now (words .entry)) (now (values .entry)) i) 0)
-        (nodeLists (now (words .entry)) (now (values .entry)) (now (costs .entry)) (now (spans .entry))) ⌝ }
+        (nodesNow (words .entry) (values .entry) (costs .entry)) ⌝ }
 {
     words[i * NODE_WORDS + 4] = 0;
     values[i * NODE_VALUES + 1] = 0;
     costs[i] = ieee::infinity();
-    spans[i * SPAN_ROWS] = 0;
-    spans[i * SPAN_ROWS + 1] = 0;
+    put_span(words, i, Span { first: 0, end: 0 });
 }
 
 // A node without rows: a split, or a leaf that keeps its predictor and offset and costs nothing.
-pub fn keep_node(
-    words: &mut [u32],
-    values: &mut [i32],
-    costs: &mut [f32],
-    spans: &mut [u32],
-    i: usize,
-)
-    requires { ⌜ HasRoom (i + 1) (nodeLists (now words) (now values) (now costs) (now spans)) ⌝ }
+pub fn keep_node(words: &mut [u32], values: &mut [i32], costs: &mut [f32], i: usize)
+    requires { ⌜ HasRoom (i + 1) (nodesNow words values costs) ⌝ }
     requires { ⌜ i < maxNodes ⌝ }
-    ensures { λ _. ⌜ nodeLists (now (words .exit)) (now (values .exit)) (now (costs .exit)) (now (spans .exit))
+    ensures { λ _. ⌜ nodesNow (words .exit) (values .exit) (costs .exit)
         ≡ put i (keptNode (nodeAt (now (words .entry)) (now (values .entry)) i)
-        (infoAt (nodeLists (now (words .entry)) (now (values .entry)) (now (costs .entry)) (now (spans .entry))) i))
-        (nodeLists (now (words .entry)) (now (values .entry)) (now (costs .entry)) (now (spans .entry))) ⌝ }
+        (infoAt (nodesNow (words .entry) (values .entry) (costs .entry)) i))
+        (nodesNow (words .entry) (values .entry) (costs .entry)) ⌝ }
 {
     if words[i * NODE_WORDS] == 1 {
-        keep_split(words, values, costs, spans, i);
+        keep_split(words, values, costs, i);
         return;
     }
     let info = NodeInfo {
@@ -319,29 +300,29 @@ pub fn keep_node(
         pred: words[i * NODE_WORDS + 4],
         offset: values[i * NODE_VALUES + 1],
     };
-    put_leaf(words, values, costs, spans, i, info, 0, 0);
+    put_leaf(words, values, costs, i, info, 0, 0);
 }
 
 // ---- spans
 
-pub fn span_at(spans: &[u32], i: usize) -> Span
-    requires { ⌜ HasSpans (now spans) (i + 1) ⌝ }
-    ensures { λ r. ⌜ (r .first ≡ firstAt (now (spans .entry)) i) × (r .end ≡ endAt (now (spans .entry)) i) ⌝ }
+pub fn span_at(words: &[u32], i: usize) -> Span
+    requires { ⌜ HasWords (now words) (i + 1) ⌝ }
+    ensures { λ r. ⌜ (r .first ≡ firstAt (now (words .entry)) i) × (r .end ≡ endAt (now (words .entry)) i) ⌝ }
 {
-    let at = i * SPAN_ROWS;
+    let at = i * NODE_WORDS;
     Span {
-        first: spans[at],
-        end: spans[at + 1],
+        first: words[at + 5],
+        end: words[at + 6],
     }
 }
 
-pub fn put_span(spans: &mut [u32], i: usize, span: Span)
-    requires { ⌜ HasSpans (now spans) (i + 1) ⌝ }
-    ensures { λ _. ⌜ now (spans .exit) ≡ putSpan i (span .first) (span .end) (now (spans .entry)) ⌝ }
+pub fn put_span(words: &mut [u32], i: usize, span: Span)
+    requires { ⌜ HasWords (now words) (i + 1) ⌝ }
+    ensures { λ _. ⌜ now (words .exit) ≡ putSpan i (span .first) (span .end) (now (words .entry)) ⌝ }
 {
-    let at = i * SPAN_ROWS;
-    spans[at] = span.first;
-    spans[at + 1] = span.end;
+    let at = i * NODE_WORDS;
+    words[at + 5] = span.first;
+    words[at + 6] = span.end;
 }
 
 // ---- waiting leaves

@@ -1,6 +1,8 @@
 -- `layout::keep_split` meets its contract. Assumes nothing.
+use mathlib.Core.Path.{_∙_}
 use lib.ListN.{length-set}
-use native.Mathlib.Omega.{arith}
+use Prim.Native.Nat.{_+_, _*_}
+use Rattle.layout.specs.Layout.{wordsPerNode}
 use Rattle.layout.proofs.Stores.{split-kept}
 use borrow.Author.Needs.{needs}
 use Rattle.layout.proofs.keep_split.Statement.{statement}
@@ -39,29 +41,11 @@ mul-costs c = search needs
 slice-write-costs : tie.Need-slice-write-costs
 slice-write-costs c = search needs
 
-mul-spans : tie.Need-mul-spans
-mul-spans c = search needs
-
-mul-spans-2 : tie.Need-mul-spans-2
-mul-spans-2 c = search needs
-
-slice-write-spans : tie.Need-slice-write-spans
-slice-write-spans c = search needs
-
-mul-spans-3 : tie.Need-mul-spans-3
-mul-spans-3 c = search needs
-
-add-spans : tie.Need-add-spans
-add-spans c = search needs
-
-mul-spans-4 : tie.Need-mul-spans-4
-mul-spans-4 c = search needs
-
-slice-write-spans-2 : tie.Need-slice-write-spans-2
-slice-write-spans-2 c = simp length-set (omega arith)
+put-span-requires : tie.Need-put-span-requires
+put-span-requires c κs = search needs
 
 same-length : tie.Need-same-length
-same-length c = search needs
+same-length c = let a = c .before .before .before .before .before .before .before .args in c .before .before .put-span .kept .0 ∙ length-set (a .words .now) (a .i * wordsPerNode + 4) 0
 
 same-length-2 : tie.Need-same-length-2
 same-length-2 c = search needs
@@ -69,11 +53,11 @@ same-length-2 c = search needs
 same-length-3 : tie.Need-same-length-3
 same-length-3 c = search needs
 
-same-length-4 : tie.Need-same-length-4
-same-length-4 c = search needs
-
 returns : tie.Need-returns
-returns c = let start = c .before .before .before .before in split-kept (start .args .i) (start .pre .0) (start .pre .1 .1) (c .infinity .ensures)
+returns c =
+    let start = c .before .before .before .before .before .before .before in
+    rw (c .before .before .put-span .ensures)
+    (split-kept (start .args .i) (start .pre .0) (start .pre .1 .1) (c .before .before .before .before .infinity .ensures))
 
 pub keep-split-spec : {M : Type 1} → statement M
 keep-split-spec =
@@ -90,15 +74,8 @@ keep-split-spec =
     infinity-requires
     mul-costs
     slice-write-costs
-    mul-spans
-    mul-spans-2
-    slice-write-spans
-    mul-spans-3
-    add-spans
-    mul-spans-4
-    slice-write-spans-2
+    put-span-requires
     same-length
     same-length-2
     same-length-3
-    same-length-4
     returns)

@@ -8,20 +8,23 @@ use Rattle.layout.proofs.put_span.Tie as tie
 mul-at : tie.Need-mul-at
 mul-at c = search needs
 
-mul-spans : tie.Need-mul-spans
-mul-spans c = search needs
+add-words : tie.Need-add-words
+add-words c = search needs
 
-slice-write-spans : tie.Need-slice-write-spans
-slice-write-spans c = search needs
+mul-words : tie.Need-mul-words
+mul-words c = search needs
 
-add-spans : tie.Need-add-spans
-add-spans c = search needs
+slice-write-words : tie.Need-slice-write-words
+slice-write-words c = search needs
 
-mul-spans-2 : tie.Need-mul-spans-2
-mul-spans-2 c = search needs
+add-words-2 : tie.Need-add-words-2
+add-words-2 c = search needs
 
-slice-write-spans-2 : tie.Need-slice-write-spans-2
-slice-write-spans-2 c = simp length-set (omega arith)
+mul-words-2 : tie.Need-mul-words-2
+mul-words-2 c = search needs
+
+slice-write-words-2 : tie.Need-slice-write-words-2
+slice-write-words-2 c = simp length-set (omega arith)
 
 same-length : tie.Need-same-length
 same-length c = search needs
@@ -34,10 +37,11 @@ put-span-spec =
     tie.close
     (tie.spec
     mul-at
-    mul-spans
-    slice-write-spans
-    add-spans
-    mul-spans-2
-    slice-write-spans-2
+    add-words
+    mul-words
+    slice-write-words
+    add-words-2
+    mul-words-2
+    slice-write-words-2
     same-length
     returns)
