@@ -1,4 +1,2 @@
--- `Read`: what the model reads in the lists after acceptance. `Answered`: the answer of an operation. `Rooms`: their rooms.
+-- `Read`: what is read in the lists after acceptance.
 pub mod Read
-pub mod Answered
-pub mod Rooms

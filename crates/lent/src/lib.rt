@@ -1,9 +1,9 @@
-// The lent lists of learning and deepening as one value (specs/), how many entries of nodes and queue they make, and what both answer.
+// The lists of learning and deepening as one value (specs/), how many places the queue has, and what both answer.
 ghost use mathlib.Core.Path.{_≡_};
 ghost use Prim.Native.Nat.{_/_, _≤_};
 ghost use Rattle.model.specs.Settings.{maxNodes};
 ghost use Rattle.model.specs.Operations.{accepted};
-ghost use Rattle.lent.specs.Lists.{nodesLent, leavesLent};
+ghost use Rattle.lent.specs.Lists.{leavesLent};
 ghost use Rattle.lent.specs.Answer.{outcomeOf, answerOf};
 use layout::Tree;
 
@@ -19,17 +19,6 @@ pub enum Learned {
         number: u32,
         place: u32,
     },
-}
-
-// How many nodes have all their words, values and costs.
-pub fn node_room(words: &[u32], values: &[i32], costs: &[f32]) -> usize
-    ensures { λ r. ⌜ r ≡ nodesLent (now (words .entry)) (now (values .entry)) (now (costs .entry)) ⌝ }
-{
-    let held = lists::smaller(
-        words.len() / layout::NODE_WORDS,
-        values.len() / layout::NODE_VALUES,
-    );
-    lists::smaller(held, costs.len())
 }
 
 // How many waiting leaves have all their words, a threshold and a gain.
