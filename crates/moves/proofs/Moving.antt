@@ -17,40 +17,39 @@ use Rattle.model.specs.Tree.{Node, split, leaf, Info}
 use Rattle.model.specs.Lent.{storedNode}
 use Rattle.model.specs.Grow.{Entry, noEntry}
 use Rattle.model.proofs.Places.{length-each, each-at, each-more}
-use Rattle.layout.specs.Layout.{putWords, putValues}
-use Rattle.layout.specs.Tree.{NodeLists, nodeLists, laid, holding, HasRoom, put, putSpan, firstAt, endAt, entryWords, entryValues, entryCosts, entrySpans}
+use Rattle.layout.specs.Layout.{wordsPerNode, valuesPerNode, firstAt, endAt, putWords, putSpan, putValues}
+use Rattle.layout.specs.Tree.{NodeLists, nodeLists, laid, holding, HasRoom, put, entryWords, entryValues, entryCosts}
 use Rattle.layout.specs.Records.{recordOf, nodeOf}
 use Rattle.layout.specs.declared.MaNode.{MaNode}
-use Rattle.layout.proofs.Cells.{set-paste, stores-two, stores-five, laid-append, laid-length}
+use Rattle.layout.proofs.Cells.{set-paste, stores-two, stores-seven, laid-append, laid-length}
 use Rattle.layout.proofs.Held.{words-each, SameLengths, room-fewer, room-same, holding-lengths, holding-none, put-more}
 use Rattle.moves.specs.Moves.{recordFrom, entryFrom, entriesFrom}
 
 -- ---- the stores of a record and of a span are an entry put
 abbrev stored : ℕ → MaNode → ℕ → ℕ → NodeLists → NodeLists
 stored q m first end z =
-    nodeLists (putWords q (m .kind) (m .prop) (m .gt) (m .le) (m .info .pred) (z .words)) (putValues q (m .val) (m .info .offset) (z .values))
-    (set (z .costs) q (m .info .cost)) (putSpan q first end (z .spans))
+    nodeLists (putSpan q first end (putWords q (m .kind) (m .prop) (m .gt) (m .le) (m .info .pred) (z .words)))
+    (putValues q (m .val) (m .info .offset) (z .values)) (set (z .costs) q (m .info .cost))
 
 module _ (z : NodeLists) (q first end : ℕ) (room : HasRoom (q + 1) z) where
-  fields-put : (m : MaNode) (e : Entry singles) → entryWords e ≡ m .kind ∷ m .prop ∷ m .gt ∷ m .le ∷ m .info .pred ∷ []
-      → entryValues e ≡ m .val ∷ m .info .offset ∷ [] → entryCosts e ≡ m .info .cost ∷ [] → entrySpans e ≡ first ∷ end ∷ []
+  fields-put : (m : MaNode) (e : Entry singles)
+      → entryWords e ≡ m .kind ∷ m .prop ∷ m .gt ∷ m .le ∷ m .info .pred ∷ first ∷ end ∷ []
+      → entryValues e ≡ m .val ∷ m .info .offset ∷ [] → entryCosts e ≡ m .info .cost ∷ []
       → stored q m first end z ≡ put q e z
   unfolding put
-  fields-put m e a b c d = rw (
+  fields-put m e a b c = rw (
     a,
     b,
     c,
-    d,
-    stores-five (z .words) (q * 5) (m .kind) (m .prop) (m .gt) (m .le) (m .info .pred) (omega (arith, room .words)),
-    stores-two (z .values) (q * 2) (m .val) (m .info .offset) (omega (arith, room .values)),
+    stores-seven (z .words) (q * wordsPerNode) (m .kind) (m .prop) (m .gt) (m .le) (m .info .pred) first end (omega (arith, room .words)),
+    stores-two (z .values) (q * valuesPerNode) (m .val) (m .info .offset) (omega (arith, room .values)),
     set-paste (z .costs) q (m .info .cost) (omega (arith, room .costs)),
-    stores-two (z .spans) (q * 2) first end (omega (arith, room .spans)),
   )
 
   node-put : (n : Node) (i : Info singles)
       → stored q (recordOf (storedNode n i)) first end z ≡ put q (record { node = n; info = i; span = record { first = first; end = end }; depth = 0; offer = none }) z
-  node-put (split p v g l) i = fields-put _ _ refl refl refl refl
-  node-put leaf i = fields-put _ _ refl refl refl refl
+  node-put (split p v g l) i = fields-put _ _ refl refl refl
+  node-put leaf i = fields-put _ _ refl refl refl
 
 -- ---- the first entries are gathered
 module _ (x : NodeLists) (splits : List Bool) (order places : List ℕ) where
@@ -78,14 +77,14 @@ module _ (x : NodeLists) (splits : List Bool) (order places : List ℕ) where
 
     pub gathered-more : (m : MaNode) (first end : ℕ) → q < n
         → m ≡ recordFrom (nodeOf (x .words) (x .values) (x .costs) (getD order q 0)) (getD splits (getD order q 0) false) places
-        → first ≡ firstAt (x .spans) (getD order q 0) → end ≡ endAt (x .spans) (getD order q 0)
+        → first ≡ firstAt (x .words) (getD order q 0) → end ≡ endAt (x .words) (getD order q 0)
         → stored q m first end z ≡ holding (entriesFrom x splits order places (q + 1)) y
     unfolding entriesFrom
     gathered-more m first end lt is a b =
         let t : List (Entry singles) = entriesFrom x splits order places q in
         let next : HasRoom (length t + 1) y = rw (length-entries q) (room-fewer room (omega arith)) in
         let more : entriesFrom x splits order places (q + 1) ≡ t ++ (entryAt q ∷ []) = rw (add-one q) (each-more entryAt q) in
-        rw (is, a, b) (node-put z q (firstAt (x .spans) (getD order q 0)) (endAt (x .spans) (getD order q 0)) (gathered-room lt) (entryAt q .node) (entryAt q .info))
+        rw (is, a, b) (node-put z q (firstAt (x .words) (getD order q 0)) (endAt (x .words) (getD order q 0)) (gathered-room lt) (entryAt q .node) (entryAt q .info))
         ∙ ap₂ (λ (k : ℕ) (l : NodeLists). put k (entryAt q) l) (sym (length-entries q)) held ∙ put-more t y (entryAt q) next
         ∙ ap (λ (s : List (Entry singles)). holding s y) (sym more)
 
@@ -126,14 +125,14 @@ module _ {A : Type 0} where
         ∙ ap (λ (k : ℕ). length p + k) (length-replicate (more * w) b) ∙ sym parts in
         rw (zero-add, front, all, sized)
 
--- all four, with blanks behind the n entries
-pub copied-back : (t : List (Entry singles)) {n : ℕ} → length t ≡ n → (count ws vs cs ss : ℕ) (x : NodeLists) → n ≤ count
-    → (count * 5 ≤ ws) × (count * 2 ≤ vs) × (count ≤ cs) × (count * 2 ≤ ss) → {z : NodeLists}
-    → z ≡ holding t (nodeLists (replicate ws 0) (replicate vs (pos 0)) (replicate cs (ofBits binary32 0)) (replicate ss 0))
-    → nodeLists (paste (x .words) 0 (z .words) (count * 5)) (paste (x .values) 0 (z .values) (count * 2)) (paste (x .costs) 0 (z .costs) count)
-    (paste (x .spans) 0 (z .spans) (count * 2)) ≡ holding (t ++ replicate (count - n) noEntry) x
+-- all three, with blanks behind the n entries
+pub copied-back : (t : List (Entry singles)) {n : ℕ} → length t ≡ n → (count ws vs cs : ℕ) (x : NodeLists) → n ≤ count
+    → (count * wordsPerNode ≤ ws) × (count * valuesPerNode ≤ vs) × (count ≤ cs) → {z : NodeLists}
+    → z ≡ holding t (nodeLists (replicate ws 0) (replicate vs (pos 0)) (replicate cs (ofBits binary32 0)))
+    → nodeLists (paste (x .words) 0 (z .words) (count * wordsPerNode)) (paste (x .values) 0 (z .values) (count * valuesPerNode))
+    (paste (x .costs) 0 (z .costs) count) ≡ holding (t ++ replicate (count - n) noEntry) x
 unfolding holding ofBits
-copied-back t {n} many count ws vs cs ss x le most {z} e =
+copied-back t {n} many count ws vs cs x le most {z} e =
     let few : length t ≤ count = omega arith in
     let costs : paste (x .costs) 0 (writtenOver (laid entryCosts t) (replicate cs (ofBits binary32 0))) count
     ≡ writtenOver (laid entryCosts (t ++ replicate (count - length t) noEntry)) (x .costs) =
@@ -142,8 +141,7 @@ copied-back t {n} many count ws vs cs ss x le most {z} e =
     rw (
       e,
       ← many,
-      copied entryWords 5 words-each 0 refl t count ws (x .words) few (most .0),
-      copied entryValues 2 (λ d. refl) (pos 0) refl t count vs (x .values) few (most .1),
+      copied entryWords wordsPerNode words-each 0 refl t count ws (x .words) few (most .0),
+      copied entryValues valuesPerNode (λ d. refl) (pos 0) refl t count vs (x .values) few (most .1),
       costs,
-      copied entrySpans 2 (λ d. refl) 0 refl t count ss (x .spans) few (most .3),
     )

@@ -11,8 +11,8 @@ use Rattle.model.specs.Single.{singles}
 use Rattle.model.specs.Tree.{Node, split, leaf}
 use Rattle.model.specs.Lent.{storedNode}
 use Rattle.model.specs.Grow.{Entry, noEntry}
-use Rattle.layout.specs.Layout.{gtAt, leAt}
-use Rattle.layout.specs.Tree.{NodeLists, HasRoom, firstAt, endAt}
+use Rattle.layout.specs.Layout.{gtAt, leAt, firstAt, endAt}
+use Rattle.layout.specs.Tree.{NodeLists, HasRoom}
 use Rattle.layout.specs.Kept.{infoAt}
 use Rattle.layout.specs.Values.{infoIs}
 use Rattle.layout.specs.Records.{recordOf, nodeOf}
@@ -32,7 +32,7 @@ entryFrom x kept places i =
     record {
       node = nodeFrom (nodeOf (x .words) (x .values) (x .costs) i) kept places;
       info = infoAt x i;
-      span = record { first = firstAt (x .spans) i; end = endAt (x .spans) i };
+      span = record { first = firstAt (x .words) i; end = endAt (x .words) i };
       depth = 0;
       offer = none;
     }

@@ -9,7 +9,7 @@ ghost use Rattle.model.specs.Tree.{leaf};
 ghost use Rattle.model.specs.Lent.{storedNode};
 ghost use Rattle.layout.specs.Values.{infoIs};
 ghost use Rattle.layout.specs.Records.{recordOf};
-ghost use Rattle.layout.specs.Tree.{nodeLists, holding, HasRoom};
+ghost use Rattle.layout.specs.Tree.{nodesNow, holding, HasRoom};
 ghost use Rattle.moves.specs.Moves.{recordFrom, entriesFrom, compacted, AllMovable};
 use layout::MaNode;
 use layout::NodeInfo;
@@ -54,7 +54,6 @@ fn gather<'a, 'b>(
     words: &'a [u32],
     values: &'a [i32],
     costs: &'a [f32],
-    spans: &[u32],
     splits: &[bool],
     order: &[u32],
     places: &[u32],
@@ -63,26 +62,21 @@ fn gather<'a, 'b>(
     new_words: &'b mut [u32],
     new_values: &'b mut [i32],
     new_costs: &'b mut [f32],
-    new_spans: &mut [u32],
 )
-    requires { ⌜ AllMovable (nodeLists (now words) (now values) (now costs) (now spans))
-        (now splits) (now order) (now places) n count ⌝ }
-    requires { ⌜ HasRoom n (nodeLists (now «new_words») (now «new_values») (now «new_costs») (now «new_spans»)) ⌝ }
-    ensures { λ _. ⌜ nodeLists (now («new_words» .exit)) (now («new_values» .exit)) (now («new_costs» .exit))
-        (now («new_spans» .exit))
-        ≡ holding (entriesFrom
-        (nodeLists (now (words .entry)) (now (values .entry)) (now (costs .entry)) (now (spans .entry)))
+    requires { ⌜ AllMovable (nodesNow words values costs) (now splits) (now order) (now places) n count ⌝ }
+    requires { ⌜ HasRoom n (nodesNow «new_words» «new_values» «new_costs») ⌝ }
+    ensures { λ _. ⌜ nodesNow («new_words» .exit) («new_values» .exit) («new_costs» .exit)
+        ≡ holding (entriesFrom (nodesNow (words .entry) (values .entry) (costs .entry))
         (now (splits .entry)) (now (order .entry)) (now (places .entry)) n)
-        (nodeLists (now («new_words» .entry)) (now («new_values» .entry)) (now («new_costs» .entry))
-        (now («new_spans» .entry))) ⌝ }
+        (nodesNow («new_words» .entry) («new_values» .entry) («new_costs» .entry)) ⌝ }
 {
     for q in 0..n {
         let i = order[q] as usize;
         let node = layout::node_at(i, words, values, costs);
-        let span = layout::span_at(spans, i);
+        let span = layout::span_at(words, i);
         let moved = renumbered(node, splits[i], places);
         layout::put_node(q, moved, new_words, new_values, new_costs);
-        layout::put_span(new_spans, q, span);
+        layout::put_span(new_words, q, span);
     }
 }
 
@@ -91,30 +85,25 @@ pub fn move_nodes(
     words: &mut [u32],
     values: &mut [i32],
     costs: &mut [f32],
-    spans: &mut [u32],
     splits: &[bool],
     order: &[u32],
     places: &[u32],
     n: usize,
     count: usize,
 )
-    requires { ⌜ AllMovable (nodeLists (now words) (now values) (now costs) (now spans))
-        (now splits) (now order) (now places) n count ⌝ }
-    ensures { λ _. ⌜ nodeLists (now (words .exit)) (now (values .exit)) (now (costs .exit)) (now (spans .exit))
-        ≡ holding (compacted
-        (nodeLists (now (words .entry)) (now (values .entry)) (now (costs .entry)) (now (spans .entry)))
+    requires { ⌜ AllMovable (nodesNow words values costs) (now splits) (now order) (now places) n count ⌝ }
+    ensures { λ _. ⌜ nodesNow (words .exit) (values .exit) (costs .exit)
+        ≡ holding (compacted (nodesNow (words .entry) (values .entry) (costs .entry))
         (now (splits .entry)) (now (order .entry)) (now (places .entry)) n count)
-        (nodeLists (now (words .entry)) (now (values .entry)) (now (costs .entry)) (now (spans .entry))) ⌝ }
+        (nodesNow (words .entry) (values .entry) (costs .entry)) ⌝ }
 {
     let mut new_words = [0u32; layout::MAX_WORDS];
     let mut new_values = [0i32; layout::MAX_VALUES];
     let mut new_costs = [0.0f32; layout::MAX_NODES];
-    let mut new_spans = [0u32; layout::MAX_SPAN_ROWS];
     gather(
         words,
         values,
         costs,
-        spans,
         splits,
         order,
         places,
@@ -123,10 +112,8 @@ pub fn move_nodes(
         &mut new_words,
         &mut new_values,
         &mut new_costs,
-        &mut new_spans,
     );
     lists::copy_u32(&new_words, layout::words_for(count), words);
     lists::copy_i32(&new_values, layout::values_for(count), values);
     lists::copy_f32(&new_costs, count, costs);
-    lists::copy_u32(&new_spans, layout::rows_for(count), spans);
 }

@@ -16,15 +16,12 @@ slice-aggregate-gather-2 c = search needs
 slice-aggregate-gather-3 : tie.Need-slice-aggregate-gather-3
 slice-aggregate-gather-3 c = search needs
 
-slice-aggregate-gather-4 : tie.Need-slice-aggregate-gather-4
-slice-aggregate-gather-4 c = search needs
-
 gather-requires : tie.Need-gather-requires
 gather-requires c κs =
-    let pre = c .before .before .before .before .before .before .before .before .before .before .before .before .before .before .pre in
+    let pre = c .before .before .before .before .before .before .before .before .before .before .before .pre in
     let few = pre .few in
     let most = pre .most in
-    (pre, record { words = omega arith; values = omega arith; costs = omega arith; spans = omega arith })
+    (pre, record { words = omega arith; values = omega arith; costs = omega arith })
 
 slice-aggregate-copy-u32 : tie.Need-slice-aggregate-copy-u32
 slice-aggregate-copy-u32 c = search needs
@@ -49,21 +46,9 @@ slice-aggregate-copy-f32 c = search needs
 
 copy-f32-requires : tie.Need-copy-f32-requires
 copy-f32-requires c κs =
-    let pre = c .before .before .before .before .before .before .before .before .before .before .before .before .before .before .before .before .before .before .before .before .before .before .before .before .before .before .before .before .before .before .before .before .pre in
-    let kept = c .before .before .before .before .before .before .before .before .before .before .before .before .before .before .before .before .before .gather .kept in
-    (omega (arith, kept .1 .1 .1 .1 .1 .1 .1 .1 .1 .1 .1 .0, pre .most), pre .room .costs)
-
-slice-aggregate-copy-u32-2 : tie.Need-slice-aggregate-copy-u32-2
-slice-aggregate-copy-u32-2 c = search needs
-
-rows-for-requires : tie.Need-rows-for-requires
-rows-for-requires c κs = c .before .before .before .before .before .before .before .before .before .before .before .before .before .before .before .before .before .before .before .before .before .before .before .before .before .before .before .before .before .before .before .before .before .before .before .before .pre .most
-
-copy-u32-requires-2 : tie.Need-copy-u32-requires-2
-copy-u32-requires-2 c κs =
-    let pre = c .before .before .before .before .before .before .before .before .before .before .before .before .before .before .before .before .before .before .before .before .before .before .before .before .before .before .before .before .before .before .before .before .before .before .before .before .before .before .pre in
-    let kept = c .before .before .before .before .before .before .before .before .before .before .before .before .before .before .before .before .before .before .before .before .before .before .before .gather .kept in
-    rw (c .before .rows-for .ensures) (omega (arith, kept .1 .1 .1 .1 .1 .1 .1 .1 .1 .1 .1 .1 .0, pre .most), pre .room .spans)
+    let pre = c .before .before .before .before .before .before .before .before .before .before .before .before .before .before .before .before .before .before .before .before .before .before .before .before .before .before .before .before .pre in
+    let kept = c .before .before .before .before .before .before .before .before .before .before .before .before .before .before .before .before .gather .kept in
+    (omega (arith, kept .1 .1 .1 .1 .1 .1 .1 .1 .1 .1 .0, pre .most), pre .room .costs)
 
 same-length : tie.Need-same-length
 same-length c = search needs
@@ -74,22 +59,17 @@ same-length-2 c = search needs
 same-length-3 : tie.Need-same-length-3
 same-length-3 c = search needs
 
-same-length-4 : tie.Need-same-length-4
-same-length-4 c = search needs
-
 returns : tie.Need-returns
 returns c =
-    let start = c .before .before .before .before .before .before .before .before .before .before .before .before .before .before .before .before .before .before .before .before .before .before .before .before .before .before .before .before .before .before .before .before .before .before .before .before .before .before .before .before .before in
+    let start = c .before .before .before .before .before .before .before .before .before .before .before .before .before .before .before .before .before .before .before .before .before .before .before .before .before .before .before .before .before .before .before in
     let few = start .pre .few in
     let most = start .pre .most in
-    let gather = c .before .before .before .before .before .before .before .before .before .before .before .before .before .before .before .before .before .before .before .before .before .before .before .before .before .before .gather in
-    let words = rw (c .before .before .before .before .before .before .before .before .before .before .before .before .before .before .before .before .before .before .before .before .words-for .ensures) at (c .before .before .before .before .before .before .before .before .before .before .before .before .before .before .before .before .before .before .copy-u32 .ensures) in
-    let values = rw (c .before .before .before .before .before .before .before .before .before .before .before .before .before .before .values-for .ensures) at (c .before .before .before .before .before .before .before .before .before .before .before .before .copy-i32 .ensures) in
-    let costs = c .before .before .before .before .before .before .before .before .copy-f32 .ensures in
-    let spans = rw (c .before .before .before .before .rows-for .ensures) at (c .before .before .copy-u322 .ensures) in
-    (λ j. nodeLists (words j) (values j) (costs j) (spans j))
-    ∙ copied-back _ (length-entries _ _ _ _ (start .args .n)) (start .args .count) 40955 16382 8191 16382 _ few
-    (omega arith, omega arith, omega arith, omega arith) (gather .ensures)
+    let gather = c .before .before .before .before .before .before .before .before .before .before .before .before .before .before .before .before .before .before .before .gather in
+    let words = rw (c .before .before .before .before .before .before .before .before .before .before .before .before .before .before .words-for .ensures) at (c .before .before .before .before .before .before .before .before .before .before .before .before .copy-u32 .ensures) in
+    let values = rw (c .before .before .before .before .before .before .before .before .values-for .ensures) at (c .before .before .before .before .before .before .copy-i32 .ensures) in
+    let costs = c .before .before .copy-f32 .ensures in
+    (λ j. nodeLists (words j) (values j) (costs j))
+    ∙ copied-back _ (length-entries _ _ _ _ (start .args .n)) (start .args .count) 57337 16382 8191 _ few (omega arith, omega arith, omega arith) (gather .ensures)
 
 pub move-nodes-spec : {M : Type 1} → statement M
 move-nodes-spec =
@@ -98,7 +78,6 @@ move-nodes-spec =
     slice-aggregate-gather
     slice-aggregate-gather-2
     slice-aggregate-gather-3
-    slice-aggregate-gather-4
     gather-requires
     slice-aggregate-copy-u32
     words-for-requires
@@ -108,11 +87,7 @@ move-nodes-spec =
     copy-i32-requires
     slice-aggregate-copy-f32
     copy-f32-requires
-    slice-aggregate-copy-u32-2
-    rows-for-requires
-    copy-u32-requires-2
     same-length
     same-length-2
     same-length-3
-    same-length-4
     returns)
