@@ -10,37 +10,34 @@ use Rattle.model.specs.Settings.{maxRows}
 use Rattle.model.specs.Meter.{Meter}
 use Rattle.model.specs.Tree.{isLeaf}
 use Rattle.model.specs.Grow.{Entry, noEntry}
-use Rattle.layout.specs.Layout.{kindAt, HasWords}
-use Rattle.layout.specs.Tree.{NodeListsOf, holding, HasRoom, firstAt, endAt, HasSpans}
+use Rattle.layout.specs.Layout.{kindAt, firstAt, endAt, HasWords}
+use Rattle.layout.specs.Tree.{NodeListsOf, holding, HasRoom}
 use Rattle.mode.specs.Column.{stepTokens}
 use Rattle.mode.specs.Lent.{Rebasable}
 use Rattle.rows.specs.Flat.{Flat, rowCount, Shaped}
 
 -- the tokens after the step on node i, if it is a leaf
-abbrev pub leafTokens : List ℕ → List ℕ → Bool → List ℤ → ℕ → List ℕ → List ℕ
-leafTokens words spans uses res i tok = cond (eqb (kindAt words i) 1) tok (stepTokens uses (firstAt spans i) (endAt spans i) res tok)
+abbrev pub leafTokens : List ℕ → Bool → List ℤ → ℕ → List ℕ → List ℕ
+leafTokens words uses res i tok = cond (eqb (kindAt words i) 1) tok (stepTokens uses (firstAt words i) (endAt words i) res tok)
 
 -- after the steps on the first n nodes
-unfoldable pub settledTokens : List ℕ → List ℕ → Bool → List ℤ → ℕ → List ℕ → List ℕ
-settledTokens words spans uses res zero tok = tok
-settledTokens words spans uses res (suc n) tok = leafTokens words spans uses res n (settledTokens words spans uses res n tok)
+unfoldable pub settledTokens : List ℕ → Bool → List ℤ → ℕ → List ℕ → List ℕ
+settledTokens words uses res zero tok = tok
+settledTokens words uses res (suc n) tok = leafTokens words uses res n (settledTokens words uses res n tok)
 
 -- node i is there, and where modes are in use its rows are, if it is a leaf
-pub record LeafSettles (words spans : List ℕ) (i : ℕ) (uses : Bool) (tok : List ℕ) (res : List ℤ) (counts : List ℕ) : Type 0 where
+pub record LeafSettles (words : List ℕ) (i : ℕ) (uses : Bool) (tok : List ℕ) (res : List ℤ) (counts : List ℕ) : Type 0 where
   pub words-there : HasWords words (i + 1)
-  pub spans-there : HasSpans spans (i + 1)
-  pub rows : uses ≡ true → eqb (kindAt words i) 1 ≡ false → Rebasable tok res (firstAt spans i) (endAt spans i) counts
+  pub rows : uses ≡ true → eqb (kindAt words i) 1 ≡ false → Rebasable tok res (firstAt words i) (endAt words i) counts
 
 -- all `count` nodes are
-pub record Settleable (words spans : List ℕ) (count : ℕ) (uses : Bool) (tok : List ℕ) (res : List ℤ) (counts : List ℕ) : Type 0 where
+pub record Settleable (words : List ℕ) (count : ℕ) (uses : Bool) (tok : List ℕ) (res : List ℤ) (counts : List ℕ) : Type 0 where
   pub words-there : HasWords words count
-  pub spans-there : HasSpans spans count
-  pub rows : uses ≡ true → (i : ℕ) → i < count → eqb (kindAt words i) 1 ≡ false → Rebasable tok res (firstAt spans i) (endAt spans i) counts
+  pub rows : uses ≡ true → (i : ℕ) → i < count → eqb (kindAt words i) 1 ≡ false → Rebasable tok res (firstAt words i) (endAt words i) counts
 
--- words and spans hold the tree, over those lent, and the leaves' spans lie in the rows
-pub record HoldsLeaves {M : Meter} (words spans : List ℕ) (count : ℕ) (uses : Bool) (x : Flat) (tree : List (Entry M)) (lent : NodeListsOf M) : Type 0 where
+-- the words hold the tree, over those lent, and the leaves' spans lie in the rows
+pub record HoldsLeaves {M : Meter} (words : List ℕ) (count : ℕ) (uses : Bool) (x : Flat) (tree : List (Entry M)) (lent : NodeListsOf M) : Type 0 where
   pub words-are : words ≡ holding tree lent .words
-  pub spans-are : spans ≡ holding tree lent .spans
   pub room : HasRoom (length tree) lent
   pub many : count ≡ length tree
   pub shaped : Shaped x

@@ -10,45 +10,39 @@ ghost use Rattle.rows.specs.Flat.{flat, Changed};
 ghost use Rattle.settle.specs.Leaves.{leafTokens, LeafSettles, Settleable, HoldsLeaves};
 
 // The mode step on the span of node i, if it is a leaf.
-fn settle_leaf(
-    words: &[u32],
-    spans: &[u32],
-    i: usize,
-    uses: bool,
-    tok: &mut [u8],
-    res: &[i32],
-    counts: &mut [u32],
-)
-    requires { ⌜ LeafSettles (now words) (now spans) i uses (now tok) (now res) (now counts) ⌝ }
-    ensures { λ _. ⌜ now (tok .exit) ≡ leafTokens (now (words .entry)) (now (spans .entry)) uses (now (res .entry)) i (now (tok .entry)) ⌝ }
+fn settle_leaf(words: &[u32], i: usize, uses: bool, tok: &mut [u8], res: &[i32], counts: &mut [u32])
+    requires { ⌜ LeafSettles (now words) i uses (now tok) (now res) (now counts) ⌝ }
+    ensures { λ _. ⌜ now (tok .exit) ≡ leafTokens (now (words .entry)) uses (now (res .entry)) i (now (tok .entry)) ⌝ }
     ensures { λ _. ⌜ now (counts .exit) ≡ now (counts .entry) ⌝ }
 {
     if layout::kind_at(words, i) == 1 {
         return;
     }
-    let span = layout::span_at(spans, i);
+    let span = layout::span_at(words, i);
     let first = span.first as usize;
     let end = span.end as usize;
     mode::mode_step(uses, tok, res, first, end, counts);
 }
 
-// Makes the zero predictor's tokens anew on each leaf's span, in ascending order of the nodes' numbers. The first 4,096 counts are 0, before and after.
+// Makes the zero predictor's tokens anew on each leaf's span, in ascending order of the nodes' numbers.
+// The first 4,096 counts are 0, before and after.
 pub fn settle_leaves(
     words: &[u32],
-    spans: &[u32],
     count: usize,
     uses: bool,
     tok: &mut [u8],
     res: &[i32],
     counts: &mut [u32],
 )
-    requires { ⌜ Settleable (now words) (now spans) count uses (now tok) (now res) (now counts) ⌝ }
+    requires { ⌜ Settleable (now words) count uses (now tok) (now res) (now counts) ⌝ }
     ensures { λ _. ⌜ ((tree : List (Entry singles)) (lent : NodeLists) (props : List ℤ)
-        → HoldsLeaves (now (words .entry)) (now (spans .entry)) count uses (flat props (now (tok .entry)) (now (res .entry))) tree lent
-        → Changed (settled uses tree) (flat props (now (tok .entry)) (now (res .entry))) (flat props (now (tok .exit)) (now (res .entry)))) ⌝ }
+        → HoldsLeaves (now (words .entry)) count uses (flat props (now (tok .entry)) (now (res .entry))) tree lent
+        → Changed (settled uses tree)
+        (flat props (now (tok .entry)) (now (res .entry)))
+        (flat props (now (tok .exit)) (now (res .entry)))) ⌝ }
     ensures { λ _. ⌜ now (counts .exit) ≡ now (counts .entry) ⌝ }
 {
     for i in 0..count {
-        settle_leaf(words, spans, i, uses, tok, res, counts);
+        settle_leaf(words, i, uses, tok, res, counts);
     }
 }

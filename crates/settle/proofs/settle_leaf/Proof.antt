@@ -26,7 +26,7 @@ mode-step-requires : tie.Need-mode-step-requires
 mode-step-requires c κs =
     let spanned = c .before .before .before .before in
     let branch = spanned .before in
-    let start = c .before .before .before .before .before .before .before .before .before .before .before in
+    let start = c .before .before .before .before .before .before .before .before .before .before in
     let is = ap (λ (k : ℕ). eqb k 1) (sym (branch .before .kind-at .ensures)) ∙ ne-eqb _ _ (branch .if1 .left) in
     record { used = λ u. rw (spanned .span-at .ensures .0, spanned .span-at .ensures .1) (start .pre .rows u is) }
 

@@ -9,22 +9,21 @@ use Rattle.settle.proofs.settle_leaves.Statement.{statement}
 use Rattle.settle.proofs.settle_leaves.Tie as tie
 
 abbrev Inv-loop : tie.InvT-loop
-Inv-loop words spans count uses tok₀ res counts₀ i₀ tok counts i =
-    (i ≤ count) × (length tok ≡ length tok₀) × (tok ≡ settledTokens words spans uses res i tok₀) × (counts ≡ counts₀)
+Inv-loop words count uses tok₀ res counts₀ i₀ tok counts i =
+    (i ≤ count) × (length tok ≡ length tok₀) × (tok ≡ settledTokens words uses res i tok₀) × (counts ≡ counts₀)
 
 abbrev μ-loop : tie.MeasureT-loop
-μ-loop words spans count uses tok₀ res counts₀ i₀ tok counts i = count - i
+μ-loop words count uses tok₀ res counts₀ i₀ tok counts i = count - i
 
 loop-holds : tie.Need-loop-holds Inv-loop μ-loop
-loop-holds c = (omega arith, refl, settled-none _ _ _ _ _, refl)
+loop-holds c = (omega arith, refl, settled-none _ _ _ _, refl)
 
 settle-leaf-requires : tie.Need-settle-leaf-requires Inv-loop μ-loop
-settle-leaf-requires c κs = let pre = c .before .before .before .before .before .before .before .before .pre in
+settle-leaf-requires c κs = let pre = c .before .before .before .before .before .before .before .pre in
     let here = c .before .before .before .loop in
     let next = c .before .before .loop-test .taken in
     record {
       words-there = omega (arith, pre .words-there, next);
-      spans-there = omega (arith, pre .spans-there, next);
       rows = λ u k. let r = pre .rows u (here .i) next k in record { span = r .span; tokens = here .inv .1 ∙ r .tokens; clear = rw (here .inv .3) (r .clear) };
     }
 
@@ -36,13 +35,13 @@ loop-less c = omega arith
 
 loop-again : tie.Need-loop-again Inv-loop μ-loop
 loop-again c =
-    let args = c .before .before .before .before .before .before .before .before .before .before .before .before .before .args in
+    let args = c .before .before .before .before .before .before .before .before .before .before .before .before .args in
     let here = c .before .before .before .before .before .before .before .before .loop in
     let step = c .before .before .before .before .settle-leaf in (
       omega arith,
-      step .kept .1 .1 .1 .1 .0 ∙ here .inv .1,
-      step .ensures .0 ∙ ap (leafTokens (args .words .now) (args .spans .now) (args .uses) (args .res .now) (here .i)) (here .inv .2)
-          ∙ settled-more (args .words .now) (args .spans .now) (args .uses) (args .res .now) (here .i) (args .tok .now),
+      step .kept .1 .1 .1 .0 ∙ here .inv .1,
+      step .ensures .0 ∙ ap (leafTokens (args .words .now) (args .uses) (args .res .now) (here .i)) (here .inv .2)
+          ∙ settled-more (args .words .now) (args .uses) (args .res .now) (here .i) (args .tok .now),
       step .ensures .1 ∙ here .inv .3,
     )
 
@@ -54,7 +53,7 @@ same-length-2 c = ap length (c .before .loop .inv .3)
 
 returns : tie.Need-returns Inv-loop μ-loop
 returns c =
-    let args = c .before .before .before .before .before .before .args in
+    let args = c .before .before .before .before .before .args in
     let here = c .before .loop in
     let all : here .i ≡ args .count = omega arith in (
       λ tree lent props holds. settles holds (rw all at (here .inv .2)) (here .inv .1),
