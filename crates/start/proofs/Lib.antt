@@ -1,3 +1,2 @@
--- `Accepting`: what the checks ensure. `Flatly`: flat bits.
-pub mod Accepting
+-- `Flatly`: flat bits.
 pub mod Flatly

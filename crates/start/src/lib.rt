@@ -1,4 +1,5 @@
-// What learning and deepening begin with once the checks have passed: lists that fit (proofs/Accepting), and flat bits (document 01, "Flat bits").
+// What learning and deepening begin with once the checks have passed: lists that fit (specs/Starts), and flat bits
+// (document 01, "Flat bits").
 ghost use mathlib.Core.Path.{_≡_};
 ghost use mathlib.Core.List.{List};
 ghost use lib.IntN.{ℤ};
@@ -18,7 +19,8 @@ pub fn flat_bits(
     rows: usize,
 ) -> f64
     requires { ⌜ Flattened s (now logs) (now counts) (now props) (now tok) rows ⌝ }
-    ensures { λ r. ⌜ ((rs : List ℤ) → r ≡ flatBits (settingsOf s) (now (logs .entry)) (rowsHeld (now (props .entry)) (now (tok .entry)) rs)) ⌝ }
+    ensures { λ r. ⌜ ((rs : List ℤ) → r
+        ≡ flatBits (settingsOf s) (now (logs .entry)) (rowsHeld (now (props .entry)) (now (tok .entry)) rs)) ⌝ }
     ensures { λ _. ⌜ now (counts .exit) ≡ now (counts .entry) ⌝ }
 {
     let alphabet = s.alphabet as usize;
