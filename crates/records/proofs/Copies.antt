@@ -2,7 +2,7 @@
 use mathlib.Core.Path.{_≡_, refl, ap, _∙_}
 use mathlib.Core.Logic.{inl, inr}
 use Prim.Native.Nat.{ℕ, zero, suc, _+_, _*_, _≤_, _<_}
-use native.Mathlib.Nat.{add-zero, le-of-lt, le-of-suc-le-suc, eq-or-lt-of-le, mul-le-mul-right, suc-mul}
+use native.Mathlib.Nat.{add-zero, le-of-lt, le-of-suc-le-suc, lt-of-lt-of-le, eq-or-lt-of-le, mul-le-mul-right, suc-mul}
 use native.Mathlib.Omega.{arith}
 use mathlib.Core.List.{List, [], _∷_}
 use lib.ListN.{length, getD, set, length-set}
@@ -61,8 +61,8 @@ module _ {A : Type 0} where
       let long = length-set l i v in
       rw next (sets-at vs (set l i v) (suc i) k d (omega arith) (omega arith))
 
--- ---- lists `g n` that come of the first by n turns, of which turn i stores the w cells `f i` from cell i * w on
-module _ {A : Type 0} (w : ℕ) (f : ℕ → List A) (each : (i : ℕ) → length (f i) ≡ w) (g : ℕ → List A) (turn : (i : ℕ) → g (suc i) ≡ sets (g i) (i * w) (f i)) where
+-- ---- lists `g n` that come of the first by n turns, of which turn i stores the cells `f i`, at most w, from cell i * w on
+module _ {A : Type 0} (w : ℕ) (f : ℕ → List A) (each : (i : ℕ) → length (f i) ≤ w) (g : ℕ → List A) (turn : (i : ℕ) → g (suc i) ≡ sets (g i) (i * w) (f i)) where
   turns-length : (n : ℕ) → length (g n) ≡ length (g 0)
   turns-length zero = refl
   turns-length (suc n) = ap length (turn n) ∙ length-sets (g n) (n * w) (f n) ∙ turns-length n
@@ -74,15 +74,15 @@ module _ {A : Type 0} (w : ℕ) (f : ℕ → List A) (each : (i : ℕ) → lengt
       let over = suc-mul i w in
       omega arith
 
-  turns-at : (n i k : ℕ) (d : A) → i < n → k < w → n * w ≤ length (g 0) → getD (g n) (i * w + k) d ≡ getD (f i) k d
+  turns-at : (n i k : ℕ) (d : A) → i < n → k < length (f i) → n * w ≤ length (g 0) → getD (g n) (i * w + k) d ≡ getD (f i) k d
   turns-at zero i k d h s r = absurd (omega arith)
   turns-at (suc n) i k d h s r =
       let next = suc-mul n w in
       let size = each n in
       let long = turns-length n in
       rw (turn n) (elim (eq-or-lt-of-le (le-of-suc-le-suc h)) [
-        | inl e ↦ rw e (sets-at (f n) (g n) (n * w) k d (omega arith) (omega arith))
-        | inr l ↦ sets-before (f n) (g n) (n * w) (i * w + k) d (before i k n l s) ∙ turns-at n i k d l s (omega arith)
+        | inl e ↦ rw e (sets-at (f n) (g n) (n * w) k d (rw e at s) (omega arith))
+        | inr l ↦ sets-before (f n) (g n) (n * w) (i * w + k) d (before i k n l (lt-of-lt-of-le s (each i))) ∙ turns-at n i k d l s (omega arith)
       ])
 
 -- ---- records in the number lists
@@ -97,17 +97,26 @@ module _ (ns : List MaNode) where
   abbrev values : ℕ → List ℤ
   values i = node i .val ∷ node i .info .offset ∷ []
 
-  words-turn : (w : List ℕ) (i : ℕ) → wordsFrom ns (suc i) w ≡ sets (wordsFrom ns i w) (i * 5) (words i)
+  -- there is room for them before the next node's; a node's span stands behind its words
+  words-fit : (i : ℕ) → length (words i) ≤ wordsPerNode
+  words-fit i = omega arith
+
+  values-fit : (i : ℕ) → length (values i) ≤ valuesPerNode
+  values-fit i = omega arith
+
+  -- node i's cells one by one, whatever the stride
+  words-turn : (w : List ℕ) (i : ℕ) → wordsFrom ns (suc i) w ≡ sets (wordsFrom ns i w) (i * wordsPerNode) (words i)
   words-turn w i =
-      let one : i * 5 + 1 ≡ suc (i * 5) = omega arith in
-      let two : i * 5 + 2 ≡ suc (suc (i * 5)) = omega arith in
-      let three : i * 5 + 3 ≡ suc (suc (suc (i * 5))) = omega arith in
-      let four : i * 5 + 4 ≡ suc (suc (suc (suc (i * 5)))) = omega arith in
+      let at : ℕ = i * wordsPerNode in
+      let one : at + 1 ≡ suc at = omega arith in
+      let two : at + 2 ≡ suc (suc at) = omega arith in
+      let three : at + 3 ≡ suc (suc (suc at)) = omega arith in
+      let four : at + 4 ≡ suc (suc (suc (suc at))) = omega arith in
       rw (one, two, three, four) refl
 
-  values-turn : (v : List ℤ) (i : ℕ) → valuesFrom ns (suc i) v ≡ sets (valuesFrom ns i v) (i * 2) (values i)
+  values-turn : (v : List ℤ) (i : ℕ) → valuesFrom ns (suc i) v ≡ sets (valuesFrom ns i v) (i * valuesPerNode) (values i)
   values-turn v i =
-      let one : i * 2 + 1 ≡ suc (i * 2) = omega arith in
+      let one : i * valuesPerNode + 1 ≡ suc (i * valuesPerNode) = omega arith in
       rw one refl
 
   costs-filled : (n : ℕ) (c : List Float) → costsFrom ns n c ≡ filled (λ i. node i .info .cost) n c
@@ -116,10 +125,10 @@ module _ (ns : List MaNode) where
 
   -- each list stays as long
   pub length-words : (n : ℕ) (w : List ℕ) → length (wordsFrom ns n w) ≡ length w
-  length-words n w = turns-length wordsPerNode words (λ i. refl) (λ i. wordsFrom ns i w) (words-turn w) n
+  length-words n w = turns-length wordsPerNode words words-fit (λ i. wordsFrom ns i w) (words-turn w) n
 
   pub length-values : (n : ℕ) (v : List ℤ) → length (valuesFrom ns n v) ≡ length v
-  length-values n v = turns-length valuesPerNode values (λ i. refl) (λ i. valuesFrom ns i v) (values-turn v) n
+  length-values n v = turns-length valuesPerNode values values-fit (λ i. valuesFrom ns i v) (values-turn v) n
 
   pub length-costs : (n : ℕ) (c : List Float) → length (costsFrom ns n c) ≡ length c
   length-costs n c = ap length (costs-filled n c) ∙ length-filled (λ i. node i .info .cost) n c
@@ -128,10 +137,10 @@ module _ (ns : List MaNode) where
   pub read-back : (n : ℕ) (w : List ℕ) (v : List ℤ) (c : List Float) → HasNodes n w v c → (i : ℕ) → i < n
       → storedAt (wordsFrom ns n w) (valuesFrom ns n v) (costsFrom ns n c) i ≡ storedOf (getD ns i noRecord)
   read-back n w v c h i l =
-      let word : (k : ℕ) → k < wordsPerNode → getD (wordsFrom ns n w) (i * wordsPerNode + k) 0 ≡ getD (words i) k 0 =
-      λ k s. turns-at wordsPerNode words (λ i. refl) (λ i. wordsFrom ns i w) (words-turn w) n i k 0 l s (h .words-there) in
-      let value : (k : ℕ) → k < valuesPerNode → getD (valuesFrom ns n v) (i * valuesPerNode + k) (pos 0) ≡ getD (values i) k (pos 0) =
-      λ k s. turns-at valuesPerNode values (λ i. refl) (λ i. valuesFrom ns i v) (values-turn v) n i k (pos 0) l s (h .values-there) in
+      let word : (k : ℕ) → k < length (words i) → getD (wordsFrom ns n w) (i * wordsPerNode + k) 0 ≡ getD (words i) k 0 =
+      λ k s. turns-at wordsPerNode words words-fit (λ i. wordsFrom ns i w) (words-turn w) n i k 0 l s (h .words-there) in
+      let value : (k : ℕ) → k < length (values i) → getD (valuesFrom ns n v) (i * valuesPerNode + k) (pos 0) ≡ getD (values i) k (pos 0) =
+      λ k s. turns-at valuesPerNode values values-fit (λ i. valuesFrom ns i v) (values-turn v) n i k (pos 0) l s (h .values-there) in
       let cost : getD (costsFrom ns n c) i nan ≡ node i .info .cost = ap (λ (r : List Float). getD r i nan) (costs-filled n c) ∙ filled-at (λ i. node i .info .cost) n c i nan l (h .costs-there) in
       let kind = rw add-zero at (word 0 (omega arith)) in
       let val = rw add-zero at (value 0 (omega arith)) in
