@@ -11,7 +11,7 @@ use lib.IntN.{ℤ, pos}
 use lib.Ieee.{Float, nan}
 use Rattle.model.specs.Single.{singles}
 use Rattle.model.specs.Lent.{Stored}
-use Rattle.layout.specs.Layout.{wordsPerNode, valuesPerNode, storedAt, HasNodes}
+use Rattle.layout.specs.Layout.{wordsPerNode, valuesPerNode, storedAt, HasWords, HasNodes}
 use Rattle.layout.specs.declared.MaNode.{MaNode}
 use Rattle.records.specs.Records.{wordsFrom, valuesFrom, costsFrom, filled}
 use Rattle.layout.specs.Records.{storedOf, recordOf, noRecord}
@@ -104,7 +104,6 @@ module _ (ns : List MaNode) where
   values-fit : (i : ℕ) → length (values i) ≤ valuesPerNode
   values-fit i = omega arith
 
-  -- node i's cells one by one, whatever the stride
   words-turn : (w : List ℕ) (i : ℕ) → wordsFrom ns (suc i) w ≡ sets (wordsFrom ns i w) (i * wordsPerNode) (words i)
   words-turn w i =
       let at : ℕ = i * wordsPerNode in
@@ -147,8 +146,11 @@ module _ (ns : List MaNode) where
       rw (kind, word 1 (omega arith), word 2 (omega arith), word 3 (omega arith), word 4 (omega arith), val, value 1 (omega arith), cost) refl
 
 -- ---- places
+pub one-words : {n : ℕ} (w : List ℕ) → HasWords w n → {i : ℕ} → i < n → HasWords w (i + 1)
+one-words w h l = omega (arith, h)
+
 pub one-place : {n : ℕ} {w : List ℕ} {v : List ℤ} {c : List Float} → HasNodes n w v c → {i : ℕ} → i < n → HasNodes (i + 1) w v c
-one-place h l = record { words-there = omega (arith, h .words-there); values-there = omega (arith, h .values-there); costs-there = omega (arith, h .costs-there) }
+one-place {w = w} h l = record { words-there = one-words w (h .words-there) l; values-there = omega (arith, h .values-there); costs-there = omega (arith, h .costs-there) }
 
 -- the first n places are there as long as the lists stay as long
 pub same-places : {n : ℕ} {w w' : List ℕ} {v v' : List ℤ} {c c' : List Float} → length w' ≡ length w → length v' ≡ length v → length c' ≡ length c → HasNodes n w v c → HasNodes n w' v' c'

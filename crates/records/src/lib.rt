@@ -1,12 +1,13 @@
-// Node records in a lent slice, as a caller holds them: they go to the core's number lists and come back from them. Only the two loops see the slice, and
-// are walked by hand.
+// Node and span records in lent slices, as a caller holds them: nodes go to the core's number lists and come back from them, and spans come from their
+// words. Only the three loops see the slices, and are walked by hand.
 ghost use mathlib.Core.Path.{_≡_};
 ghost use lib.ListN.{length};
 ghost use Prim.Native.Nat.{_≤_};
-ghost use Rattle.layout.specs.Layout.{HasNodes};
+ghost use Rattle.layout.specs.Layout.{HasWords, HasNodes};
 ghost use Rattle.records.specs.Records.{filled, wordsFrom, valuesFrom, costsFrom};
-ghost use Rattle.layout.specs.Records.{nodeOf};
+ghost use Rattle.layout.specs.Records.{nodeOf, spanIn};
 use layout::MaNode;
+use layout::Span;
 
 // The first n records go to the number lists.
 pub fn from_records<'n, 'a>(
@@ -46,6 +47,19 @@ pub fn to_records<'n, 'a>(
     let mut i: usize = 0;
     while i < n {
         nodes[i] = layout::node_at(i, words, values, costs);
+        i = i + 1;
+    }
+}
+
+// The first n span records become those of the nodes' words; the others stay.
+pub fn to_spans<'n, 'a>(spans: &'n mut [Span], n: usize, words: &'a [u32])
+    requires { ⌜ n ≤ length (now spans) ⌝ }
+    requires { ⌜ HasWords (now words) n ⌝ }
+    ensures { λ _. ⌜ now (spans .exit) ≡ filled (spanIn (now (words .entry))) n (now (spans .entry)) ⌝ }
+{
+    let mut i: usize = 0;
+    while i < n {
+        spans[i] = layout::span_at(words, i);
         i = i + 1;
     }
 }
