@@ -4,7 +4,7 @@ use mathlib.Core.Bool.{Bool, true, false, cond}
 use mathlib.Core.List.{List, [], _∷_, _++_, map, append-nil}
 use Prim.Native.Nat.{ℕ, _+_, _-_, _*_, _/_, _^_, _≤_, _<_}
 use native.Mathlib.Omega.{arith}
-use lib.ListN.{length, getD, replicate, length-map, getD-replicate}
+use lib.ListN.{length, getD, replicate, length-map, length-append, length-replicate, getD-replicate}
 use lib.Ieee.{Float}
 use Rattle.ieee.specs.Within.{within-not-nan}
 use Rattle.model.specs.Meter.{Meter}
@@ -33,6 +33,7 @@ use Rattle.checks.specs.Given.{settingsOf}
 use Rattle.checks.specs.declared.Settings.{Settings}
 use Rattle.layout.specs.declared.Tree.{Tree}
 use Rattle.layout.specs.Tree.{laid, NodeListsOf, NodeLists, holding}
+use Rattle.lent.specs.declared.Finished.{Finished}
 use Rattle.lent.specs.Lists.{recordWords, recordValues, recordCosts, spanRows, nodesAfter, clearQueue}
 use Rattle.mode.specs.Lent.{Clear}
 use Rattle.prune.specs.Held.{HoldsTree, Prunable, PrunedAs}
@@ -236,10 +237,21 @@ module _ {s : Settings} {logs : List Float} {counts : List ℕ} {x : Flat} {n : 
     new-leaves =
         subst (λ (es : List (Entry singles)). length es + 1 ≡ 2 * leafCount (treeNodes es)) (pruned-tree j st) (leaves-are (pruned j st .tree) (cut-done .sound .rooted) (cut-done .rooted))
 
-    pub finished-lists : {y : Flat} {f : Tree} (flatly : Float) → Changed (λ (rows : List Row). cond (s .settle) (settled (usesOf s x) new rows) rows) x y
-        → f .nodes ≡ kept .nodes → f .waiting ≡ 0 → f .bits ≡ kept .bits → FinishedTo x y m f lent (finished j st flatly)
+    -- as many entries were written as had grown
+    all-written : length (map (λ (e : Entry singles). e .span) (withVacated (length tree) (settledState j (pruned j st) .tree))) ≡ r .nodes
+    all-written =
+        let es = settledState j (pruned j st) .tree in
+        let long = length-map (withVacated (length tree) es) (λ (e : Entry singles). e .span) in
+        let both = length-append es (replicate (length tree - length es) noEntry) in
+        let rest = length-replicate (length tree - length es) (noEntry {M = singles}) in
+        let shorter : length es ≤ length tree = omega (arith, ap length (settled-tree j (pruned j st)), cut-done .shorter) in
+        let grown = g .grown .counted in
+        omega arith
+
+    pub finished-lists : {y : Flat} {f : Finished} (flatly : Float) → Changed (λ (rows : List Row). cond (s .settle) (settled (usesOf s x) new rows) rows) x y
+        → f .nodes ≡ kept .nodes → f .written ≡ r .nodes → f .bits ≡ kept .bits → f .flat ≡ flatly → FinishedTo x y m f lent (finished j st flatly)
     unfolding finished resultOf
-    finished-lists {f = f} flatly changed nodes none-wait bits =
+    finished-lists {f = f} flatly changed nodes written bits same =
         let count = k .nodes in
         let two = new-leaves in
         let many : leafCount (treeNodes (settledState j (pruned j st) .tree)) ≡ leafCount (treeNodes new) = ap (λ (es : List (Entry singles)). leafCount (treeNodes es)) done-tree in
@@ -250,16 +262,32 @@ module _ {s : Settings} {logs : List Float} {counts : List ℕ} {x : Flat} {n : 
           nodes = k .lists ∙ ap (λ (es : List (Entry singles)). holding (withVacated (length tree) es) lent) (sym done-tree) ∙ sym (after-holding (settledState j (pruned j st)) (length tree) flatly lent);
           counted = nodes ∙ k .nodes ∙ ap length (sym done-tree);
           few = omega (arith, few-kept);
+          written = written ∙ sym all-written;
           leaves = half ∙ sym many;
-          none-wait = none-wait;
           summed = bits ∙ k .bits-are ∙ ap (cutBits price tree) (g .grown .summed) ∙ sym done-bits;
+          flat = same;
         }
 
 -- ---- after growth
 
 -- what was finished from rows of as many entries
-pub finished-from : {x x' y : Flat} {n lent : NodeLists} {r : Tree} {made : Result singles} → SameSize x x' → FinishedTo x' y n r lent made → FinishedTo x y n r lent made
-finished-from size f = record { rows = f .rows; size = size-then size (f .size); nodes = f .nodes; counted = f .counted; few = f .few; leaves = f .leaves; none-wait = f .none-wait; summed = f .summed }
+pub finished-from : {x x' y : Flat} {n lent : NodeLists} {r : Finished} {made : Result singles} → SameSize x x' → FinishedTo x' y n r lent made → FinishedTo x y n r lent made
+finished-from size f = record {
+  rows = f .rows;
+  size = size-then size (f .size);
+  nodes = f .nodes;
+  counted = f .counted;
+  few = f .few;
+  written = f .written;
+  leaves = f .leaves;
+  summed = f .summed;
+  flat = f .flat;
+}
+
+-- flat bits by another name
+pub flat-is : {x y : Flat} {n lent : NodeLists} {r : Finished} (j : Job singles) (st : State singles) {a b : Float} → a ≡ b
+    → FinishedTo x y n r lent (finished j st a) → FinishedTo x y n r lent (finished j st b)
+flat-is {x} {y} {n} {lent} {r} j st e f = subst (λ (v : Float). FinishedTo x y n r lent (finished j st v)) e f
 
 module _ {s : Settings} {logs : List Float} {counts : List ℕ} {x : Flat} {n : NodeLists} {q : QueueLists} {tree : Tree} {more : ℕ} {lent : NodeLists} {st : State singles}
     {seeds : ℕ → Bool} {given : List Row} (g : Grows s logs counts x n q tree more lent st seeds given) where
@@ -292,7 +320,7 @@ module _ {s : Settings} {logs : List Float} {counts : List ℕ} {x : Flat} {n : 
     }
 
     -- what is finished from there
-    pub finished-so : {z : Flat} {l : NodeLists} {f : Tree} (flatly : Float) → FinishedTo y z l f lent (finished (jobIn s logs y) grownState flatly) → FinishedTo x z l f lent (finished (jobIn s logs x) grownState flatly)
+    pub finished-so : {z : Flat} {l : NodeLists} {f : Finished} (flatly : Float) → FinishedTo y z l f lent (finished (jobIn s logs y) grownState flatly) → FinishedTo x z l f lent (finished (jobIn s logs x) grownState flatly)
     finished-so {z} {l} {f} flatly e =
         finished-from (to .size) (subst (λ (u : Bool). FinishedTo y z l f lent (finished (jobOf single (settingsOf s) logs u) grownState flatly)) (sym (uses-still s (to .size))) e)
 

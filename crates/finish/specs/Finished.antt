@@ -20,6 +20,7 @@ use Rattle.model.proofs.SingleLawful.{single-lawful}
 use Rattle.checks.specs.declared.Settings.{Settings}
 use Rattle.layout.specs.declared.Tree.{Tree}
 use Rattle.layout.specs.Tree.{NodeLists, holding, HasRoom}
+use Rattle.lent.specs.declared.Finished.{Finished}
 use Rattle.lent.specs.Lists.{nodesAfter}
 use Rattle.rows.specs.Flat.{Flat, flat, heldIn, rowCount, SameSize}
 use Rattle.state.specs.Fitting.{usesOf}
@@ -61,13 +62,14 @@ pub record Finishable (s : Settings) (tok : List ℕ) (res : List ℤ) (lists : 
   pub given : List Row
   pub grew : Grew s logs counts (flat props tok res) lists r lent state seeds given
 
--- y holds the rows, the lists the nodes and spans, and r counts and bits; there is one leaf more than splits, and none waits
-pub record FinishedTo (x y : Flat) (lists : NodeLists) (r : Tree) (lent : NodeLists) (made : Result singles) : Type 0 where
+-- y holds the rows, the lists the nodes and spans, and r counts and bits; there is one leaf more than splits
+pub record FinishedTo (x y : Flat) (lists : NodeLists) (r : Finished) (lent : NodeLists) (made : Result singles) : Type 0 where
   pub rows : heldIn y ≡ made .rows
   pub size : SameSize x y
   pub nodes : lists ≡ nodesAfter made lent
   pub counted : r .nodes ≡ made .count
   pub few : r .nodes ≤ maxNodes
+  pub written : r .written ≡ length (made .spans)
   pub leaves : (r .nodes + 1) / 2 ≡ made .leaves
-  pub none-wait : r .waiting ≡ 0
   pub summed : r .bits ≡ made .bits
+  pub flat : r .flat ≡ made .flat

@@ -20,6 +20,7 @@ ghost use Rattle.state.specs.Grows.{jobIn, Grows, Growable};
 ghost use Rattle.finish.specs.Finished.{Cut, Grew, Finishable, FinishedTo};
 use checks::Settings;
 use layout::Tree;
+use lent::Finished;
 
 // Prunes if the price is above 0.
 fn prune_if(
@@ -63,7 +64,7 @@ fn settle_if(
     }
 }
 
-// Prunes and settles what has grown. No leaf waits any more.
+// Prunes and settles what has grown.
 fn finish_tree(
     tok: &mut [u8],
     res: &[i32],
@@ -74,22 +75,24 @@ fn finish_tree(
     counts: &mut [u32],
     s: Settings,
     grown: Tree,
-) -> Tree
+    flat_bits: f64,
+) -> Finished
     requires { ⌜ Finishable s (now tok) (now res) (nodeLists (now words) (now values) (now costs) (now spans)) (now counts) grown ⌝ }
-    ensures { λ r. ⌜ ((props : List ℤ) (logs : List Float) (lent : NodeLists) (st : State singles) (seeds : ℕ → Bool) (given : List Row) (flatly : Float)
+    ensures { λ r. ⌜ ((props : List ℤ) (logs : List Float) (lent : NodeLists) (st : State singles) (seeds : ℕ → Bool) (given : List Row)
         → Grew s logs (now (counts .entry)) (flat props (now (tok .entry)) (now (res .entry))) (nodeLists (now (words .entry)) (now (values .entry)) (now (costs .entry)) (now (spans .entry))) grown lent st seeds given
         → FinishedTo (flat props (now (tok .entry)) (now (res .entry))) (flat props (now (tok .exit)) (now (res .entry)))
         (nodeLists (now (words .exit)) (now (values .exit)) (now (costs .exit)) (now (spans .exit))) r lent
-        (finished (jobIn s logs (flat props (now (tok .entry)) (now (res .entry)))) st flatly)) ⌝ }
+        (finished (jobIn s logs (flat props (now (tok .entry)) (now (res .entry)))) st «flat_bits»)) ⌝ }
     ensures { λ _. ⌜ now (counts .exit) ≡ now (counts .entry) ⌝ }
 {
     let kept = prune_if(words, values, costs, spans, grown, s.prune_leaf_bits);
     let uses = s.modal_offsets & (0 < res.len());
     settle_if(s.settle, words, spans, kept.nodes, uses, tok, res, counts);
-    Tree {
+    Finished {
         nodes: kept.nodes,
-        waiting: 0,
+        written: grown.nodes,
         bits: kept.bits,
+        flat: flat_bits,
     }
 }
 
@@ -103,6 +106,7 @@ fn clear_queue(words: &mut [u32], values: &mut [i32], gains: &mut [f32])
     lists::clear_f32(gains);
 }
 
+// Grows the tree by at most `more` splits, and finishes it.
 pub fn grow_and_finish(
     props: &mut [i32],
     tok: &mut [u8],
@@ -119,17 +123,18 @@ pub fn grow_and_finish(
     s: Settings,
     tree: Tree,
     more: usize,
-) -> Tree
+    flat_bits: f64,
+) -> Finished
     requires { ⌜ Growable s (now logs) (now counts) (flat (now props) (now tok) (now res)) (nodeLists (now words) (now values) (now costs) (now spans))
         (queueLists (now «queue_words») (now «queue_values») (now «queue_gains»)) tree more ⌝ }
-    ensures { λ r. ⌜ ((lent : NodeLists) (st : State singles) (seeds : ℕ → Bool) (given : List Row) (flatly : Float)
+    ensures { λ r. ⌜ ((lent : NodeLists) (st : State singles) (seeds : ℕ → Bool) (given : List Row)
         → Grows s (now (logs .entry)) (now (counts .entry)) (flat (now (props .entry)) (now (tok .entry)) (now (res .entry)))
         (nodeLists (now (words .entry)) (now (values .entry)) (now (costs .entry)) (now (spans .entry)))
         (queueLists (now («queue_words» .entry)) (now («queue_values» .entry)) (now («queue_gains» .entry))) tree more lent st seeds given
         → FinishedTo (flat (now (props .entry)) (now (tok .entry)) (now (res .entry))) (flat (now (props .exit)) (now (tok .exit)) (now (res .exit)))
         (nodeLists (now (words .exit)) (now (values .exit)) (now (costs .exit)) (now (spans .exit))) r lent
         (finished (jobIn s (now (logs .entry)) (flat (now (props .entry)) (now (tok .entry)) (now (res .entry))))
-        (steps (jobIn s (now (logs .entry)) (flat (now (props .entry)) (now (tok .entry)) (now (res .entry)))) more st) flatly)) ⌝ }
+        (steps (jobIn s (now (logs .entry)) (flat (now (props .entry)) (now (tok .entry)) (now (res .entry)))) more st) «flat_bits»)) ⌝ }
     ensures { λ _. ⌜ now (counts .exit) ≡ now (counts .entry) ⌝ }
     ensures { λ _. ⌜ queueLists (now («queue_words» .exit)) (now («queue_values» .exit)) (now («queue_gains» .exit))
         ≡ clearQueue (queueLists (now («queue_words» .entry)) (now («queue_values» .entry)) (now («queue_gains» .entry))) ⌝ }
@@ -151,7 +156,18 @@ pub fn grow_and_finish(
         tree,
         more,
     );
-    let made = finish_tree(tok, res, words, values, costs, spans, counts, s, grown);
+    let made = finish_tree(
+        tok,
+        res,
+        words,
+        values,
+        costs,
+        spans,
+        counts,
+        s,
+        grown,
+        flat_bits,
+    );
     clear_queue(queue_words, queue_values, queue_gains);
     made
 }

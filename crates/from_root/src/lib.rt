@@ -4,6 +4,8 @@ ghost use mathlib.Core.Path.{_≡_};
 ghost use Prim.Native.Nat.{_-_};
 ghost use Rattle.model.specs.Learn.{rootState};
 ghost use Rattle.model.proofs.Root.{noSeeds};
+ghost use Rattle.model.specs.Flat.{flatBits};
+ghost use Rattle.checks.specs.Given.{settingsOf};
 ghost use Rattle.layout.specs.Tree.{nodeLists};
 ghost use Rattle.layout.specs.Waiting.{queueLists};
 ghost use Rattle.lent.specs.Lists.{clearQueue};
@@ -14,6 +16,7 @@ ghost use Rattle.start.specs.Starts.{Plantable};
 ghost use Rattle.from_root.specs.Result.{resultIn};
 use checks::Settings;
 use layout::Tree;
+use lent::Finished;
 
 // A cost as a total: each single-precision number is one of double precision.
 fn as_total(bits: f32) -> f64
@@ -89,9 +92,11 @@ pub fn grow_from_root(
     logs: &[f32],
     s: Settings,
     rows: usize,
-) -> Tree
+    flat_bits: f64,
+) -> Finished
     requires { ⌜ Plantable s (now logs) (now counts) (flat (now props) (now tok) (now res)) (nodeLists (now words) (now values) (now costs) (now spans))
         (queueLists (now «queue_words») (now «queue_values») (now «queue_gains»)) rows ⌝ }
+    requires { ⌜ «flat_bits» ≡ flatBits (settingsOf s) (now logs) (heldIn (flat (now props) (now tok) (now res))) ⌝ }
     ensures { λ r. ⌜ FinishedTo (flat (now (props .entry)) (now (tok .entry)) (now (res .entry))) (flat (now (props .exit)) (now (tok .exit)) (now (res .exit)))
         (nodeLists (now (words .exit)) (now (values .exit)) (now (costs .exit)) (now (spans .exit))) r
         (nodeLists (now (words .entry)) (now (values .entry)) (now (costs .entry)) (now (spans .entry)))
@@ -133,5 +138,6 @@ pub fn grow_from_root(
         s,
         root,
         more,
+        flat_bits,
     )
 }

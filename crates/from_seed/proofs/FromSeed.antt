@@ -19,7 +19,8 @@ use Rattle.layout.specs.Tree.{NodeLists}
 use Rattle.layout.specs.Waiting.{QueueLists}
 use Rattle.leaf.proofs.Making.{uses-still}
 use Rattle.finish.specs.Finished.{FinishedTo}
-use Rattle.finish.proofs.Finishing.{finished-from}
+use Rattle.finish.proofs.Finishing.{finished-from, flat-is}
+use Rattle.lent.specs.declared.Finished.{Finished}
 use Rattle.state.specs.Grows.{jobIn, Grows, Growable}
 use Rattle.seed.specs.Ordered.{seedIn}
 use Rattle.plant.specs.Seeded.{Seeded, splitsOf}
@@ -42,13 +43,14 @@ module _ {s : Settings} {logs : List Float} {counts : List ℕ} {x y : Flat} {n 
     grows = seed-grows;
   }
 
-  pub seed-finished : {z : Flat} {l : NodeLists} {f : Tree}
-      → FinishedTo y z l f n (finished (jobIn s logs y) (steps (jobIn s logs y) more (seedState (jobIn s logs x) (seedIn count n) (heldIn x))) (jobIn s logs x .flat (heldIn x)))
+  pub seed-finished : {z : Flat} {l : NodeLists} {f : Finished} {flatly : Float} → flatly ≡ jobIn s logs x .flat (heldIn x)
+      → FinishedTo y z l f n (finished (jobIn s logs y) (steps (jobIn s logs y) more (seedState (jobIn s logs x) (seedIn count n) (heldIn x))) flatly)
       → FinishedTo x z l f n (deepenedIn s logs count x n)
   unfolding deepened
-  seed-finished {z} {l} {f} e =
+  seed-finished {z} {l} {f} {flatly} same e =
       let st = seedState (jobIn s logs x) (seedIn count n) (heldIn x) in
-      let flatly = jobIn s logs x .flat (heldIn x) in
+      let left-over = s .«max_leaves» - leafCount (nodesOf (seedIn count n)) in
       let uses = subst (λ (u : Bool). FinishedTo y z l f n (finished (jobOf single (settingsOf s) logs u) (steps (jobOf single (settingsOf s) logs u) more st) flatly)) (sym (uses-still s (sown .size))) e in
-      let steps-are : more ≡ s .«max_leaves» - leafCount (nodesOf (seedIn count n)) = left ∙ ap (λ (k : ℕ). s .«max_leaves» - k) (sown .leaves) in
-      finished-from (sown .size) (subst (λ (k : ℕ). FinishedTo y z l f n (finished (jobIn s logs x) (steps (jobIn s logs x) k st) flatly)) steps-are uses)
+      let steps-are : more ≡ left-over = left ∙ ap (λ (k : ℕ). s .«max_leaves» - k) (sown .leaves) in
+      flat-is (jobIn s logs x) (steps (jobIn s logs x) left-over st) same
+      (finished-from (sown .size) (subst (λ (k : ℕ). FinishedTo y z l f n (finished (jobIn s logs x) (steps (jobIn s logs x) k st) flatly)) steps-are uses))

@@ -3,15 +3,17 @@
 ghost use mathlib.Core.Path.{_≡_};
 ghost use Prim.Native.Nat.{_+_, _-_, _/_, _≤_};
 ghost use Rattle.model.specs.Settings.{maxNodes};
+ghost use Rattle.model.specs.Flat.{flatBits};
+ghost use Rattle.checks.specs.Given.{settingsOf};
 ghost use Rattle.layout.specs.Tree.{nodeLists};
 ghost use Rattle.layout.specs.Waiting.{queueLists};
 ghost use Rattle.lent.specs.Lists.{clearQueue};
-ghost use Rattle.rows.specs.Flat.{flat};
+ghost use Rattle.rows.specs.Flat.{flat, heldIn};
 ghost use Rattle.finish.specs.Finished.{FinishedTo};
 ghost use Rattle.plant.specs.Seeded.{Seedable};
 ghost use Rattle.from_seed.specs.Result.{deepenedIn};
 use checks::Settings;
-use layout::Tree;
+use lent::Finished;
 
 // How many leaves the limit leaves room for: none where a seed of so many nodes has as many already.
 fn leaves_left(limit: usize, nodes: usize) -> usize
@@ -39,9 +41,11 @@ pub fn grow_from_seed(
     s: Settings,
     rows: usize,
     count: usize,
-) -> Tree
+    flat_bits: f64,
+) -> Finished
     requires { ⌜ Seedable s (now logs) (now counts) (flat (now props) (now tok) (now res)) (nodeLists (now words) (now values) (now costs) (now spans))
         (queueLists (now «queue_words») (now «queue_values») (now «queue_gains»)) rows count ⌝ }
+    requires { ⌜ «flat_bits» ≡ flatBits (settingsOf s) (now logs) (heldIn (flat (now props) (now tok) (now res))) ⌝ }
     ensures { λ r. ⌜ FinishedTo (flat (now (props .entry)) (now (tok .entry)) (now (res .entry))) (flat (now (props .exit)) (now (tok .exit)) (now (res .exit)))
         (nodeLists (now (words .exit)) (now (values .exit)) (now (costs .exit)) (now (spans .exit))) r
         (nodeLists (now (words .entry)) (now (values .entry)) (now (costs .entry)) (now (spans .entry)))
@@ -85,5 +89,6 @@ pub fn grow_from_seed(
         s,
         planted,
         more,
+        flat_bits,
     )
 }

@@ -79,16 +79,16 @@ module _ {M : Meter} (r : Result M) (n : NodeListsOf M) (paired : length (r .spa
       written-read recordWords wordsPerNode words-each (withSpans (r .records) (r .spans)) i j (blankRecord, noSpan) 0 (n .words) (omega arith) small
       ∙ ap (λ (p : Record M × Span). getD (recordWords p) j 0) (paired-at (r .records) (r .spans) i paired lt)
 
-  pub node-here : storedAtOf M (m .words) (m .values) (m .costs) i ≡ stored at
+  pub written-node : storedAtOf M (m .words) (m .values) (m .costs) i ≡ stored at
   unfolding nodesAfter
-  node-here =
+  written-node =
       let one : i * 1 + 0 ≡ i = omega arith in
       stored-cells (m .words) (m .values) (m .costs) i (at .info) (getD (r .spans) i noSpan) (at .node) words-here
       (λ j small. written-read recordValues valuesPerNode (λ x. refl) (r .records) i j blankRecord (pos 0) (n .values) lt small)
       (rw one at (written-read recordCosts 1 (λ x. refl) (r .records) i 0 blankRecord (M .spare) (n .costs) lt (omega arith)))
 
-  pub span-here : spanAt (m .words) i ≡ getD (r .spans) i noSpan
-  span-here = span-cells (m .words) (m .values) (m .costs) i (at .info) (getD (r .spans) i noSpan) (at .node) words-here
+  pub written-span : spanAt (m .words) i ≡ getD (r .spans) i noSpan
+  written-span = span-cells (m .words) (m .values) (m .costs) i (at .info) (getD (r .spans) i noSpan) (at .node) words-here
 
 -- ---- the queue
 

@@ -1,9 +1,12 @@
 -- The answer of learning and of deepening in document 01's numbers and values. Assumes nothing.
-use Prim.Native.Nat.{_+_, _/_}
-use lib.Ieee.{Float}
+use Prim.Native.Nat.{_+_, _/_, _≤_}
+use mathlib.Core.Path.{_≡_}
+use lib.ListN.{length}
+use Rattle.model.specs.Settings.{maxNodes}
 use Rattle.model.specs.Single.{singles}
+use Rattle.model.specs.Learn.{Result}
 use Rattle.model.specs.Operations.{Outcome, refused, accepted, After, Tree}
-use Rattle.layout.specs.declared.Tree.{Tree as Held}
+use Rattle.lent.specs.declared.Finished.{Finished}
 use Rattle.lent.specs.declared.Learned.{Learned}
 use Rattle.lent.specs.declared.Learned.the-variants.{Grown, Refused}
 
@@ -12,10 +15,19 @@ abbrev pub outcomeOf : Learned → Outcome (Tree singles)
 outcomeOf (Grown nodes leaves bits flat) = accepted (record { nodes = nodes; leaves = leaves; bits = bits; flat = flat })
 outcomeOf (Refused number place) = refused (record { number = number; place = place })
 
--- a finished tree, which has one leaf more than splits, and the flat bits
-abbrev pub answerOf : Held → Float → Tree singles
-answerOf tree flat = record { nodes = tree .nodes; leaves = (tree .nodes + 1) / 2; bits = tree .bits; flat = flat }
+-- a finished tree, which has one leaf more than splits
+abbrev pub answerOf : Finished → Tree singles
+answerOf r = record { nodes = r .nodes; leaves = (r .nodes + 1) / 2; bits = r .bits; flat = r .flat }
 
 -- the answer, and what the lent lists hold at exit
 abbrev pub after : {L : Type 0} → Learned → L → After (Tree singles) L
 after r x = record { outcome = outcomeOf r; lent = x }
+
+-- the finished tree is the model's result: its nodes and leaves, how many entries were written, and its bits
+pub record LearnedAs (made : Result singles) (r : Finished) : Type 0 where
+  pub counted : r .nodes ≡ made .count
+  pub few : r .nodes ≤ maxNodes
+  pub written : r .written ≡ length (made .spans)
+  pub leaves : (r .nodes + 1) / 2 ≡ made .leaves
+  pub summed : r .bits ≡ made .bits
+  pub flat : r .flat ≡ made .flat

@@ -1,11 +1,10 @@
-// The lists of learning and deepening as one value (specs/), how many places the queue has, and what both answer.
+// The number lists of learning and deepening as one value (specs/), how many waiting leaves the queue has room for, and what both answer.
 ghost use mathlib.Core.Path.{_≡_};
 ghost use Prim.Native.Nat.{_/_, _≤_};
 ghost use Rattle.model.specs.Settings.{maxNodes};
 ghost use Rattle.model.specs.Operations.{accepted};
 ghost use Rattle.lent.specs.Lists.{leavesLent};
 ghost use Rattle.lent.specs.Answer.{outcomeOf, answerOf};
-use layout::Tree;
 
 // The answer: how many nodes and leaves the tree has, its estimated bits and the flat bits; or a refusal, with the place that it names.
 pub enum Learned {
@@ -21,6 +20,15 @@ pub enum Learned {
     },
 }
 
+// A finished tree: its nodes; how many entries of the node and span lists were written while it grew, those that pruning vacated included;
+// its estimated bits; the flat bits.
+pub struct Finished {
+    pub nodes: usize,
+    pub written: usize,
+    pub bits: f64,
+    pub flat: f64,
+}
+
 // How many waiting leaves have all their words, a threshold and a gain.
 pub fn queue_room(words: &[u32], values: &[i32], gains: &[f32]) -> usize
     ensures { λ r. ⌜ r ≡ leavesLent (now (words .entry)) (now (values .entry)) (now (gains .entry)) ⌝ }
@@ -30,15 +38,15 @@ pub fn queue_room(words: &[u32], values: &[i32], gains: &[f32]) -> usize
 }
 
 // The answer for a finished tree. Each split has two children, so there is one leaf more than splits.
-pub fn answer(tree: Tree, flat: f64) -> Learned
+pub fn answer(tree: Finished) -> Learned
     requires { ⌜ tree .nodes ≤ maxNodes ⌝ }
-    ensures { λ r. ⌜ outcomeOf r ≡ accepted (answerOf tree flat) ⌝ }
+    ensures { λ r. ⌜ outcomeOf r ≡ accepted (answerOf tree) ⌝ }
 {
     let nodes = tree.nodes;
     Learned::Grown {
         nodes: nodes as u32,
         leaves: ((nodes + 1) / 2) as u32,
         bits: tree.bits,
-        flat,
+        flat: tree.flat,
     }
 }

@@ -1,5 +1,5 @@
 -- What flat bits ask of fitting lists, and that the count space comes back. Assumes nothing.
-use mathlib.Core.Path.{_≡_, refl, sym, ap, _∙_}
+use mathlib.Core.Path.{_≡_, refl, sym, ap, _∙_, subst}
 use mathlib.Core.List.{List, _∷_, _++_}
 use Prim.Native.Nat.{ℕ, zero, suc, _*_, _≤_}
 use native.Mathlib.Omega.{arith}
@@ -12,12 +12,19 @@ use Rattle.checks.specs.declared.Settings.{Settings}
 use Rattle.cost.specs.Predictors.{Uses}
 use Rattle.cost.proofs.Bridge.{usable-is}
 use Rattle.flat.specs.Flat.{FlatFits}
+use Rattle.rows.specs.Flat.{Flat, rowCount}
+use Rattle.state.specs.Fitting.{Fitting}
 use Rattle.start.specs.Starts.{Flattened}
 
 take-zeros : (n m : ℕ) → n ≤ m → take {A = ℕ} n (replicate m 0) ≡ replicate n 0
 take-zeros zero m h = refl
 take-zeros (suc n) zero h = absurd (omega arith)
 take-zeros (suc n) (suc m) h = ap (λ (l : List ℕ). 0 ∷ l) (take-zeros n m (omega arith))
+
+-- what is asked for, of rows that fit over a cleared count space
+pub flattened-from : {s : Settings} {logs : List Float} {counts zeros : List ℕ} {x : Flat} {rows : ℕ} → Fitting s logs zeros x → rows ≡ rowCount x → counts ≡ zeros
+    → Flattened s logs counts (x .props) (x .toks) rows
+flattened-from {s} {logs} {x = x} f counted same = record { res = x .res; fitting = subst (λ (c : List ℕ). Fitting s logs c x) (sym same) f; counted = counted }
 
 module _ {s : Settings} {logs : List Float} {counts : List ℕ} {props : List ℤ} {tok : List ℕ} {rows : ℕ} (f : Flattened s logs counts props tok rows) where
   abbrev wide : ℕ

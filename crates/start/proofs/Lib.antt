@@ -1,2 +1,3 @@
--- `Flatly`: flat bits.
+-- `Accepting`: what the checks ensure. `Flatly`: flat bits.
+pub mod Accepting
 pub mod Flatly

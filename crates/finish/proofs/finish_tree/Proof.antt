@@ -69,16 +69,16 @@ returns c =
     let pruned = c .before .before .before .before .before .before .before .before .before .before .before .before .before .before .before .before .before in
     let settled = after-settle-if c .settle-if in
     let given = start pruned .args in (
-      λ props logs lent st seeds rows flatly g.
+      λ props logs lent st seeds rows g.
           let cut = pruned .prune-if .ensures (st .tree) lent (grew-holds g) in
-          finished-lists g cut flatly
+          finished-lists g cut (given .flat-bits)
           (subst
           (λ (u : Bool). Changed (λ (l : List Row). cond (given .s .settle) (modes u (cutTree (given .s .«prune_leaf_bits») (st .tree)) l) l) (flat props (given .tok .now) (given .res .now))
           (flat props (settled .last .1 .1 .1 .1 .1 .0) (given .res .now)))
           (flag pruned)
           (settled .ensures .0 (cutTree (given .s .«prune_leaf_bits») (st .tree)) (behind g cut) props
           (subst (λ (u : Bool). HoldsLeaves (m pruned .words) (m pruned .spans) (pruned .prune-if .result .nodes) u (flat props (given .tok .now) (given .res .now)) (cutTree (given .s .«prune_leaf_bits») (st .tree)) (behind g cut)) (sym (flag pruned)) (cut-leaves g cut))))
-          refl refl refl,
+          refl refl refl refl,
       settled .ensures .1,
     )
 

@@ -70,10 +70,10 @@ returns c =
     let call = grown .grow-tree in
     let made = c .before .before .before .before .before .before .before .before .before .before .before .before .before .before .before .before .before .before .before .before .finish-tree in
     let counts = call .last .1 .1 .1 .1 .1 .1 .1 .1 .1 .1 .0 in (
-      λ lent st seeds given flatly g.
+      λ lent st seeds given g.
           let to = call .ensures .0 lent st seeds given g in
-          finished-so g to counts (call .ensures .1 .0) flatly
-          (made .ensures .0 (call .last .0) (start grown .args .logs .now) lent (grownState g) seeds given flatly (grew-so g to counts (call .ensures .1 .0))),
+          finished-so g to counts (call .ensures .1 .0) (start grown .args .flat-bits)
+          (made .ensures .0 (call .last .0) (start grown .args .logs .now) lent (grownState g) seeds given (grew-so g to counts (call .ensures .1 .0))),
       (made .ensures .1 ∙ call .ensures .1 .0, c .before .before .before .before .before .clear-queue .ensures ∙ clear-same (call .ensures .1 .1)),
     )
 

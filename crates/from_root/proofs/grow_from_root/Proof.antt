@@ -1,13 +1,15 @@
 -- `from_root::grow_from_root` meets its contract: the root, and then what growing and finishing make of it. Assumes nothing.
+use Prim.Native.Nat.{_-_}
 use mathlib.Core.Path.{refl, _∙_}
 use native.Mathlib.Omega.{arith}
 use borrow.Author.Needs.{needs}
+use Rattle.model.specs.Grow.{steps}
 use Rattle.model.specs.Learn.{rootState, learned}
 use Rattle.model.proofs.Root.{noSeeds}
 use Rattle.layout.specs.Tree.{nodeLists}
 use Rattle.rows.specs.Flat.{flat, heldIn}
 use Rattle.state.specs.Grows.{jobIn}
-use Rattle.finish.proofs.Finishing.{finished-from, clear-same}
+use Rattle.finish.proofs.Finishing.{finished-from, flat-is, clear-same}
 use Rattle.from_root.proofs.grow_from_root.Statement.{statement}
 use Rattle.from_root.proofs.grow_from_root.Tie as tie
 
@@ -20,7 +22,7 @@ module _ (c : tie.After-plant-root) where
   start = c .before .before .before .before .before .before .before .before .before .before .before .before .before .before .before .before .before .before .before .before
 
 cast-more : tie.Need-cast-more
-cast-more c = record { fits = omega (arith, c .before .before .before .before .before .before .before .before .before .before .before .before .before .before .before .before .before .before .before .before .before .before .before .before .before .before .before .before .before .before .before .before .before .before .before .before .before .pre .fitting .settings .limit) }
+cast-more c = record { fits = omega (arith, c .before .before .before .before .before .before .before .before .before .before .before .before .before .before .before .before .before .before .before .before .before .before .before .before .before .before .before .before .before .before .before .before .before .before .before .before .before .pre .0 .fitting .settings .limit) }
 
 sub-more : tie.Need-sub-more
 sub-more c = search needs
@@ -84,7 +86,8 @@ returns c =
     let x = flat (given .props .now) (given .tok .now) (given .res .now) in
     let n = nodeLists (given .words .now) (given .values .now) (given .costs .now) (given .spans .now) in
     let j = jobIn (given .s) (given .logs .now) x in (
-      finished-from (record { props = refl; toks = root .kept .1 .0; res = refl }) (grown .ensures .0 n (rootState j (heldIn x)) noSeeds (heldIn x) (j .flat (heldIn x)) (root .ensures .0)),
+      flat-is j (steps j (given .s .«max_leaves» - 1) (rootState j (heldIn x))) (start planted .pre .1)
+          (finished-from (record { props = refl; toks = root .kept .1 .0; res = refl }) (grown .ensures .0 n (rootState j (heldIn x)) noSeeds (heldIn x) (root .ensures .0))),
       (grown .ensures .1 .0 ∙ root .ensures .1, grown .ensures .1 .1 ∙ clear-same (record { words = root .kept .1 .1 .1 .1 .1 .1 .1 .0; values = root .kept .1 .1 .1 .1 .1 .1 .1 .1 .0; gains = root .kept .1 .1 .1 .1 .1 .1 .1 .1 .1 .0 })),
     )
 

@@ -22,7 +22,7 @@ module _ (c : tie.After-plant-seed) where
   start = c .before .before .before .before .before .before .before .before .before .before .before .before .before .before .before .before .before .before .before .before
 
 cast-leaves-left : tie.Need-cast-leaves-left
-cast-leaves-left c = record { fits = omega (arith, c .before .before .before .before .before .before .before .before .before .before .before .before .before .before .before .before .before .before .before .before .before .before .before .before .before .before .before .before .before .before .before .before .before .before .before .before .before .before .before .pre .fitting .settings .limit) }
+cast-leaves-left c = record { fits = omega (arith, c .before .before .before .before .before .before .before .before .before .before .before .before .before .before .before .before .before .before .before .before .before .before .before .before .before .before .before .before .before .before .before .before .before .before .before .before .before .before .before .pre .0 .fitting .settings .limit) }
 
 leaves-left-requires : tie.Need-leaves-left-requires
 leaves-left-requires c κs = seed-few (c .before .before .before .before .before .before .before .before .before .before .before .before .before .before .before .before .before .before .before .plant-seed .ensures .0)
@@ -81,7 +81,7 @@ returns c =
     let n = nodeLists (given .words .now) (given .values .now) (given .costs .now) (given .spans .now) in
     let j = jobIn (given .s) (given .logs .now) x in
     let sown = seeding .ensures .0 in (
-      seed-finished sown left (grown .ensures .0 n (seedState j (seedIn (given .count) n) (heldIn x)) (splitsOf (seedIn (given .count) n)) (heldIn x) (j .flat (heldIn x)) (seed-grows sown left)),
+      seed-finished sown left (start planted .pre .1) (grown .ensures .0 n (seedState j (seedIn (given .count) n) (heldIn x)) (splitsOf (seedIn (given .count) n)) (heldIn x) (seed-grows sown left)),
       (grown .ensures .1 .0 ∙ seeding .ensures .1, grown .ensures .1 .1 ∙ clear-same (sown .queue)),
     )
 
