@@ -11,6 +11,7 @@ use lib.IntN.{ℤ, pos}
 use lib.Dec.{T, eqb}
 use lib.Ieee.{Float, nan}
 use Rattle.model.specs.Single.{singles}
+use Rattle.model.specs.Rows.{Span}
 use Rattle.model.specs.Tree.{Node, split, leaf, isLeaf}
 use Rattle.model.specs.Grow.{Entry, noEntry, treeNodes}
 use Rattle.model.specs.Prune.{preorder, placeOf, renumbered, moved, prunedNodes, prunedTree}
@@ -19,8 +20,8 @@ use Rattle.model.proofs.Family.{ChildOf, Child, Twins, Family}
 use Rattle.model.proofs.Preorder.{place-at, mem-getD}
 use Rattle.model.proofs.Folding.{Folded, folds, length-pruned}
 use Rattle.model.proofs.Pruned.{closed, length-kept, entry-kept, order-short, old-number}
-use Rattle.layout.specs.Layout.{kindAt, propAt, gtAt, leAt, predAt, valAt}
-use Rattle.layout.specs.Tree.{NodeLists, holding, HasRoom, firstAt, endAt, entryWords, entryValues, entrySpans, nodeWords, nodeVal}
+use Rattle.layout.specs.Layout.{wordsPerNode, valuesPerNode, kindAt, propAt, gtAt, leAt, predAt, firstAt, endAt, valAt}
+use Rattle.layout.specs.Tree.{NodeLists, holding, HasRoom, entryWords, entryValues, nodeWords, nodeVal}
 use Rattle.layout.specs.Kept.{infoAt}
 use Rattle.layout.specs.Records.{nodeOf}
 use Rattle.preorder.specs.Order.{ShownAs, ShowsNodes, Walkable, Ordered}
@@ -28,13 +29,13 @@ use Rattle.moves.specs.Moves.{nodeFrom, entryFrom, entriesFrom, compacted, AllM
 use Rattle.moves.proofs.Moving.{length-entries, entry-at}
 use Rattle.prune.specs.Prices.{AllPriceable, ShowsTree, PricedAs}
 use Rattle.prune.specs.Held.{HoldsTree, prunedEntries}
-use Rattle.layout.proofs.Held.{SameCells, same-cells, room-same, holding-lengths, held-word, held-value, held-cost, held-row}
+use Rattle.layout.proofs.Held.{SameCells, same-cells, room-same, holding-lengths, held-word, held-value, held-cost, held-first, held-end}
 use Rattle.prune.proofs.Held.{held-again, held-same}
 
--- a node's last word is its predictor
-pred-word : (m : Node) (pred : ℕ) → getD (nodeWords m pred) 4 0 ≡ pred
-pred-word (split p v g l) pred = refl
-pred-word leaf pred = refl
+-- a node's fifth word is its predictor
+pred-word : (m : Node) (pred : ℕ) (s : Span) → getD (nodeWords m pred s) 4 0 ≡ pred
+pred-word (split p v g l) pred s = refl
+pred-word leaf pred s = refl
 
 module _ {x : NodeLists} {count : ℕ} {price : Float} {tree : List (Entry singles)} {lent : NodeLists} (h : HoldsTree x count price tree lent) where
   abbrev entry : ℕ → Entry singles
@@ -44,14 +45,17 @@ module _ {x : NodeLists} {count : ℕ} {price : Float} {tree : List (Entry singl
   many : length (treeNodes tree) ≡ count
   many = length-map tree (λ (e : Entry singles). e .node) ∙ sym (h .many)
 
-  word : (i j : ℕ) → i < count → j < 5 → getD (x .words) (i * 5 + j) 0 ≡ getD (entryWords (entry i)) j 0
-  word i j a b = ap (λ (y : NodeLists). getD (y .words) (i * 5 + j) 0) (h .lists) ∙ held-word tree lent i (omega (arith, h .many)) j b
+  word : (i j : ℕ) → i < count → j < wordsPerNode → getD (x .words) (i * wordsPerNode + j) 0 ≡ getD (entryWords (entry i)) j 0
+  word i j a b = ap (λ (y : NodeLists). getD (y .words) (i * wordsPerNode + j) 0) (h .lists) ∙ held-word tree lent i (omega (arith, h .many)) j b
 
-  value : (i j : ℕ) → i < count → j < 2 → getD (x .values) (i * 2 + j) (pos 0) ≡ getD (entryValues (entry i)) j (pos 0)
-  value i j a b = ap (λ (y : NodeLists). getD (y .values) (i * 2 + j) (pos 0)) (h .lists) ∙ held-value tree lent i (omega (arith, h .many)) j b
+  value : (i j : ℕ) → i < count → j < valuesPerNode → getD (x .values) (i * valuesPerNode + j) (pos 0) ≡ getD (entryValues (entry i)) j (pos 0)
+  value i j a b = ap (λ (y : NodeLists). getD (y .values) (i * valuesPerNode + j) (pos 0)) (h .lists) ∙ held-value tree lent i (omega (arith, h .many)) j b
 
-  span : (i j : ℕ) → i < count → j < 2 → getD (x .spans) (i * 2 + j) 0 ≡ getD (entrySpans (entry i)) j 0
-  span i j a b = ap (λ (y : NodeLists). getD (y .spans) (i * 2 + j) 0) (h .lists) ∙ held-row tree lent i (omega (arith, h .many)) j b
+  first : (i : ℕ) → i < count → firstAt (x .words) i ≡ entry i .span .first
+  first i a = ap (λ (y : NodeLists). firstAt (y .words) i) (h .lists) ∙ held-first tree lent i (omega (arith, h .many))
+
+  end : (i : ℕ) → i < count → endAt (x .words) i ≡ entry i .span .end
+  end i a = ap (λ (y : NodeLists). endAt (y .words) i) (h .lists) ∙ held-end tree lent i (omega (arith, h .many))
 
   cost : (i : ℕ) → i < count → getD (x .costs) i nan ≡ entry i .info .cost
   cost i a = ap (λ (y : NodeLists). getD (y .costs) i nan) (h .lists) ∙ held-cost tree lent i (omega (arith, h .many))
@@ -60,11 +64,11 @@ module _ {x : NodeLists} {count : ℕ} {price : Float} {tree : List (Entry singl
   room = rw (h .lists, h .many) (room-same (holding-lengths tree lent (h .room)) (h .room))
 
   -- the words of node i, by what it is
-  words-of : (i : ℕ) → i < count → (m : Node) → entry i .node ≡ m → (j : ℕ) → j < 5
-      → getD (x .words) (i * 5 + j) 0 ≡ getD (nodeWords m (entry i .info .pred)) j 0
-  words-of i a m z j b = word i j a b ∙ ap (λ (n : Node). getD (nodeWords n (entry i .info .pred)) j 0) z
+  words-of : (i : ℕ) → i < count → (m : Node) → entry i .node ≡ m → (j : ℕ) → j < wordsPerNode
+      → getD (x .words) (i * wordsPerNode + j) 0 ≡ getD (nodeWords m (entry i .info .pred) (entry i .span)) j 0
+  words-of i a m z j b = word i j a b ∙ ap (λ (n : Node). getD (nodeWords n (entry i .info .pred) (entry i .span)) j 0) z
 
-  kind-of : (i : ℕ) → i < count → (m : Node) → entry i .node ≡ m → kindAt (x .words) i ≡ getD (nodeWords m (entry i .info .pred)) 0 0
+  kind-of : (i : ℕ) → i < count → (m : Node) → entry i .node ≡ m → kindAt (x .words) i ≡ getD (nodeWords m (entry i .info .pred) (entry i .span)) 0 0
   kind-of i a m z = rw add-zero at (words-of i a m z 0 (omega arith))
 
   node-is : (i : ℕ) → getD (treeNodes tree) i leaf ≡ entry i .node
@@ -232,7 +236,7 @@ module _ {x : NodeLists} {count : ℕ} {price : Float} {tree : List (Entry singl
         in-count = old q a
 
         pred : predAt (x .words) i ≡ entry i .info .pred
-        pred = word i 4 in-count (omega arith) ∙ pred-word (entry i .node) (entry i .info .pred)
+        pred = word i 4 in-count (omega arith) ∙ pred-word (entry i .node) (entry i .info .pred) (entry i .span)
 
         -- the entry that is moved leaves the same cells
         pub new-entry : SameCells (entryFrom x (getD splits i false) places i) (getD new q noEntry)
@@ -242,9 +246,8 @@ module _ {x : NodeLists} {count : ℕ} {price : Float} {tree : List (Entry singl
             info : infoAt x i ≡ entry i .info
             info = λ j. record { cost = cost i in-count j; pred = pred j; offset = value i 1 in-count (omega arith) j }
 
-            rows : record { first = firstAt (x .spans) i; end = endAt (x .spans) i } ≡ entry i .span
-            rows = let first = rw add-zero at (span i 0 in-count (omega arith)) in
-                λ j. record { first = first j; end = span i 1 in-count (omega arith) j }
+            rows : record { first = firstAt (x .words) i; end = endAt (x .words) i } ≡ entry i .span
+            rows = λ j. record { first = first i in-count j; end = end i in-count j }
 
             go : (m : Node) → getD pn i leaf ≡ m → nodeFrom (nodeOf (x .words) (x .values) (x .costs) i) (not (isLeaf m)) places ≡ renumbered preorder-of m
             go leaf z = refl

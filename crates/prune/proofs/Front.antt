@@ -9,7 +9,8 @@ use lib.Seq.{drop-append-seam}
 use Rattle.model.specs.Lists.{writtenOver}
 use Rattle.model.specs.Single.{singles}
 use Rattle.model.specs.Grow.{Entry}
-use Rattle.layout.specs.Tree.{laid, NodeLists, holding, HasRoom, entryWords, entryValues, entryCosts, entrySpans}
+use Rattle.layout.specs.Layout.{wordsPerNode, valuesPerNode}
+use Rattle.layout.specs.Tree.{laid, NodeLists, holding, HasRoom, entryWords, entryValues, entryCosts}
 use Rattle.layout.proofs.Cells.{laid-append, laid-length}
 use Rattle.layout.proofs.Held.{words-each}
 
@@ -38,17 +39,15 @@ module _ (front back : List (Entry singles)) (lent : NodeLists) where
   pub front-held : holding (front ++ back) lent ≡ holding front (holding (front ++ back) lent)
   unfolding holding
   front-held = λ j. record {
-    words = first-over entryWords 5 words-each front back (lent .words) j;
-    values = first-over entryValues 2 (λ e. refl) front back (lent .values) j;
+    words = first-over entryWords wordsPerNode words-each front back (lent .words) j;
+    values = first-over entryValues valuesPerNode (λ e. refl) front back (lent .values) j;
     costs = first-over entryCosts 1 (λ e. refl) front back (lent .costs) j;
-    spans = first-over entrySpans 2 (λ e. refl) front back (lent .spans) j;
   }
 
   pub front-room : HasRoom (length front) (holding (front ++ back) lent)
   unfolding holding
   front-room = record {
-    words = first-room entryWords 5 words-each front back (lent .words);
-    values = first-room entryValues 2 (λ e. refl) front back (lent .values);
+    words = first-room entryWords wordsPerNode words-each front back (lent .words);
+    values = first-room entryValues valuesPerNode (λ e. refl) front back (lent .values);
     costs = let a = first-room entryCosts 1 (λ e. refl) front back (lent .costs) in omega arith;
-    spans = first-room entrySpans 2 (λ e. refl) front back (lent .spans);
   }

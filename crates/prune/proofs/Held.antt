@@ -7,7 +7,8 @@ use lib.Seq.{drop-append-seam}
 use Rattle.model.specs.Lists.{writtenOver}
 use Rattle.model.specs.Single.{singles}
 use Rattle.model.specs.Grow.{Entry, noEntry}
-use Rattle.layout.specs.Tree.{laid, NodeLists, holding, entryWords, entryValues, entryCosts, entrySpans}
+use Rattle.layout.specs.Layout.{wordsPerNode, valuesPerNode}
+use Rattle.layout.specs.Tree.{laid, NodeLists, holding, entryWords, entryValues, entryCosts}
 use Rattle.layout.proofs.Cells.{laid-append, laid-same, laid-length}
 use Rattle.layout.proofs.Held.{words-each, SameCells}
 
@@ -26,10 +27,9 @@ module _ (t u : List (Entry singles)) (lent : NodeLists) (many : length t ≡ le
   pub held-again : holding t (holding u lent) ≡ holding t lent
   unfolding holding
   held-again = λ j. record {
-    words = written-again entryWords t u 5 words-each many (lent .words) j;
-    values = written-again entryValues t u 2 (λ e. refl) many (lent .values) j;
+    words = written-again entryWords t u wordsPerNode words-each many (lent .words) j;
+    values = written-again entryValues t u valuesPerNode (λ e. refl) many (lent .values) j;
     costs = written-again entryCosts t u 1 (λ e. refl) many (lent .costs) j;
-    spans = written-again entrySpans t u 2 (λ e. refl) many (lent .spans) j;
   }
 
   pub held-same : (back : List (Entry singles)) → ((i : ℕ) → i < length t → SameCells (getD t i noEntry) (getD u i noEntry))
@@ -39,5 +39,4 @@ module _ (t u : List (Entry singles)) (lent : NodeLists) (many : length t ≡ le
     laid-front entryWords t u back (laid-same entryWords t u noEntry many (λ i l. same i l .words)),
     laid-front entryValues t u back (laid-same entryValues t u noEntry many (λ i l. same i l .values)),
     laid-front entryCosts t u back (laid-same entryCosts t u noEntry many (λ i l. same i l .costs)),
-    laid-front entrySpans t u back (laid-same entrySpans t u noEntry many (λ i l. same i l .spans)),
   )

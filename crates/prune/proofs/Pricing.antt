@@ -16,7 +16,7 @@ use Rattle.model.specs.Tree.{Node, split, leaf, isLeaf}
 use Rattle.model.specs.Grow.{Entry, noEntry}
 use Rattle.model.specs.Prune.{noPriced, pricedBefore, pricedFrom, prunedNodes, prunedBits}
 use Rattle.model.specs.Prune as model
-use Rattle.layout.specs.Layout.{kindAt, gtAt, leAt}
+use Rattle.layout.specs.Layout.{wordsPerNode, kindAt, gtAt, leAt}
 use Rattle.layout.specs.Tree.{nodeWords}
 use Rattle.prune.specs.declared.Priced.{Priced}
 use Rattle.prune.specs.Prices.{splitPriced, leafPriced, pricedAt, ShowsTree, IsPriced, PricedAs}
@@ -49,10 +49,11 @@ module _ (price : Float) (tree : List (Entry singles)) where
       abbrev e : Entry singles
       e = getD tree i noEntry
 
-      word : (j : ℕ) → j < 5 → (m : Node) → e .node ≡ m → getD words (i * 5 + j) 0 ≡ getD (nodeWords m (e .info .pred)) j 0
-      word j b m z = shows .words-are i j h b ∙ ap (λ (n : Node). getD (nodeWords n (e .info .pred)) j 0) z
+      word : (j : ℕ) → j < wordsPerNode → (m : Node) → e .node ≡ m
+          → getD words (i * wordsPerNode + j) 0 ≡ getD (nodeWords m (e .info .pred) (e .span)) j 0
+      word j b m z = shows .words-are i j h b ∙ ap (λ (n : Node). getD (nodeWords n (e .info .pred) (e .span)) j 0) z
 
-      kind : (m : Node) → e .node ≡ m → kindAt words i ≡ getD (nodeWords m (e .info .pred)) 0 0
+      kind : (m : Node) → e .node ≡ m → kindAt words i ≡ getD (nodeWords m (e .info .pred) (e .span)) 0 0
       kind m z = rw add-zero at (word 0 (omega arith) m z)
 
       whole : priceAt i ≡ pricedBefore price i e (e .node) (drop (suc i) (pricedFrom {M = singles} price 0 tree))

@@ -1,18 +1,20 @@
-// Pruning of a grown tree in flat lists of numbers, after the Rust's prune_tree: prices from the last node back, the new order from the root by
-// `preorder`, and the lists moved into that order by `moves`.
+// Pruning of a grown tree in flat lists of numbers, after the Rust's prune_tree: prices from the last node back, the
+// new order from the root by `preorder`, and the lists moved into that order by `moves`.
 ghost use mathlib.Core.Path.{_≡_};
 ghost use mathlib.Core.List.{List};
 ghost use Prim.Native.Nat.{ℕ, _≤_, _<_};
 ghost use lib.ListN.{length};
 ghost use Rattle.model.specs.Single.{singles};
 ghost use Rattle.model.specs.Grow.{Entry};
-ghost use Rattle.layout.specs.Tree.{NodeLists, nodeLists};
-ghost use Rattle.prune.specs.Prices.{splitPriced, leafPriced, pricedAt, IsNumber, Priceable, AllPriceable, ShowsTree, IsPriced, PricedAs};
+ghost use Rattle.layout.specs.Tree.{NodeLists, nodesNow};
+ghost use Rattle.prune.specs.Prices.{splitPriced, leafPriced, pricedAt, IsNumber, Priceable, AllPriceable};
+ghost use Rattle.prune.specs.Prices.{ShowsTree, IsPriced, PricedAs};
 ghost use Rattle.prune.specs.Held.{HoldsTree, Prunable, PrunedAs};
 use layout::NodeInfo;
 use layout::Tree;
 
-// What a node has become: a split, or else a leaf; the bits of the leaves under it; and these with a price for each split that is kept.
+// What a node has become: a split, or else a leaf; the bits of the leaves under it; and these with a price for each
+// split that is kept.
 struct Priced {
     split: bool,
     bits: f64,
@@ -59,7 +61,8 @@ fn price_node<'a>(
     i: usize,
 ) -> Priced
     requires { ⌜ Priceable (now words) (now values) (now costs) price (now bits) (now priced) i ⌝ }
-    ensures { λ r. ⌜ r ≡ pricedAt (now (words .entry)) (now (costs .entry)) price (now (bits .entry)) (now (priced .entry)) i ⌝ }
+    ensures { λ r. ⌜ r
+        ≡ pricedAt (now (words .entry)) (now (costs .entry)) price (now (bits .entry)) (now (priced .entry)) i ⌝ }
 {
     let node = layout::node_at(i, words, values, costs);
     let info = node.info;
@@ -132,31 +135,20 @@ pub fn prune_tree(
     words: &mut [u32],
     values: &mut [i32],
     costs: &mut [f32],
-    spans: &mut [u32],
     count: usize,
     price: f32,
 ) -> Tree
-    requires { ⌜ Prunable (nodeLists (now words) (now values) (now costs) (now spans)) count price ⌝ }
+    requires { ⌜ Prunable (nodesNow words values costs) count price ⌝ }
     ensures { λ r. ⌜ ((tree : List (Entry singles)) (lent : NodeLists)
-        → HoldsTree (nodeLists (now (words .entry)) (now (values .entry)) (now (costs .entry)) (now (spans .entry))) count price tree lent
-        → PrunedAs price tree lent (nodeLists (now (words .exit)) (now (values .exit)) (now (costs .exit)) (now (spans .exit))) r) ⌝ }
+        → HoldsTree (nodesNow (words .entry) (values .entry) (costs .entry)) count price tree lent
+        → PrunedAs price tree lent (nodesNow (words .exit) (values .exit) (costs .exit)) r) ⌝ }
 {
     let mut splits = [false; layout::MAX_NODES];
     let bits = price_nodes(words, values, costs, count, price, &mut splits);
     let mut order = [0u32; layout::MAX_NODES];
     let mut places = [0u32; layout::MAX_NODES];
     let nodes = preorder::order_nodes(words, &splits, count, &mut order, &mut places);
-    moves::move_nodes(
-        words,
-        values,
-        costs,
-        spans,
-        &splits,
-        &order,
-        &places,
-        nodes,
-        count,
-    );
+    moves::move_nodes(words, values, costs, &splits, &order, &places, nodes, count);
     Tree {
         nodes,
         waiting: 0,

@@ -11,7 +11,7 @@ slice-aggregate-price-nodes c = search needs
 
 price-nodes-requires : tie.Need-price-nodes-requires
 price-nodes-requires c κs =
-    let start = c .before .before .before .before .before .before .before in
+    let start = c .before .before .before .before .before .before in
     let holds = start .pre .holds in all-priceable holds _ (omega (arith, holds .few))
 
 slice-aggregate-order-nodes : tie.Need-slice-aggregate-order-nodes
@@ -25,7 +25,7 @@ slice-aggregate-order-nodes-3 c = search needs
 
 order-nodes-requires : tie.Need-order-nodes-requires
 order-nodes-requires c κs =
-    let start = c .before .before .before .before .before .before .before .before .before .before .before .before .before in
+    let start = c .before .before .before .before .before .before .before .before .before .before .before .before in
     let price-nodes = c .before .before .before .before .before .price-nodes in
     let holds = start .pre .holds in
     let priced = price-nodes .ensures (start .pre .tree) (shows-tree holds) in
@@ -42,8 +42,8 @@ slice-aggregate-move-nodes-3 c = search needs
 
 move-nodes-requires : tie.Need-move-nodes-requires
 move-nodes-requires c κs =
-    let later = c .before .before .before .before .before .before .before .before .before in
-    let start = later .before .before .before .before .before .before .before .before .before .before .before .before .before .before in
+    let later = c .before .before .before .before .before .before .before .before in
+    let start = later .before .before .before .before .before .before .before .before .before .before .before .before .before in
     let price-nodes = later .before .before .before .before .before .before .price-nodes in
     let order-nodes = later .order-nodes in
     let holds = start .pre .holds in
@@ -61,14 +61,11 @@ same-length-2 c = search needs
 same-length-3 : tie.Need-same-length-3
 same-length-3 c = search needs
 
-same-length-4 : tie.Need-same-length-4
-same-length-4 c = search needs
-
 returns : tie.Need-returns
 returns c tree lent h =
-    let later = c .before .before .before .before .before .before .before in
-    let price-nodes = later .before .before .before .before .before .before .before .before .before .before .before .before .before .before .before .before .price-nodes in
-    let order-nodes = later .before .before .before .before .before .before .before .before .before .before .order-nodes in
+    let later = c .before .before .before .before .before in
+    let price-nodes = later .before .before .before .before .before .before .before .before .before .before .before .before .before .before .before .price-nodes in
+    let order-nodes = later .before .before .before .before .before .before .before .before .before .order-nodes in
     let move-nodes = later .move-nodes in
     let priced = price-nodes .ensures tree (shows-tree h) in
     let done = order-nodes .ensures _ (shows-nodes h priced) in
@@ -91,5 +88,4 @@ prune-tree-spec =
     same-length
     same-length-2
     same-length-3
-    same-length-4
     returns)
