@@ -44,7 +44,7 @@ below-all f count low [] i h = absurd (omega arith)
 below-all f count low (r ∷ l) zero h = low r
 below-all f count low (r ∷ l) (suc i) h = below-all f count low l i (omega arith)
 
-module _ {x : Flat} {words : List ℕ} {values : List ℤ} {spans counts : List ℕ} {rows count : ℕ} (o : Orderable x words values spans counts rows count) where
+module _ {x : Flat} {words : List ℕ} {values : List ℤ} {counts : List ℕ} {rows count : ℕ} (o : Orderable x words values counts rows count) where
   abbrev space : ℕ
   space = rows + count + count
 
@@ -176,8 +176,13 @@ module _ {x : Flat} {words : List ℕ} {values : List ℤ} {spans counts : List 
           ∙ ap (λ (k : ℕ). getD (ordered count (ordering (heldIn x) space1) .space) k 0) at
           ∙ span-end count (ordering (heldIn x) space1) i h ∙ ap (λ (l : List ℕ). firstOf l (suc i)) keys
 
-      pub spans-of : {spans' : List ℕ} → Pairs count count mid spans spans' → SpansOf ks count spans spans'
-      spans-of p = record { long = p .long; there = λ i h. (λ t. span ((p .first i h ∙ first-at i h) t) ((p .second i h ∙ end-at i h) t)); rest = p .rest }
+      pub spans-of : {words' : List ℕ} → Pairs count count mid words words' → SpansOf ks count words words'
+      spans-of p = record {
+        long = p .long;
+        there = λ i h. (λ t. span ((p .first i h ∙ first-at i h) t) ((p .second i h ∙ end-at i h) t));
+        nodes = p .nodes;
+        rest = p .rest;
+      }
 
       -- ---- the count space is clear again
       pub space-clear : (cleared : List ℕ) → cleared ≡ replicate (length mid) 0 → take rows counts2 ++ (cleared ++ drop (space - rows) (drop rows counts2))

@@ -5,50 +5,45 @@ use Prim.Native.Nat.{ℕ, _+_, _*_, _≤_, _<_}
 use native.Mathlib.Decide.{decLt}
 use native.Mathlib.Nat.{mul-le-mul-right}
 use native.Mathlib.Omega.{arith}
-use lib.ListN.{length, getD, set, length-set}
-use lib.Seq.{getD-set-same, getD-set-other, drop-set-lt}
-use Rattle.layout.specs.Tree.{rowsPerSpan, putSpan}
+use lib.ListN.{length, getD}
+use Rattle.layout.specs.Layout.{wordsPerNode, firstAt, endAt, putSpan, HasWords}
+use Rattle.layout.proofs.Spans.{span-long, span-here, span-other, span-elsewhere, span-past}
 use Rattle.seed.specs.Ordered.{Paired, Pairs}
 
 -- ---- pairs
-pub pairs-none : (count : ℕ) (space spans : List ℕ) → Pairs 0 count space spans spans
-pairs-none count space spans = record { long = refl; first = λ i h. absurd (none i h); second = λ i h. absurd (none i h); rest = refl }
+pub pairs-none : (count : ℕ) (space words : List ℕ) → Pairs 0 count space words words
+pairs-none count space words =
+    record { long = refl; first = λ i h. absurd (none i h); second = λ i h. absurd (none i h); nodes = record { word = λ i j h. refl }; rest = refl }
   where
     none : (i : ℕ) → i < 0 → ⊥
     none i h = omega arith
 
 module _ {count : ℕ} {space before : List ℕ} (p : Paired count space before) (k : ℕ) (l : List ℕ) (inside : k < count)
     (done : Pairs k count space before l) where
+  abbrev first : ℕ
+  first = getD space k 0
+
+  abbrev end : ℕ
+  end = getD space (count + k) 0
+
   abbrev next : List ℕ
-  next = putSpan k (getD space k 0) (getD space (count + k) 0) l
+  next = putSpan k first end l
 
-  there : k * rowsPerSpan + rowsPerSpan ≤ length l
-  there = omega (arith, p .room, done .long, mul-le-mul-right rowsPerSpan inside)
-
-  old : (m : ℕ) → m < k * rowsPerSpan → getD next m 0 ≡ getD l m 0
-  old m h =
-      getD-set-other (set l (k * rowsPerSpan) (getD space k 0)) (k * rowsPerSpan + 1) m (getD space (count + k) 0) 0 (λ (e : m ≡ k * rowsPerSpan + 1). omega arith)
-      ∙ getD-set-other l (k * rowsPerSpan) m (getD space k 0) 0 (λ (e : m ≡ k * rowsPerSpan). omega arith)
-
-  new-first : getD next (k * rowsPerSpan) 0 ≡ getD space k 0
-  new-first =
-      getD-set-other (set l (k * rowsPerSpan) (getD space k 0)) (k * rowsPerSpan + 1) (k * rowsPerSpan) (getD space (count + k) 0) 0 (λ (e : k * rowsPerSpan ≡ k * rowsPerSpan + 1). omega arith)
-      ∙ getD-set-same l (k * rowsPerSpan) (getD space k 0) 0 (omega (arith, there))
-
-  new-second : getD next (k * rowsPerSpan + 1) 0 ≡ getD space (count + k) 0
-  new-second = getD-set-same (set l (k * rowsPerSpan) (getD space k 0)) (k * rowsPerSpan + 1) (getD space (count + k) 0) 0 (simp length-set (omega (arith, there)))
+  room : HasWords l (k + 1)
+  room = omega (arith, p .room, done .long, mul-le-mul-right wordsPerNode inside)
 
   pub pairs-more : Pairs (k + 1) count space before next
   pairs-more =
       record {
-        long = simp length-set (done .long);
-        first = λ i h. elim (decLt i k) [ yes lt ↦ old (i * rowsPerSpan) (omega arith) ∙ done .first i lt | no ge ↦ (let e : i ≡ k = omega arith in rw e new-first) ];
-        second = λ i h. elim (decLt i k) [
-          | yes lt ↦ old (i * rowsPerSpan + 1) (omega arith)
-              ∙ done .second i lt
-          | no ge ↦ (let e : i ≡ k = omega arith in rw e new-second)
+        long = span-long l k first end ∙ done .long;
+        first = λ i h. elim (decLt i k) [
+          | yes lt ↦ span-other l k first end i (λ e. omega arith) .0 ∙ done .first i lt
+          | no ge ↦ (let e : i ≡ k = omega arith in rw e (span-here l k first end room .0))
         ];
-        rest =
-            drop-set-lt (count * rowsPerSpan) (set l (k * rowsPerSpan) (getD space k 0)) (k * rowsPerSpan + 1) (getD space (count + k) 0) (omega arith)
-            ∙ drop-set-lt (count * rowsPerSpan) l (k * rowsPerSpan) (getD space k 0) (omega arith) ∙ done .rest;
+        second = λ i h. elim (decLt i k) [
+          | yes lt ↦ span-other l k first end i (λ e. omega arith) .1 ∙ done .second i lt
+          | no ge ↦ (let e : i ≡ k = omega arith in rw e (span-here l k first end room .1))
+        ];
+        nodes = record { word = λ i j small. span-elsewhere l k first end i j small ∙ done .nodes .word i j small };
+        rest = span-past l k first end count inside ∙ done .rest;
       }

@@ -79,7 +79,7 @@ pair-spans-requires c κs =
     record {
       given = mid-long pre (numbers read) (read .leaf-numbers .kept .1 .1 .1 .1 .0) (read .leaf-numbers .ensures)
           (rows done) (space done) (done .order-by-number .kept .1 .1 .1 .0) (done .order-by-number .ensures);
-      room = pre .spans-there;
+      room = pre .sound .held;
     }
 
 mul-clear-u32 : tie.Need-mul-clear-u32

@@ -1,4 +1,4 @@
--- `seed::pair_spans` meets its contract. The invariant: the pairs of the entries passed stand in the span list. Assumes nothing.
+-- `seed::pair_spans` meets its contract. The invariant: the pairs of the nodes passed stand beside their words. Assumes nothing.
 use mathlib.Core.Path.{_≡_, subst}
 use Prim.Native.Nat.{ℕ, _≤_, _<_, _-_}
 use native.Mathlib.Omega.{arith}
@@ -9,10 +9,10 @@ use Rattle.seed.proofs.pair_spans.Statement.{statement}
 use Rattle.seed.proofs.pair_spans.Tie as tie
 
 abbrev Inv-loop : tie.InvT-loop
-Inv-loop space spans₀ count k₀ spans k = (k ≤ count) × Pairs k count space spans₀ spans
+Inv-loop space words₀ count k₀ words k = (k ≤ count) × Pairs k count space words₀ words
 
 abbrev μ-loop : tie.MeasureT-loop
-μ-loop space spans₀ count k₀ spans k = count - k
+μ-loop space words₀ count k₀ words k = count - k
 
 loop-holds : tie.Need-loop-holds Inv-loop μ-loop
 loop-holds c = (omega arith, pairs-none _ _ _)
@@ -33,7 +33,8 @@ shared-slice-read-t13 : tie.Need-shared-slice-read-t13 Inv-loop μ-loop
 shared-slice-read-t13 c = search needs
 
 put-span-requires : tie.Need-put-span-requires Inv-loop μ-loop
-put-span-requires c κs = omega (arith, c .before .before .before .before .loop .inv .1 .long, c .before .before .before .before .before .before .before .pre .room)
+put-span-requires c κs =
+    omega (arith, c .before .before .before .before .loop .inv .1 .long, c .before .before .before .before .before .before .before .pre .room)
 
 add-k : tie.Need-add-k Inv-loop μ-loop
 add-k c = search needs
@@ -46,7 +47,7 @@ loop-again c =
     let here = c .before .before .before .before .before .before .before .loop in
     let start = c .before .before .before .before .before .before .before .before .before .before in
     let inside : here .k < start .args .count = omega arith in
-    (omega arith, rw (c .before .before .put-span .ensures) (pairs-more (start .pre) (here .k) (here .spans) inside (here .inv .1)))
+    (omega arith, rw (c .before .before .put-span .ensures) (pairs-more (start .pre) (here .k) (here .words) inside (here .inv .1)))
 
 same-length : tie.Need-same-length Inv-loop μ-loop
 same-length c = c .before .loop .inv .1 .long
@@ -56,7 +57,7 @@ returns c =
     let here = c .before .loop in
     let start = c .before .before .before .before .args in
     let e : here .k ≡ start .count = omega arith in
-    subst (λ (k : ℕ). Pairs k (start .count) (start .space .now) (start .spans .now) (here .spans)) e (here .inv .1)
+    subst (λ (k : ℕ). Pairs k (start .count) (start .space .now) (start .words .now) (here .words)) e (here .inv .1)
 
 pub pair-spans-spec : {M : Type 1} → statement M
 pair-spans-spec =
