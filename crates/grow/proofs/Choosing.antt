@@ -18,7 +18,8 @@ use Rattle.model.proofs.Each.{each-getD}
 use Rattle.model.proofs.Growing.{Fine}
 use Rattle.checks.specs.declared.Settings.{Settings}
 use Rattle.layout.specs.declared.Tree.{Tree}
-use Rattle.layout.specs.Tree.{rowsPerSpan, NodeLists, HasRoom, HasSpans}
+use Rattle.layout.specs.Layout.{wordsPerNode, firstAt, endAt, HasWords}
+use Rattle.layout.specs.Tree.{NodeLists, HasRoom}
 use Rattle.layout.specs.Waiting.{QueueLists, Queued, QueueRoom, queueOf, firstBest, PendingAt}
 use Rattle.layout.proofs.Held.{room-fewer, holding-room, held-first, held-end, held-cost}
 use Rattle.layout.proofs.Queue.{choice-is, choice-some, bestOf, chosenAt, best-below, StandsIn, stands, fewer-room}
@@ -116,25 +117,25 @@ module _ {s : Settings} {logs : List Float} {counts : List ℕ} {x : Flat} {list
     pub val-is : p .val ≡ w .offer .val
     val-is = is .val ∙ queued-val queued k inside
 
-    pub spans-room : HasSpans (lists .spans) (p .node + 1)
-    spans-room =
-        let h : suc (p .node) * rowsPerSpan ≤ (tree .nodes + 2) * rowsPerSpan = mul-le-mul-right rowsPerSpan (omega (arith, node-is, node-inside)) in
-        let room = lists-room .spans in
+    pub words-room : HasWords (lists .words) (p .node + 1)
+    words-room =
+        let h : suc (p .node) * wordsPerNode ≤ (tree .nodes + 2) * wordsPerNode = mul-le-mul-right wordsPerNode (omega (arith, node-is, node-inside)) in
+        let room = lists-room .words in
         omega arith
 
     pub costs-room : p .node < length (lists .costs)
     costs-room = let h = node-inside in let same = node-is in let room = lists-room .costs in omega arith
 
-    pub first-is : getD (lists .spans) (p .node * 2) 0 ≡ e .span .first
-    first-is = ap (λ (l : NodeLists). getD (l .spans) (p .node * 2) 0) (g .nodes) ∙ rw node-is (held-first (st .tree) lent (w .node) (standing .within))
+    pub first-is : firstAt (lists .words) (p .node) ≡ e .span .first
+    first-is = ap (λ (l : NodeLists). firstAt (l .words) (p .node)) (g .nodes) ∙ rw node-is (held-first (st .tree) lent (w .node) (standing .within))
 
-    pub end-is : getD (lists .spans) (p .node * 2 + 1) 0 ≡ e .span .end
-    end-is = ap (λ (l : NodeLists). getD (l .spans) (p .node * 2 + 1) 0) (g .nodes) ∙ rw node-is (held-end (st .tree) lent (w .node) (standing .within))
+    pub end-is : endAt (lists .words) (p .node) ≡ e .span .end
+    end-is = ap (λ (l : NodeLists). endAt (l .words) (p .node)) (g .nodes) ∙ rw node-is (held-end (st .tree) lent (w .node) (standing .within))
 
     pub cost-is : getD (lists .costs) (p .node) nan ≡ e .info .cost
     cost-is = ap (λ (l : NodeLists). getD (l .costs) (p .node) nan) (g .nodes) ∙ rw node-is (held-cost (st .tree) lent (w .node) (standing .within))
 
-    module _ (first end : ℕ) (from : first ≡ getD (lists .spans) (p .node * 2) 0) (upto : end ≡ getD (lists .spans) (p .node * 2 + 1) 0) where
+    module _ (first end : ℕ) (from : first ≡ firstAt (lists .words) (p .node)) (upto : end ≡ endAt (lists .words) (p .node)) where
       pub rows-fit : RowsFit s logs counts (p .prop) (span first end) x
       rows-fit =
           let a : first ≡ e .span .first = from ∙ first-is in

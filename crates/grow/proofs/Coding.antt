@@ -2,7 +2,7 @@
 use mathlib.Core.Path.{_≡_, ap, _∙_, transport}
 use mathlib.Core.Bool.{Bool}
 use mathlib.Core.List.{List, _++_}
-use Prim.Native.Nat.{ℕ, suc, _+_, _-_, _*_, _≤_, _<_}
+use Prim.Native.Nat.{ℕ, suc, _+_, _-_, _≤_, _<_}
 use native.Mathlib.Numerals.{add-one}
 use native.Mathlib.Omega.{arith}
 use lib.ListN.{getD}
@@ -15,6 +15,7 @@ use Rattle.model.specs.Lent.{Waiting, noWaiting}
 use Rattle.model.specs.Grow.{Entry, State, noEntry, grownBits, step}
 use Rattle.checks.specs.declared.Settings.{Settings}
 use Rattle.layout.specs.declared.Tree.{Tree}
+use Rattle.layout.specs.Layout.{firstAt, endAt}
 use Rattle.layout.specs.Tree.{NodeLists, HasRoom}
 use Rattle.layout.specs.Values.{offerIs}
 use Rattle.layout.specs.Waiting.{QueueLists, Queued, SameQueue, queueOf, without, waits, firstBest, PendingAt}
@@ -31,7 +32,7 @@ module _ {s : Settings} {logs : List Float} {counts : List ℕ} {x : Flat} {list
     {lent : NodeLists} {st : State singles} {seeds : ℕ → Bool} {given : List Row} (g : Grows s logs counts x lists q tree left lent st seeds given)
     (k : ℕ) (one : 0 < left) (wait : 0 < tree .waiting) (best : k ≡ firstBest (q .gains) (tree .waiting))
     (p : Pending) (is : PendingAt q k p)
-    (first end : ℕ) (from : first ≡ getD (lists .spans) (p .node * 2) 0) (upto : end ≡ getD (lists .spans) (p .node * 2 + 1) 0)
+    (first end : ℕ) (from : first ≡ firstAt (lists .words) (p .node)) (upto : end ≡ endAt (lists .words) (p .node))
     {y : Flat} {r : Sides} (cut : RowsSplit (ltb 1 left) s logs counts (p .depth + 1) (p .prop) (p .val) (span first end) x y r) where
   abbrev w : Waiting singles
   w = getD (queueOf (st .tree)) k noWaiting

@@ -3,7 +3,7 @@ use mathlib.Core.Path.{_≡_, refl, sym, ap, _∙_, subst}
 use mathlib.Core.Bool.{Bool, true, false, _&&_, true≢false}
 use mathlib.Core.Logic.{_⊎_, inl, inr}
 use mathlib.Core.List.{List}
-use Prim.Native.Nat.{ℕ, zero, suc, _+_, _-_, _^_, _≤_, _<_}
+use Prim.Native.Nat.{ℕ, zero, suc, _-_, _≤_, _<_}
 use native.Mathlib.Omega.{arith}
 use native.Mathlib.Decide.{decLt}
 use lib.ListN.{length}
@@ -89,7 +89,7 @@ pub begins : {s : Settings} {logs : List Float} {counts : List ℕ} {x : Flat} {
 begins {x = x} = record {
   reached = λ lent st seeds given g. record { state = st; grows = g; onward = refl };
   size = size-same x;
-  nodes = record { words = refl; values = refl; costs = refl; spans = refl };
+  nodes = record { words = refl; values = refl; costs = refl };
   queue = record { words = refl; values = refl; gains = refl };
   space = refl;
 }
@@ -131,7 +131,6 @@ module _ {s : Settings} {logs : List Float} {counts₀ counts : List ℕ} {x₀ 
         words = nodes .words ∙ h .nodes .words;
         values = nodes .values ∙ h .nodes .values;
         costs = nodes .costs ∙ h .nodes .costs;
-        spans = nodes .spans ∙ h .nodes .spans;
       };
       queue = same-queue (h .queue) queue;
       space = space ∙ h .space;

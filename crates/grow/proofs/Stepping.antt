@@ -49,7 +49,7 @@ use Rattle.grow.proofs.Choosing as choosing
 -- a leaf that the code made holds the cells of the model's
 pub leaf-cells : {M : Meter} (first end : ℕ) (l : Entry M) (i : Info M) → l .node ≡ leaf → i ≡ l .info → first ≡ l .span .first → end ≡ l .span .end
     → SameCells (record { node = leaf; info = i; span = record { first = first; end = end }; depth = 0; offer = none }) l
-leaf-cells first end l i n e a b = record { words = rw (n, e); values = rw (n, e); costs = rw e; spans = rw (a, b) }
+leaf-cells first end l i n e a b = record { words = rw (n, e, a, b); values = rw (n, e); costs = rw e }
 
 module _ {s : Settings} {logs : List Float} {counts : List ℕ} {x : Flat} {lists : NodeLists} {q : QueueLists} {tree : Tree} {left : ℕ}
     {lent : NodeLists} {st : State singles} {seeds : ℕ → Bool} {given : List Row} (g : Grows s logs counts x lists q tree left lent st seeds given)

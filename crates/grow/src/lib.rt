@@ -1,5 +1,5 @@
-// Growth: the waiting leaf with the greatest gain is split, again and again, until so many splits are made or no leaf waits.
-// The Rust's `grow_tree` without its threads and speculation.
+// Growth: the waiting leaf with the greatest gain is split, again and again, until so many splits are made or no leaf
+// waits. The Rust's `grow_tree` without its threads and speculation.
 ghost use mathlib.Core.Path.{_≡_};
 ghost use mathlib.Core.Bool.{Bool};
 ghost use mathlib.Core.List.{List, _++_};
@@ -10,9 +10,9 @@ ghost use Rattle.model.specs.Rows.{Row};
 ghost use Rattle.model.specs.Single.{singles};
 ghost use Rattle.model.specs.Lent.{Waiting};
 ghost use Rattle.model.specs.Grow.{State, grownBits, step, steps};
-ghost use Rattle.layout.specs.Tree.{NodeLists, nodeLists, HasRoom};
+ghost use Rattle.layout.specs.Tree.{NodeLists, nodesNow, HasRoom};
 ghost use Rattle.layout.specs.Values.{offerIs};
-ghost use Rattle.layout.specs.Waiting.{queueLists, Queued, QueueRoom, SameQueue, without, waits};
+ghost use Rattle.layout.specs.Waiting.{queueNow, Queued, QueueRoom, SameQueue, without, waits};
 ghost use Rattle.rows.specs.Cells.{span};
 ghost use Rattle.rows.specs.Flat.{flat};
 ghost use Rattle.grow.specs.Parts.{RowsFit, RowsSplit, splitNodes};
@@ -33,7 +33,8 @@ struct Sides {
     le: Leaf,
 }
 
-// Rows above the threshold go first, and both parts take their own mode. Splits of the new leaves are scored only if asked for.
+// Rows above the threshold go first, and both parts take their own mode. Splits of the new leaves are scored only if
+// asked for.
 fn split_rows(
     props: &mut [i32],
     tok: &mut [u8],
@@ -65,7 +66,6 @@ fn split_nodes(
     words: &mut [u32],
     values: &mut [i32],
     costs: &mut [f32],
-    spans: &mut [u32],
     i: usize,
     count: usize,
     prop: u32,
@@ -76,15 +76,15 @@ fn split_nodes(
     gt: NodeInfo,
     le: NodeInfo,
 )
-    requires { ⌜ HasRoom (count + 2) (nodeLists (now words) (now values) (now costs) (now spans)) ⌝ }
+    requires { ⌜ HasRoom (count + 2) (nodesNow words values costs) ⌝ }
     requires { ⌜ (i < count) × (count + 2 ≤ maxNodes) × (first ≤ maxRows) × (at ≤ maxRows) × (end ≤ maxRows) ⌝ }
-    ensures { λ _. ⌜ nodeLists (now (words .exit)) (now (values .exit)) (now (costs .exit)) (now (spans .exit))
+    ensures { λ _. ⌜ nodesNow (words .exit) (values .exit) (costs .exit)
         ≡ splitNodes i prop val count gt le first at end
-        (nodeLists (now (words .entry)) (now (values .entry)) (now (costs .entry)) (now (spans .entry))) ⌝ }
+        (nodesNow (words .entry) (values .entry) (costs .entry)) ⌝ }
 {
     layout::put_split(words, values, i, prop, val, count as u32);
-    layout::put_leaf(words, values, costs, spans, count, gt, first, at);
-    layout::put_leaf(words, values, costs, spans, count + 1, le, at, end);
+    layout::put_leaf(words, values, costs, count, gt, first, at);
+    layout::put_leaf(words, values, costs, count + 1, le, at, end);
 }
 
 // The leaf at place k no longer waits, and the new leaves wait if they offer a split. Returns how many wait.
@@ -99,12 +99,13 @@ fn requeue(
     gt: Offer,
     le: Offer,
 ) -> usize
-    requires { ⌜ (k < waiting) × (count + 2 ≤ maxNodes) × QueueRoom (waiting + 1) (queueLists (now words) (now values) (now gains)) ⌝ }
-    ensures { λ r. ⌜ ((leaves : List (Waiting singles)) → Queued waiting (queueLists (now (words .entry)) (now (values .entry)) (now (gains .entry))) leaves
-        → Queued r (queueLists (now (words .exit)) (now (values .exit)) (now (gains .exit)))
+    requires { ⌜ (k < waiting) × (count + 2 ≤ maxNodes) × QueueRoom (waiting + 1) (queueNow words values gains) ⌝ }
+    ensures { λ r. ⌜ ((leaves : List (Waiting singles))
+        → Queued waiting (queueNow (words .entry) (values .entry) (gains .entry)) leaves
+        → Queued r (queueNow (words .exit) (values .exit) (gains .exit))
         (without k leaves ++ waits count depth (offerIs gt) ++ waits (count + 1) depth (offerIs le))) ⌝ }
-    ensures { λ r. ⌜ (r ≤ waiting + 1) × SameQueue (queueLists (now (words .entry)) (now (values .entry)) (now (gains .entry)))
-        (queueLists (now (words .exit)) (now (values .exit)) (now (gains .exit))) ⌝ }
+    ensures { λ r. ⌜ (r ≤ waiting + 1) × SameQueue (queueNow (words .entry) (values .entry) (gains .entry))
+        (queueNow (words .exit) (values .exit) (gains .exit)) ⌝ }
 {
     queue::unqueue(words, values, gains, waiting, k);
     let one = queue::enqueue(words, values, gains, waiting - 1, count, depth, gt);
@@ -121,7 +122,8 @@ fn grown_bits(bits: f64, gt: f32, le: f32, parent: f32) -> f64
 
 // ---- one split
 
-// Splits the leaf that waits at place k. After the last split nothing reads what the new leaves offer, so they are not scored.
+// Splits the leaf that waits at place k. After the last split nothing reads what the new leaves offer, so they are not
+// scored.
 fn split_leaf(
     props: &mut [i32],
     tok: &mut [u8],
@@ -129,7 +131,6 @@ fn split_leaf(
     words: &mut [u32],
     values: &mut [i32],
     costs: &mut [f32],
-    spans: &mut [u32],
     queue_words: &mut [u32],
     queue_values: &mut [i32],
     queue_gains: &mut [f32],
@@ -140,16 +141,19 @@ fn split_leaf(
     left: usize,
     k: usize,
 ) -> Tree
-    requires { ⌜ Splits s (now logs) (now counts) (flat (now props) (now tok) (now res)) (nodeLists (now words) (now values) (now costs) (now spans))
-        (queueLists (now «queue_words») (now «queue_values») (now «queue_gains»)) tree left k ⌝ }
+    requires { ⌜ Splits s (now logs) (now counts) (flat (now props) (now tok) (now res)) (nodesNow words values costs)
+        (queueNow «queue_words» «queue_values» «queue_gains») tree left k ⌝ }
     ensures { λ r. ⌜ ((lent : NodeLists) (st : State singles) (seeds : ℕ → Bool) (given : List Row)
-        → Grows s (now (logs .entry)) (now (counts .entry)) (flat (now (props .entry)) (now (tok .entry)) (now (res .entry)))
-        (nodeLists (now (words .entry)) (now (values .entry)) (now (costs .entry)) (now (spans .entry)))
-        (queueLists (now («queue_words» .entry)) (now («queue_values» .entry)) (now («queue_gains» .entry))) tree left lent st seeds given
-        → Grows s (now (logs .entry)) (now (counts .entry)) (flat (now (props .exit)) (now (tok .exit)) (now (res .exit)))
-        (nodeLists (now (words .exit)) (now (values .exit)) (now (costs .exit)) (now (spans .exit)))
-        (queueLists (now («queue_words» .exit)) (now («queue_values» .exit)) (now («queue_gains» .exit))) r (left - 1)
-        lent (step (jobIn s (now (logs .entry)) (flat (now (props .entry)) (now (tok .entry)) (now (res .entry)))) st) seeds given) ⌝ }
+        → Grows s (now (logs .entry)) (now (counts .entry))
+        (flat (now (props .entry)) (now (tok .entry)) (now (res .entry)))
+        (nodesNow (words .entry) (values .entry) (costs .entry))
+        (queueNow («queue_words» .entry) («queue_values» .entry) («queue_gains» .entry)) tree left lent st seeds given
+        → Grows s (now (logs .entry)) (now (counts .entry))
+        (flat (now (props .exit)) (now (tok .exit)) (now (res .exit)))
+        (nodesNow (words .exit) (values .exit) (costs .exit))
+        (queueNow («queue_words» .exit) («queue_values» .exit) («queue_gains» .exit)) r (left - 1)
+        lent (step (jobIn s (now (logs .entry)) (flat (now (props .entry)) (now (tok .entry)) (now (res .entry)))) st)
+        seeds given) ⌝ }
     ensures { λ _. ⌜ now (counts .exit) ≡ now (counts .entry) ⌝ }
 {
     let p = layout::pending_at(queue_words, queue_values, queue_gains, k);
@@ -157,7 +161,7 @@ fn split_leaf(
     let prop = p.prop;
     let val = p.val;
     let depth = p.depth + 1;
-    let b = layout::span_at(spans, i);
+    let b = layout::span_at(words, i);
     let first = b.first as usize;
     let end = b.end as usize;
     let cost = costs[i];
@@ -186,7 +190,6 @@ fn split_leaf(
         words,
         values,
         costs,
-        spans,
         i,
         tree.nodes,
         prop,
@@ -225,7 +228,6 @@ pub fn grow_tree(
     words: &mut [u32],
     values: &mut [i32],
     costs: &mut [f32],
-    spans: &mut [u32],
     queue_words: &mut [u32],
     queue_values: &mut [i32],
     queue_gains: &mut [f32],
@@ -235,19 +237,22 @@ pub fn grow_tree(
     tree: Tree,
     more: usize,
 ) -> Tree
-    requires { ⌜ Growable s (now logs) (now counts) (flat (now props) (now tok) (now res)) (nodeLists (now words) (now values) (now costs) (now spans))
-        (queueLists (now «queue_words») (now «queue_values») (now «queue_gains»)) tree more ⌝ }
+    requires { ⌜ Growable s (now logs) (now counts) (flat (now props) (now tok) (now res)) (nodesNow words values costs)
+        (queueNow «queue_words» «queue_values» «queue_gains») tree more ⌝ }
     ensures { λ r. ⌜ ((lent : NodeLists) (st : State singles) (seeds : ℕ → Bool) (given : List Row)
-        → Grows s (now (logs .entry)) (now (counts .entry)) (flat (now (props .entry)) (now (tok .entry)) (now (res .entry)))
-        (nodeLists (now (words .entry)) (now (values .entry)) (now (costs .entry)) (now (spans .entry)))
-        (queueLists (now («queue_words» .entry)) (now («queue_values» .entry)) (now («queue_gains» .entry))) tree more lent st seeds given
-        → GrownTo s (now (logs .entry)) (now (counts .entry)) (flat (now (props .entry)) (now (tok .entry)) (now (res .entry)))
+        → Grows s (now (logs .entry)) (now (counts .entry))
+        (flat (now (props .entry)) (now (tok .entry)) (now (res .entry)))
+        (nodesNow (words .entry) (values .entry) (costs .entry))
+        (queueNow («queue_words» .entry) («queue_values» .entry) («queue_gains» .entry)) tree more lent st seeds given
+        → GrownTo s (now (logs .entry)) (now (counts .entry))
+        (flat (now (props .entry)) (now (tok .entry)) (now (res .entry)))
         (flat (now (props .exit)) (now (tok .exit)) (now (res .exit)))
-        (nodeLists (now (words .exit)) (now (values .exit)) (now (costs .exit)) (now (spans .exit))) r
-        lent (steps (jobIn s (now (logs .entry)) (flat (now (props .entry)) (now (tok .entry)) (now (res .entry)))) more st)) ⌝ }
+        (nodesNow (words .exit) (values .exit) (costs .exit)) r
+        lent (steps (jobIn s (now (logs .entry)) (flat (now (props .entry)) (now (tok .entry)) (now (res .entry))))
+        more st)) ⌝ }
     ensures { λ _. ⌜ now (counts .exit) ≡ now (counts .entry) ⌝ }
-    ensures { λ _. ⌜ SameQueue (queueLists (now («queue_words» .entry)) (now («queue_values» .entry)) (now («queue_gains» .entry)))
-        (queueLists (now («queue_words» .exit)) (now («queue_values» .exit)) (now («queue_gains» .exit))) ⌝ }
+    ensures { λ _. ⌜ SameQueue (queueNow («queue_words» .entry) («queue_values» .entry) («queue_gains» .entry))
+        (queueNow («queue_words» .exit) («queue_values» .exit) («queue_gains» .exit)) ⌝ }
 {
     let mut tree = tree;
     let mut left = more;
@@ -260,7 +265,6 @@ pub fn grow_tree(
             words,
             values,
             costs,
-            spans,
             queue_words,
             queue_values,
             queue_gains,

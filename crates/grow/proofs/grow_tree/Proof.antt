@@ -11,25 +11,27 @@ use Rattle.grow.proofs.grow_tree.Statement.{statement}
 use Rattle.grow.proofs.grow_tree.Tie as tie
 
 abbrev Inv-loop : tie.InvT-loop
-Inv-loop props₀ tok₀ res₀ words₀ values₀ costs₀ spans₀ queue-words₀ queue-values₀ queue-gains₀ counts₀ logs s more tree₀ left₀ props tok res words values costs spans queue-words queue-values queue-gains counts tree left =
-    Going s logs counts₀ counts (flat props₀ tok₀ res₀) (flat props tok res) (nodeLists words₀ values₀ costs₀ spans₀) (nodeLists words values costs spans)
+Inv-loop props₀ tok₀ res₀ words₀ values₀ costs₀ queue-words₀ queue-values₀ queue-gains₀ counts₀ logs s more tree₀ left₀
+    props tok res words values costs queue-words queue-values queue-gains counts tree left =
+    Going s logs counts₀ counts (flat props₀ tok₀ res₀) (flat props tok res) (nodeLists words₀ values₀ costs₀) (nodeLists words values costs)
     (queueLists queue-words₀ queue-values₀ queue-gains₀) (queueLists queue-words queue-values queue-gains) tree₀ tree more left
 
 abbrev μ-loop : tie.MeasureT-loop
-μ-loop props₀ tok₀ res₀ words₀ values₀ costs₀ spans₀ queue-words₀ queue-values₀ queue-gains₀ counts₀ logs s more tree₀ left₀ props tok res words values costs spans queue-words queue-values queue-gains counts tree left = left
+μ-loop props₀ tok₀ res₀ words₀ values₀ costs₀ queue-words₀ queue-values₀ queue-gains₀ counts₀ logs s more tree₀ left₀
+    props tok res words values costs queue-words queue-values queue-gains counts tree left = left
 
 -- ---- from the loop back to the entry, from its test to the loop, from the call to the test, and from the turn's end to the call
 abbrev entry : tie.At-loop Inv-loop μ-loop → tie.Start Inv-loop μ-loop
-entry c = c .before .before .before .before .before .before .before .before .before
+entry c = c .before .before .before .before .before .before .before .before
 
 abbrev loop : tie.Then1 Inv-loop μ-loop → tie.At-loop Inv-loop μ-loop
 loop c = c .before .before
 
-abbrev test : tie.After-split-leaf-arg11 Inv-loop μ-loop → tie.Then1 Inv-loop μ-loop
-test c = c .before .before .before .before .before .before .before .before .before .before .before .before .before
+abbrev test : tie.After-split-leaf-arg10 Inv-loop μ-loop → tie.Then1 Inv-loop μ-loop
+test c = c .before .before .before .before .before .before .before .before .before .before .before .before
 
-abbrev call : tie.After-slice-known14 Inv-loop μ-loop → tie.After-split-leaf Inv-loop μ-loop
-call c = c .before .before .before .before .before .before .before .before .before .before .before .before .before .before .before .before .before .before
+abbrev call : tie.After-slice-known12 Inv-loop μ-loop → tie.After-split-leaf Inv-loop μ-loop
+call c = c .before .before .before .before .before .before .before .before .before .before .before .before .before .before .before .before
 
 loop-holds : tie.Need-loop-holds Inv-loop μ-loop
 loop-holds c = begins
@@ -39,12 +41,12 @@ greatest-requires c κs = let here = loop (c .before) in gains-enough (entry her
 
 split-leaf-requires : tie.Need-split-leaf-requires Inv-loop μ-loop
 split-leaf-requires c κs =
-    let best = c .before .before .before .before .before .before .before .before .before .before .before .greatest in
+    let best = c .before .before .before .before .before .before .before .before .before .before .greatest in
     let here = loop (test c) in
     splits (entry here .pre) (here .loop .inv) (test c .if1 .taken) (best .result) (best .ensures)
 
 -- the turn that ends is one of those asked for
-less-left : (c : tie.After-slice-known14 Inv-loop μ-loop) → 0 < loop (test (call c .before)) .loop .left
+less-left : (c : tie.After-slice-known12 Inv-loop μ-loop) → 0 < loop (test (call c .before)) .loop .left
 less-left c = let turn = test (call c .before) in some-left (entry (loop turn) .pre) (loop turn .loop .inv) (turn .if1 .taken)
 
 sub-left : tie.Need-sub-left Inv-loop μ-loop
@@ -61,12 +63,12 @@ loop-again c =
     let kept = turned .kept in
     turn (entry (loop turned-from) .pre) (loop turned-from .loop .inv) (turned-from .if1 .taken)
     {x' = flat (last .0) (last .1 .0) (last .1 .1 .0)}
-    {lists' = nodeLists (last .1 .1 .1 .0) (last .1 .1 .1 .1 .0) (last .1 .1 .1 .1 .1 .0) (last .1 .1 .1 .1 .1 .1 .0)}
-    {q' = queueLists (last .1 .1 .1 .1 .1 .1 .1 .0) (last .1 .1 .1 .1 .1 .1 .1 .1 .0) (last .1 .1 .1 .1 .1 .1 .1 .1 .1 .0)}
+    {lists' = nodeLists (last .1 .1 .1 .0) (last .1 .1 .1 .1 .0) (last .1 .1 .1 .1 .1 .0)}
+    {q' = queueLists (last .1 .1 .1 .1 .1 .1 .0) (last .1 .1 .1 .1 .1 .1 .1 .0) (last .1 .1 .1 .1 .1 .1 .1 .1 .0)}
     {tree' = turned .result} (turned .ensures .0) (turned .ensures .1)
     (record { props = kept .0; toks = kept .1 .0; res = kept .1 .1 .0 })
-    (record { words = kept .1 .1 .1 .0; values = kept .1 .1 .1 .1 .0; costs = kept .1 .1 .1 .1 .1 .0; spans = kept .1 .1 .1 .1 .1 .1 .0 })
-    (record { words = kept .1 .1 .1 .1 .1 .1 .1 .0; values = kept .1 .1 .1 .1 .1 .1 .1 .1 .0; gains = kept .1 .1 .1 .1 .1 .1 .1 .1 .1 .0 })
+    (record { words = kept .1 .1 .1 .0; values = kept .1 .1 .1 .1 .0; costs = kept .1 .1 .1 .1 .1 .0 })
+    (record { words = kept .1 .1 .1 .1 .1 .1 .0; values = kept .1 .1 .1 .1 .1 .1 .1 .0; gains = kept .1 .1 .1 .1 .1 .1 .1 .1 .0 })
 
 same-length : tie.Need-same-length Inv-loop μ-loop
 same-length c = c .before .before .loop .inv .size .props
@@ -87,19 +89,16 @@ same-length-6 : tie.Need-same-length-6 Inv-loop μ-loop
 same-length-6 c = c .before .before .loop .inv .nodes .costs
 
 same-length-7 : tie.Need-same-length-7 Inv-loop μ-loop
-same-length-7 c = c .before .before .loop .inv .nodes .spans
+same-length-7 c = c .before .before .loop .inv .queue .words
 
 same-length-8 : tie.Need-same-length-8 Inv-loop μ-loop
-same-length-8 c = c .before .before .loop .inv .queue .words
+same-length-8 c = c .before .before .loop .inv .queue .values
 
 same-length-9 : tie.Need-same-length-9 Inv-loop μ-loop
-same-length-9 c = c .before .before .loop .inv .queue .values
+same-length-9 c = c .before .before .loop .inv .queue .gains
 
 same-length-10 : tie.Need-same-length-10 Inv-loop μ-loop
-same-length-10 c = c .before .before .loop .inv .queue .gains
-
-same-length-11 : tie.Need-same-length-11 Inv-loop μ-loop
-same-length-11 c = ap length (c .before .before .loop .inv .space)
+same-length-10 c = ap length (c .before .before .loop .inv .space)
 
 returns : tie.Need-returns Inv-loop μ-loop
 returns c =
@@ -128,5 +127,4 @@ grow-tree-spec =
     same-length-8
     same-length-9
     same-length-10
-    same-length-11
     returns)

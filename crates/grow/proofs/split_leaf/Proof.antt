@@ -22,13 +22,23 @@ use borrow.Author.Needs.{needs}
 use Rattle.grow.proofs.split_leaf.Statement.{statement}
 use Rattle.grow.proofs.split_leaf.Tie as tie
 
+-- ---- from the first read back to the entry, from the split of the nodes to that of the rows, and from the queue to the nodes
+abbrev entry : tie.After-pending-at → tie.Start
+entry c = c .before .before .before .before .before .before .before .before .before .before .before
+
+abbrev rows-before : tie.After-split-nodes → tie.After-split-rows
+rows-before c = c .before .before .before .before .before .before .before .before .before .before .before .before .before .before
+
+abbrev nodes-before : tie.After-requeue → tie.After-split-nodes
+nodes-before c = c .before .before .before .before .before .before .before .before .before
+
 -- a state that the lists hold at entry
 module _ (start : tie.Start) where
   abbrev x : Flat
   x = flat (start .args .props .now) (start .args .tok .now) (start .args .res .now)
 
   abbrev lists : NodeLists
-  lists = nodeLists (start .args .words .now) (start .args .values .now) (start .args .costs .now) (start .args .spans .now)
+  lists = nodeLists (start .args .words .now) (start .args .values .now) (start .args .costs .now)
 
   abbrev queue : QueueLists
   queue = queueLists (start .args .queue-words .now) (start .args .queue-values .now) (start .args .queue-gains .now)
@@ -46,7 +56,7 @@ module _ (c : tie.After-split-rows) where
   pended = c .before .before .before .before .before .before .before .before .before .before .before .before .before
 
   abbrev begun : tie.Start
-  begun = pended .before .before .before .before .before .before .before .before .before .before .before .before
+  begun = entry pended
 
   abbrev p : Pending
   p = pended .pending-at .result
@@ -76,7 +86,7 @@ module _ (c : tie.After-split-rows) where
 
 pending-at-requires : tie.Need-pending-at-requires
 pending-at-requires c κs =
-    let start = c .before .before .before .before .before .before .before .before .before .before .before in
+    let start = c .before .before .before .before .before .before .before .before .before .before in
     let inside = choosing.inside (grows start) (start .args .k) (start .pre .one-more) (start .pre .some-wait) (start .pre .best) in
     let room = grows start .queue-room in
     record { words = omega (arith, inside, room .words); values = omega (arith, inside, room .values); gains = omega (arith, inside, room .gains) }
@@ -87,7 +97,7 @@ cast-i c = search needs
 add-depth : tie.Need-add-depth
 add-depth c =
     let pended = c .before .before .before in
-    let start = pended .before .before .before .before .before .before .before .before .before .before .before .before in
+    let start = entry pended in
     let same = choosing.depth-is (grows start) (start .args .k) (start .pre .one-more) (start .pre .some-wait) (start .pre .best)
     (pended .pending-at .result) (pended .pending-at .ensures) in
     omega (arith, same, choosing.shallow-leaf (grows start) (start .args .k) (start .pre .one-more) (start .pre .some-wait) (start .pre .best))
@@ -95,8 +105,8 @@ add-depth c =
 span-at-requires : tie.Need-span-at-requires
 span-at-requires c κs =
     let pended = c .before .before .before .before in
-    let start = pended .before .before .before .before .before .before .before .before .before .before .before .before in
-    choosing.spans-room (grows start) (start .args .k) (start .pre .one-more) (start .pre .some-wait) (start .pre .best)
+    let start = entry pended in
+    choosing.words-room (grows start) (start .args .k) (start .pre .one-more) (start .pre .some-wait) (start .pre .best)
     (pended .pending-at .result) (pended .pending-at .ensures)
 
 cast-first : tie.Need-cast-first
@@ -108,7 +118,7 @@ cast-end c = search needs
 mul-cost : tie.Need-mul-cost
 mul-cost c =
     let pended = c .before .before .before .before .before .before .before in
-    let start = pended .before .before .before .before .before .before .before .before .before .before .before .before in
+    let start = entry pended in
     let same = choosing.node-is (grows start) (start .args .k) (start .pre .one-more) (start .pre .some-wait) (start .pre .best)
     (pended .pending-at .result) (pended .pending-at .ensures) in
     let inside = choosing.node-inside (grows start) (start .args .k) (start .pre .one-more) (start .pre .some-wait) (start .pre .best) in
@@ -117,7 +127,7 @@ mul-cost c =
 slice-read-cost : tie.Need-slice-read-cost
 slice-read-cost c =
     let pended = c .before .before .before .before .before .before .before .before in
-    let start = pended .before .before .before .before .before .before .before .before .before .before .before .before in
+    let start = entry pended in
     choosing.costs-room (grows start) (start .args .k) (start .pre .one-more) (start .pre .some-wait) (start .pre .best)
     (pended .pending-at .result) (pended .pending-at .ensures)
 
@@ -128,49 +138,51 @@ split-rows-requires : tie.Need-split-rows-requires
 split-rows-requires c κs =
     let bounded = c .before .before .before .before .before .before .before in
     let pended = bounded .before .before .before .before .before in
-    let start = pended .before .before .before .before .before .before .before .before .before .before .before .before in
+    let start = entry pended in
     choosing.rows-fit (grows start) (start .args .k) (start .pre .one-more) (start .pre .some-wait) (start .pre .best)
     (pended .pending-at .result) (pended .pending-at .ensures)
     (bounded .span-at .result .first) (bounded .span-at .result .end) (bounded .span-at .ensures .0) (bounded .span-at .ensures .1)
 
 split-nodes-requires : tie.Need-split-nodes-requires
 split-nodes-requires c κs =
-    let on1 = c .before .before .before .before .before .before .before .before .before .before .before .before .before in
-    let rowed = on1 .before in
+    let rowed = c .before .before .before .before .before .before .before .before .before .before .before .before .before in
     let bounded = rowed .before .before .before .before .before .before .before .before in
     let pended = bounded .before .before .before .before .before in
-    let start = pended .before .before .before .before .before .before .before .before .before .before .before .before in
+    let start = entry pended in
     coding.nodes-fit (grows start) (start .args .k) (start .pre .one-more) (start .pre .some-wait) (start .pre .best)
     (pended .pending-at .result) (pended .pending-at .ensures)
     (bounded .span-at .result .first) (bounded .span-at .result .end) (bounded .span-at .ensures .0) (bounded .span-at .ensures .1) (cut rowed)
 
 requeue-requires : tie.Need-requeue-requires
 requeue-requires c κs =
-    let on1 = c .before .before .before .before .before .before .before .before .before .before .before .before .before in
-    let on2 = on1 .before .before .before .before .before .before .before .before .before .before .before .before .before in
-    let on3 = on2 .before .before .before .before .before .before .before .before .before .before .before .before .before in
-    let start = on3 .before .before .before .before .before .before .before .before .before .before .before in
+    let start = begun (rows-before (c .before .before .before .before .before .before .before .before)) in
     let inside = choosing.inside (grows start) (start .args .k) (start .pre .one-more) (start .pre .some-wait) (start .pre .best) in
     let few = choosing.few-nodes (grows start) (start .args .k) (start .pre .one-more) (start .pre .some-wait) (start .pre .best) in
     (inside, few, choosing.queue-room (grows start) (start .args .k) (start .pre .one-more) (start .pre .some-wait) (start .pre .best))
 
-add-t43 : tie.Need-add-t43
-add-t43 c =
-    let start = begun (c .before .before .before .before .before .before .before .before .before .before .before .before .before .before .before .before .before .before .before .before .before .before .before .before .before .before .before .before .before .before .before .before) in
+add-t42 : tie.Need-add-t42
+add-t42 c =
+    let start = begun (rows-before (nodes-before (c .before .before .before .before .before .before))) in
     let few = choosing.few-nodes (grows start) (start .args .k) (start .pre .one-more) (start .pre .some-wait) (start .pre .best) in
     record { fits = omega (arith, few) }
 
 grown-bits-requires : tie.Need-grown-bits-requires
 grown-bits-requires c κs =
-    let rowed = c .before .before .before .before .before .before .before .before .before .before .before .before .before .before .before .before .before .before .before .before .before .before .before .before .before .before .before .before .before .before .before .before in
+    let rowed = rows-before (nodes-before (c .before .before .before .before .before .before)) in
     let bounded = rowed .before .before .before .before .before .before .before .before .span-at in
     let start = begun rowed in
     coding.growth-fits (grows start) (start .args .k) (start .pre .one-more) (start .pre .some-wait) (start .pre .best)
     (p rowed) (pended rowed .pending-at .ensures)
     (b rowed .first) (b rowed .end) (bounded .ensures .0) (bounded .ensures .1) (cut rowed)
 
+abbrev after-requeue : tie.After-grown-bits → tie.After-requeue
+after-requeue c = c .before .before .before .before .before .before .before
+
+abbrev after-split-nodes : tie.After-grown-bits → tie.After-split-nodes
+after-split-nodes c = nodes-before (after-requeue c)
+
 abbrev after-split-rows : tie.After-grown-bits → tie.After-split-rows
-after-split-rows c = c .before .before .before .before .before .before .before .before .before .before .before .before .before .before .before .before .before .before .before .before .before .before .before .before .before .before .before .before .before .before .before .before .before
+after-split-rows c = rows-before (after-split-nodes c)
 
 same-length : tie.Need-same-length
 same-length c = after-split-rows c .split-rows .kept .0
@@ -180,9 +192,6 @@ same-length-2 c = after-split-rows c .split-rows .kept .1 .0
 
 same-length-3 : tie.Need-same-length-3
 same-length-3 c = after-split-rows c .split-rows .kept .1 .1 .0
-
-abbrev after-split-nodes : tie.After-grown-bits → tie.After-split-nodes
-after-split-nodes c = c .before .before .before .before .before .before .before .before .before .before .before .before .before .before .before .before .before .before
 
 same-length-4 : tie.Need-same-length-4
 same-length-4 c = after-split-nodes c .split-nodes .kept .0
@@ -194,22 +203,16 @@ same-length-6 : tie.Need-same-length-6
 same-length-6 c = after-split-nodes c .split-nodes .kept .1 .1 .0
 
 same-length-7 : tie.Need-same-length-7
-same-length-7 c = after-split-nodes c .split-nodes .kept .1 .1 .1 .0
-
-abbrev after-requeue : tie.After-grown-bits → tie.After-requeue
-after-requeue c = c .before .before .before .before .before .before .before
+same-length-7 c = after-requeue c .requeue .kept .0
 
 same-length-8 : tie.Need-same-length-8
-same-length-8 c = after-requeue c .requeue .kept .0
+same-length-8 c = after-requeue c .requeue .kept .1 .0
 
 same-length-9 : tie.Need-same-length-9
-same-length-9 c = after-requeue c .requeue .kept .1 .0
+same-length-9 c = after-requeue c .requeue .kept .1 .1 .0
 
 same-length-10 : tie.Need-same-length-10
-same-length-10 c = after-requeue c .requeue .kept .1 .1 .0
-
-same-length-11 : tie.Need-same-length-11
-same-length-11 c = after-split-rows c .split-rows .kept .1 .1 .1 .0
+same-length-10 c = after-split-rows c .split-rows .kept .1 .1 .1 .0
 
 returns : tie.Need-returns
 returns c =
@@ -219,7 +222,7 @@ returns c =
     let bounded = rowed .before .before .before .before .before .before .before .before .span-at in
     let start = begun rowed in
     let last = nodes .last in
-    let lists' = nodeLists (last .0) (last .1 .0) (last .1 .1 .0) (last .1 .1 .1 .0) in
+    let lists' = nodeLists (last .0) (last .1 .0) (last .1 .1 .0) in
     let q' = queueLists (again .last .0) (again .last .1 .0) (again .last .1 .1 .0) in
     let tree' : Tree = record { nodes = start .args .tree .nodes + 2; waiting = again .result; bits = c .grown-bits .result } in
     let stored : lists' ≡ Stored rowed (p rowed .val) = nodes .ensures ∙ ap (Stored rowed) (same-val rowed) in (
@@ -248,7 +251,7 @@ split-leaf-spec =
     split-rows-requires
     split-nodes-requires
     requeue-requires
-    add-t43
+    add-t42
     grown-bits-requires
     same-length
     same-length-2
@@ -260,5 +263,4 @@ split-leaf-spec =
     same-length-8
     same-length-9
     same-length-10
-    same-length-11
     returns)

@@ -33,24 +33,21 @@ same-length-2 c = search needs
 same-length-3 : tie.Need-same-length-3
 same-length-3 c = search needs
 
-same-length-4 : tie.Need-same-length-4
-same-length-4 c = search needs
-
 returns : tie.Need-returns
 unfolding splitNodes
 returns c =
-    let le = c .before .before .before .before .before .before .before in
-    let gt = le .before .before .before .before .before .before .before .before .before .before .before .before in
-    let split = gt .before .before .before .before .before .before .before .before in
-    let start = split .before .before .before .before .before .before in
+    let le = c .before .before .before .before .before in
+    let gt = le .before .before .before .before .before .before .before .before .before in
+    let split = gt .before .before .before .before .before .before .before in
+    let start = split .before .before .before .before .before in
     let given = start .args in
     let one = split .put-split in
     let same = toZ-ofZ w32 (given .val) (start .fits .val) in
     let val = rw same at (one .ensures .1) in
-    let begun = nodeLists (given .words .now) (given .values .now) (given .costs .now) (given .spans .now) in
-    let first : nodeLists (one .last .0) (one .last .1 .0) (given .costs .now) (given .spans .now)
+    let begun = nodeLists (given .words .now) (given .values .now) (given .costs .now) in
+    let first : nodeLists (one .last .0) (one .last .1 .0) (given .costs .now)
     ≡ putSplit (given .i) (given .prop) (given .val) (given .count) begun =
-    λ j. nodeLists (one .ensures .0 j) (val j) (given .costs .now) (given .spans .now) in
+    λ j. nodeLists (one .ensures .0 j) (val j) (given .costs .now) in
     le .put-leaf2 .ensures
     ∙ ap (put (given .count + 1) (leafWith (given .le) (given .at) (given .end)))
     (gt .put-leaf .ensures ∙ ap (put (given .count) (leafWith (given .gt) (given .first) (given .at))) first)
@@ -67,5 +64,4 @@ split-nodes-spec =
     same-length
     same-length-2
     same-length-3
-    same-length-4
     returns)
