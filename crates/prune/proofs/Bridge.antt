@@ -9,7 +9,8 @@ use mathlib.Core.List.{List, _++_, List·Memᴰ}
 use lib.ListN.{length, getD, replicate, length-map, length-append, length-replicate, List·getD-map}
 use lib.IntN.{ℤ, pos}
 use lib.Dec.{T, eqb}
-use lib.Ieee.{Float, nan}
+use lib.Ieee.{Float}
+use Rattle.model.specs.Meter.{Meter}
 use Rattle.model.specs.Single.{singles}
 use Rattle.model.specs.Rows.{Span}
 use Rattle.model.specs.Tree.{Node, split, leaf, isLeaf}
@@ -20,15 +21,14 @@ use Rattle.model.proofs.Family.{ChildOf, Child, Twins, Family}
 use Rattle.model.proofs.Preorder.{place-at, mem-getD}
 use Rattle.model.proofs.Folding.{Folded, folds, length-pruned}
 use Rattle.model.proofs.Pruned.{closed, length-kept, entry-kept, order-short, old-number}
-use Rattle.layout.specs.Layout.{wordsPerNode, valuesPerNode, kindAt, propAt, gtAt, leAt, predAt, firstAt, endAt, valAt}
-use Rattle.layout.specs.Tree.{NodeLists, holding, HasRoom, entryWords, entryValues, nodeWords, nodeVal}
+use Rattle.layout.specs.Layout.{wordsPerNode, valuesPerNode, kindAt, propAt, gtAt, leAt, predAt, firstAt, endAt, valAt, storedAtOf}
+use Rattle.layout.specs.Tree.{NodeListsOf, NodeLists, holding, HasRoom, entryWords, entryValues, nodeWords, nodeVal}
 use Rattle.layout.specs.Kept.{infoAt}
-use Rattle.layout.specs.Records.{nodeOf}
 use Rattle.preorder.specs.Order.{ShownAs, ShowsNodes, Walkable, Ordered}
 use Rattle.moves.specs.Moves.{nodeFrom, entryFrom, entriesFrom, compacted, AllMovable}
 use Rattle.moves.proofs.Moving.{length-entries, entry-at}
 use Rattle.prune.specs.Prices.{AllPriceable, ShowsTree, PricedAs}
-use Rattle.prune.specs.Held.{HoldsTree, prunedEntries}
+use Rattle.prune.specs.Held.{HoldsTreeOf, HoldsTree, prunedEntries}
 use Rattle.layout.proofs.Held.{SameCells, same-cells, room-same, holding-lengths, held-word, held-value, held-cost, held-first, held-end}
 use Rattle.prune.proofs.Held.{held-again, held-same}
 
@@ -37,28 +37,29 @@ pred-word : (m : Node) (pred : ℕ) (s : Span) → getD (nodeWords m pred s) 4 0
 pred-word (split p v g l) pred s = refl
 pred-word leaf pred s = refl
 
-module _ {x : NodeLists} {count : ℕ} {price : Float} {tree : List (Entry singles)} {lent : NodeLists} (h : HoldsTree x count price tree lent) where
-  abbrev entry : ℕ → Entry singles
+module _ {M : Meter} {Number : M .Cost → Type 0} {x : NodeListsOf M} {count : ℕ} {price : M .Cost} {tree : List (Entry M)} {lent : NodeListsOf M}
+    (h : HoldsTreeOf Number x count price tree lent) where
+  abbrev entry : ℕ → Entry M
   entry i = getD tree i noEntry
 
   -- ---- what the lists show
   many : length (treeNodes tree) ≡ count
-  many = length-map tree (λ (e : Entry singles). e .node) ∙ sym (h .many)
+  many = length-map tree (λ (e : Entry M). e .node) ∙ sym (h .many)
 
   word : (i j : ℕ) → i < count → j < wordsPerNode → getD (x .words) (i * wordsPerNode + j) 0 ≡ getD (entryWords (entry i)) j 0
-  word i j a b = ap (λ (y : NodeLists). getD (y .words) (i * wordsPerNode + j) 0) (h .lists) ∙ held-word tree lent i (omega (arith, h .many)) j b
+  word i j a b = ap (λ (y : NodeListsOf M). getD (y .words) (i * wordsPerNode + j) 0) (h .lists) ∙ held-word tree lent i (omega (arith, h .many)) j b
 
   value : (i j : ℕ) → i < count → j < valuesPerNode → getD (x .values) (i * valuesPerNode + j) (pos 0) ≡ getD (entryValues (entry i)) j (pos 0)
-  value i j a b = ap (λ (y : NodeLists). getD (y .values) (i * valuesPerNode + j) (pos 0)) (h .lists) ∙ held-value tree lent i (omega (arith, h .many)) j b
+  value i j a b = ap (λ (y : NodeListsOf M). getD (y .values) (i * valuesPerNode + j) (pos 0)) (h .lists) ∙ held-value tree lent i (omega (arith, h .many)) j b
 
   first : (i : ℕ) → i < count → firstAt (x .words) i ≡ entry i .span .first
-  first i a = ap (λ (y : NodeLists). firstAt (y .words) i) (h .lists) ∙ held-first tree lent i (omega (arith, h .many))
+  first i a = ap (λ (y : NodeListsOf M). firstAt (y .words) i) (h .lists) ∙ held-first tree lent i (omega (arith, h .many))
 
   end : (i : ℕ) → i < count → endAt (x .words) i ≡ entry i .span .end
-  end i a = ap (λ (y : NodeLists). endAt (y .words) i) (h .lists) ∙ held-end tree lent i (omega (arith, h .many))
+  end i a = ap (λ (y : NodeListsOf M). endAt (y .words) i) (h .lists) ∙ held-end tree lent i (omega (arith, h .many))
 
-  cost : (i : ℕ) → i < count → getD (x .costs) i nan ≡ entry i .info .cost
-  cost i a = ap (λ (y : NodeLists). getD (y .costs) i nan) (h .lists) ∙ held-cost tree lent i (omega (arith, h .many))
+  cost : (i : ℕ) → i < count → getD (x .costs) i (M .spare) ≡ entry i .info .cost
+  cost i a = ap (λ (y : NodeListsOf M). getD (y .costs) i (M .spare)) (h .lists) ∙ held-cost tree lent i (omega (arith, h .many))
 
   room : HasRoom count x
   room = rw (h .lists, h .many) (room-same (holding-lengths tree lent (h .room)) (h .room))
@@ -72,7 +73,7 @@ module _ {x : NodeLists} {count : ℕ} {price : Float} {tree : List (Entry singl
   kind-of i a m z = rw add-zero at (words-of i a m z 0 (omega arith))
 
   node-is : (i : ℕ) → getD (treeNodes tree) i leaf ≡ entry i .node
-  node-is i = List·getD-map (λ (e : Entry singles). e .node) tree i noEntry
+  node-is i = List·getD-map (λ (e : Entry M). e .node) tree i noEntry
 
   -- a split's children stand behind it
   forward : (i : ℕ) → i < count → eqb (kindAt (x .words) i) 1 ≡ true → Forward count i (split 0 (pos 0) (gtAt (x .words) i) (leAt (x .words) i))
@@ -93,26 +94,15 @@ module _ {x : NodeLists} {count : ℕ} {price : Float} {tree : List (Entry singl
     forward = λ i a is. let f = forward i a is in (f .0, f .1);
   }
 
-  pub all-priceable : (splits : List Bool) → count ≤ length splits → AllPriceable (x .words) (x .values) (x .costs) count price splits
-  all-priceable splits there = record {
-    some = h .some;
-    few = h .few;
-    there = record { words-there = room .words; values-there = room .values; costs-there = room .costs };
-    splits-there = there;
-    numbers = λ i a. rw (cost i a) (h .numbers i a);
-    price-number = h .price-number;
-    children = λ i a is. let f = forward i a is in (f .2, f .3);
-  }
-
   -- ---- the nodes once they are priced
   abbrev pn : List Node
-  pn = prunedNodes {M = singles} price tree
+  pn = prunedNodes price tree
 
   length-pn : length pn ≡ count
   length-pn = length-pruned price tree ∙ many
 
   folded : (i : ℕ) → Folded (entry i .node) (getD pn i leaf)
-  folded i = rw (node-is i) at (folds {M = singles} price tree i)
+  folded i = rw (node-is i) at (folds price tree i)
 
   -- a split that is kept is the old one
   kept-split : (i p : ℕ) (v : ℤ) (g l : ℕ) → getD pn i leaf ≡ split p v g l → entry i .node ≡ split p v g l
@@ -145,7 +135,7 @@ module _ {x : NodeLists} {count : ℕ} {price : Float} {tree : List (Entry singl
       twins a leaf z = rw z tt
       twins a (split p v g l) z = rw z (subst Twins (node-is a ∙ kept-split a p v g l z) (h .family .two-children a))
 
-  module _ {bits : Float} {splits : List Bool} (is : PricedAs price tree bits splits) where
+  module _ {bits : M .Total} {splits : List Bool} (is : PricedAs price tree bits splits) where
     split-is : (i : ℕ) → i < count → getD splits i false ≡ not (isLeaf (getD pn i leaf))
     split-is i a = is .splits-are i (omega (arith, h .many))
 
@@ -183,17 +173,17 @@ module _ {x : NodeLists} {count : ℕ} {price : Float} {tree : List (Entry singl
       rooted : 0 < length tree
       rooted = omega (arith, h .some, h .many)
 
-      abbrev new : List (Entry singles)
-      new = prunedTree {M = singles} price tree
+      abbrev new : List (Entry M)
+      new = prunedTree price tree
 
       pub found-is : found ≡ length new
       found-is = done .found-all ∙ sym (length-kept price tree (h .family) rooted)
 
       pub fewer : length new ≤ length tree
-      fewer = omega (arith, order-short {M = singles} price tree (h .family) rooted, length-kept {M = singles} price tree (h .family) rooted)
+      fewer = omega (arith, order-short price tree (h .family) rooted, length-kept price tree (h .family) rooted)
 
       old : (q : ℕ) → q < found → getD order q 0 < count
-      old q a = rw (done .order-is q a) (omega (arith, h .many, old-number {M = singles} price tree (h .family) rooted q (omega (arith, done .found-all))))
+      old q a = rw (done .order-is q a) (omega (arith, h .many, old-number price tree (h .family) rooted q (omega (arith, done .found-all))))
 
       pub movable : count ≤ length splits → count ≤ length order → count ≤ length places → AllMovable x splits order places found count
       movable splits-there order-there places-there = record {
@@ -222,7 +212,7 @@ module _ {x : NodeLists} {count : ℕ} {price : Float} {tree : List (Entry singl
       -- a kept node's place in the order is its new number
       place : (i c : ℕ) → List·Memᴰ i preorder-of → Child pn i c → getD places c 0 ≡ placeOf c preorder-of
       place i c m k =
-          let p = place-at c preorder-of (closed {M = singles} price tree (h .family) rooted i c m k) in
+          let p = place-at c preorder-of (closed price tree (h .family) rooted i c m k) in
           ap (λ (e : ℕ). getD places e 0) (sym (p .1)) ∙ done .places-are (placeOf c preorder-of) (omega (arith, p .0, done .found-all))
 
       module _ (q : ℕ) (a : q < found) where
@@ -249,7 +239,7 @@ module _ {x : NodeLists} {count : ℕ} {price : Float} {tree : List (Entry singl
             rows : record { first = firstAt (x .words) i; end = endAt (x .words) i } ≡ entry i .span
             rows = λ j. record { first = first i in-count j; end = end i in-count j }
 
-            go : (m : Node) → getD pn i leaf ≡ m → nodeFrom (nodeOf (x .words) (x .values) (x .costs) i) (not (isLeaf m)) places ≡ renumbered preorder-of m
+            go : (m : Node) → getD pn i leaf ≡ m → nodeFrom (storedAtOf M (x .words) (x .values) (x .costs) i) (not (isLeaf m)) places ≡ renumbered preorder-of m
             go leaf z = refl
             go (split p v g l) z =
                 let w = kept-split i p v g l z in
@@ -261,10 +251,24 @@ module _ {x : NodeLists} {count : ℕ} {price : Float} {tree : List (Entry singl
 
       pub moved-lists : holding (compacted x splits order places found count) x ≡ holding (prunedEntries price tree) lent
       moved-lists =
-          let t : List (Entry singles) = entriesFrom x splits order places found in
-          let blank : List (Entry singles) = replicate (count - found) noEntry in
+          let t : List (Entry M) = entriesFrom x splits order places found in
+          let blank : List (Entry M) = replicate (count - found) noEntry in
           let many-moved = length-entries x splits order places found in
-          let all : length (t ++ blank) ≡ length tree = length-append t blank ∙ (let a = length-replicate (count - found) (noEntry {M = singles}) in omega (arith, found-is, fewer, h .many)) in
+          let all : length (t ++ blank) ≡ length tree = length-append t blank ∙ (let a = length-replicate (count - found) (noEntry {M = M}) in omega (arith, found-is, fewer, h .many)) in
           ap (holding (t ++ blank)) (h .lists) ∙ held-again (t ++ blank) tree lent all
           ∙ held-same t new lent (many-moved ∙ found-is) blank (λ q a. let b : q < found = omega arith in rw (entry-at x splits order places found q b) (new-entry q b))
           ∙ rw (found-is, h .many)
+
+-- ---- in single precision they can be priced
+pub all-priceable : {x : NodeLists} {count : ℕ} {price : Float} {tree : List (Entry singles)} {lent : NodeLists}
+    → HoldsTree x count price tree lent → (splits : List Bool) → count ≤ length splits
+    → AllPriceable (x .words) (x .values) (x .costs) count price splits
+all-priceable {x} h splits there = record {
+  some = h .some;
+  few = h .few;
+  there = record { words-there = room h .words; values-there = room h .values; costs-there = room h .costs };
+  splits-there = there;
+  numbers = λ i a. rw (cost h i a) (h .numbers i a);
+  price-number = h .price-number;
+  children = λ i a is. let f = forward h i a is in (f .2, f .3);
+}

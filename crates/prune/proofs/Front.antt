@@ -7,14 +7,14 @@ use mathlib.Core.List.{List, _++_, append-assoc}
 use lib.ListN.{length, drop, length-append}
 use lib.Seq.{drop-append-seam}
 use Rattle.model.specs.Lists.{writtenOver}
-use Rattle.model.specs.Single.{singles}
+use Rattle.model.specs.Meter.{Meter}
 use Rattle.model.specs.Grow.{Entry}
 use Rattle.layout.specs.Layout.{wordsPerNode, valuesPerNode}
-use Rattle.layout.specs.Tree.{laid, NodeLists, holding, HasRoom, entryWords, entryValues, entryCosts}
+use Rattle.layout.specs.Tree.{laid, NodeListsOf, holding, HasRoom, entryWords, entryValues, entryCosts}
 use Rattle.layout.proofs.Cells.{laid-append, laid-length}
 use Rattle.layout.proofs.Held.{words-each}
 
-module _ {A : Type 0} (part : Entry singles → List A) (w : ℕ) (wide : (e : Entry singles) → length (part e) ≡ w) (front back : List (Entry singles))
+module _ {M : Meter} {A : Type 0} (part : Entry M → List A) (w : ℕ) (wide : (e : Entry M) → length (part e) ≡ w) (front back : List (Entry M))
     (lent : List A) where
   abbrev whole : List A
   whole = writtenOver (laid part (front ++ back)) lent
@@ -35,7 +35,7 @@ module _ {A : Type 0} (part : Entry singles → List A) (w : ℕ) (wide : (e : E
       let c = laid-length part w wide front in
       omega arith
 
-module _ (front back : List (Entry singles)) (lent : NodeLists) where
+module _ {M : Meter} (front back : List (Entry M)) (lent : NodeListsOf M) where
   pub front-held : holding (front ++ back) lent ≡ holding front (holding (front ++ back) lent)
   unfolding holding
   front-held = λ j. record {

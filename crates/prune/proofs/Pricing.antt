@@ -11,6 +11,7 @@ use lib.Seq.{getD-drop, getD-set-same, getD-set-other}
 use lib.IntN.{ℤ}
 use lib.Dec.{eqb}
 use lib.Ieee.{Float, nan, le}
+use Rattle.model.specs.Meter.{Meter}
 use Rattle.model.specs.Single.{singles}
 use Rattle.model.specs.Tree.{Node, split, leaf, isLeaf}
 use Rattle.model.specs.Grow.{Entry, noEntry}
@@ -22,9 +23,9 @@ use Rattle.prune.specs.declared.Priced.{Priced}
 use Rattle.prune.specs.Prices.{splitPriced, leafPriced, pricedAt, ShowsTree, IsPriced, PricedAs}
 
 -- node k is priced from those behind it
-price-of : (price : Float) (s : ℕ) (es : List (Entry singles)) (k : ℕ) → k < length es
-    → getD (pricedFrom {M = singles} price s es) k noPriced ≡ pricedBefore price (s + k) (getD es k noEntry) (getD es k noEntry .node)
-    (drop (suc k) (pricedFrom {M = singles} price s es))
+price-of : {M : Meter} (price : M .Cost) (s : ℕ) (es : List (Entry M)) (k : ℕ) → k < length es
+    → getD (pricedFrom price s es) k noPriced ≡ pricedBefore price (s + k) (getD es k noEntry) (getD es k noEntry .node)
+    (drop (suc k) (pricedFrom price s es))
 unfolding pricedFrom
 price-of price s [] k h = absurd (omega arith)
 price-of price s (e ∷ es) zero h = rw add-zero
@@ -57,7 +58,7 @@ module _ (price : Float) (tree : List (Entry singles)) where
       kind m z = rw add-zero at (word 0 (omega arith) m z)
 
       whole : priceAt i ≡ pricedBefore price i e (e .node) (drop (suc i) (pricedFrom {M = singles} price 0 tree))
-      whole = rw zero-add at (price-of price 0 tree i (omega (arith, shows .many)))
+      whole = rw zero-add at (price-of {M = singles} price 0 tree i (omega (arith, shows .many)))
 
       as-leaf : (cost : Float) → cost ≡ e .info .cost → Agrees (leafPriced cost) (model.asLeaf e)
       as-leaf cost z = (z, z, refl)

@@ -8,6 +8,7 @@ use lib.ListN.{length, getD}
 use lib.IntN.{ℤ}
 use lib.Dec.{T, eqb}
 use lib.Ieee.{Float, nan, binary64, add, le, isNan}
+use Rattle.model.specs.Meter.{Meter}
 use Rattle.model.specs.Settings.{maxNodes}
 use Rattle.model.specs.Single.{singles}
 use Rattle.model.specs.Tree.{leaf, isLeaf}
@@ -57,10 +58,10 @@ pub record AllPriceable (words : List ℕ) (values : List ℤ) (costs : List Flo
   pub children : (i : ℕ) → i < count → eqb (kindAt words i) 1 ≡ true → (gtAt words i < count) × (leAt words i < count)
 
 -- words and costs are those of the tree
-pub record ShowsTree (tree : List (Entry singles)) (words : List ℕ) (costs : List Float) (count : ℕ) : Type 0 where
+pub record ShowsTree {M : Meter} (tree : List (Entry M)) (words : List ℕ) (costs : List (M .Cost)) (count : ℕ) : Type 0 where
   pub many : count ≡ length tree
   pub words-are : (i j : ℕ) → i < count → j < wordsPerNode → getD words (i * wordsPerNode + j) 0 ≡ getD (entryWords (getD tree i noEntry)) j 0
-  pub costs-are : (i : ℕ) → i < count → getD costs i nan ≡ getD tree i noEntry .info .cost
+  pub costs-are : (i : ℕ) → i < count → getD costs i (M .spare) ≡ getD tree i noEntry .info .cost
   pub forward : (i : ℕ) → i < count → eqb (kindAt words i) 1 ≡ true → (i < gtAt words i) × (i < leAt words i)
 
 -- node i is priced
@@ -70,6 +71,6 @@ pub record IsPriced (price : Float) (tree : List (Entry singles)) (i : ℕ) (bit
   pub split-is : getD splits i false ≡ not (isLeaf (getD (pricedFrom {M = singles} price 0 tree) i noPriced .node))
 
 -- all are: the surviving leaves' bits, and which nodes are splits
-pub record PricedAs (price : Float) (tree : List (Entry singles)) (bits : Float) (splits : List Bool) : Type 0 where
-  pub bits-are : bits ≡ prunedBits {M = singles} price tree
-  pub splits-are : (i : ℕ) → i < length tree → getD splits i false ≡ not (isLeaf (getD (prunedNodes {M = singles} price tree) i leaf))
+pub record PricedAs {M : Meter} (price : M .Cost) (tree : List (Entry M)) (bits : M .Total) (splits : List Bool) : Type 0 where
+  pub bits-are : bits ≡ prunedBits price tree
+  pub splits-are : (i : ℕ) → i < length tree → getD splits i false ≡ not (isLeaf (getD (prunedNodes price tree) i leaf))

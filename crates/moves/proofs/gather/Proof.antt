@@ -1,7 +1,8 @@
 -- `moves::gather` meets its contract: the entries passed are gathered. Assumes nothing.
-use mathlib.Core.Path.{_≡_}
+use mathlib.Core.Path.{_≡_, ap}
 use Prim.Native.Nat.{_-_, _≤_}
 use native.Mathlib.Omega.{arith}
+use Rattle.layout.specs.Records.{storedOf}
 use Rattle.layout.specs.Tree.{nodeLists, holding}
 use Rattle.layout.proofs.Held.{SameLengths, room-fewer}
 use Rattle.moves.specs.Moves.{entriesFrom}
@@ -88,8 +89,8 @@ loop-again c =
     let put-span = c .before .before .put-span in (
       omega arith,
       rw (put-span .ensures, put-node .ensures .0, put-node .ensures .1 .0, put-node .ensures .1 .1)
-          (gathered-more _ _ _ _ (pre .1) (here .q) (here .inv .1) (renumbered .result) (span-at .result .first) (span-at .result .end) taken
-          (rw (node-at .ensures) at (renumbered .ensures)) (span-at .ensures .0) (span-at .ensures .1)),
+          (gathered-more _ _ _ _ (pre .1) (here .q) (here .inv .1) (storedOf (renumbered .result)) (span-at .result .first) (span-at .result .end) taken
+          (ap storedOf (rw (node-at .ensures) at (renumbered .ensures))) (span-at .ensures .0) (span-at .ensures .1)),
     )
 
 lengths : (c : tie.After-loop Inv-loop μ-loop)

@@ -1,11 +1,18 @@
 -- `moves::move_nodes` meets its contract: by way of lists of zeros. Assumes nothing.
-use mathlib.Core.Path.{_∙_}
+use mathlib.Core.Path.{_≡_, refl, _∙_}
 use native.Mathlib.Omega.{arith}
+use lib.Ieee.{ofBits, binary32}
+use Rattle.model.specs.Single.{singles}
 use Rattle.layout.specs.Tree.{nodeLists}
 use Rattle.moves.proofs.Moving.{length-entries, copied-back}
 use borrow.Author.Needs.{needs}
 use Rattle.moves.proofs.move_nodes.Statement.{statement}
 use Rattle.moves.proofs.move_nodes.Tie as tie
+
+-- the code's 0.0
+zero-costs-nothing : ofBits binary32 0 ≡ singles .nought
+unfolding ofBits
+zero-costs-nothing = refl
 
 slice-aggregate-gather : tie.Need-slice-aggregate-gather
 slice-aggregate-gather c = search needs
@@ -69,7 +76,7 @@ returns c =
     let values = rw (c .before .before .before .before .before .before .before .before .values-for .ensures) at (c .before .before .before .before .before .before .copy-i32 .ensures) in
     let costs = c .before .before .copy-f32 .ensures in
     (λ j. nodeLists (words j) (values j) (costs j))
-    ∙ copied-back _ (length-entries _ _ _ _ (start .args .n)) (start .args .count) 57337 16382 8191 _ few (omega arith, omega arith, omega arith) (gather .ensures)
+    ∙ copied-back _ (length-entries _ _ _ _ (start .args .n)) (start .args .count) 57337 16382 8191 _ few zero-costs-nothing (omega arith, omega arith, omega arith) (gather .ensures)
 
 pub move-nodes-spec : {M : Type 1} → statement M
 move-nodes-spec =
