@@ -14,7 +14,10 @@ ghost use Rattle.model.specs.Tree.{Record, nodesOf, hasChild, hasTwoChildren, f
 ghost use Rattle.model.specs.Lent.{treeIn};
 ghost use Rattle.model.specs.Deepen.{depthsOf};
 ghost use Rattle.layout.specs.Layout.{nodesHeld, storedIn, nodeAt, HasWords};
-ghost use Rattle.tree.specs.Trees.{childAt, isOrderlyAt, isFineAt, OfTree, Leads, Routable, leafNumbers, AllRoutable, CountsParents, Raisable, Countable, Uncounted, Counted, deeper, Deepens, Measurable};
+ghost use Rattle.tree.specs.Trees.{childAt, isOrderlyAt, isFineAt, OfTree};
+ghost use Rattle.tree.specs.Trees.{Leads, Routable, leafNumbers, AllRoutable};
+ghost use Rattle.tree.specs.Trees.{CountsParents, Raisable, Countable, Uncounted, Counted};
+ghost use Rattle.tree.specs.Trees.{deeper, Deepens, Measurable};
 ghost use Rattle.tree.specs.Answers.{faultNamed};
 
 pub mod answers;
@@ -35,8 +38,8 @@ pub fn nodes_held(words: &[u32], values: &[i32]) -> usize
     }
 }
 
-// The node's own fields are in range: of a split, the property is below 24 and both children stand behind it, below the count; of a leaf, the
-// predictor is below 14.
+// The node's own fields are in range: of a split, the property is below 24 and both children stand behind it, below
+// the count; of a leaf, the predictor is below 14.
 fn is_orderly(words: &[u32], count: u32, node: NodeNumber) -> bool
     requires { ⌜ HasWords (now words) (node .0 + 1) ⌝ }
     ensures { λ r. ⌜ ((values : List ℤ) → r ≡ isOrderlyAt (now (words .entry)) values count (node .0)) ⌝ }
@@ -64,11 +67,13 @@ fn towards(words: &[u32], values: &[i32], props: &[i32], node: NodeNumber) -> No
     NodeNumber(layout::le_of(words, node))
 }
 
-// The leaf that the properties of a row lead to from node 0 of a sound tree, where every node is in order: nothing is tested, and `count` only says
-// which nodes are the tree.
+// The leaf that the properties of a row lead to from node 0 of a sound tree, where every node is in order: nothing is
+// tested, and `count` only says which nodes are the tree.
 fn leaf_reached(words: &[u32], values: &[i32], count: u32, props: &[i32]) -> NodeNumber
     requires { ⌜ Routable (now words) (now values) count (now props) ⌝ }
-    ensures { λ r. ⌜ ((costs : List Float) → r .0 ≡ leafReached (nodesOf (treeIn count (storedIn (now (words .entry)) (now (values .entry)) costs))) (now (props .entry))) ⌝ }
+    ensures { λ r. ⌜ ((costs : List Float) → r .0
+        ≡ leafReached (nodesOf (treeIn count (storedIn (now (words .entry)) (now (values .entry)) costs)))
+        (now (props .entry))) ⌝ }
 {
     let mut node = NodeNumber(0);
     while layout::is_split(words, node) {
@@ -81,7 +86,8 @@ fn leaf_reached(words: &[u32], values: &[i32], count: u32, props: &[i32]) -> Nod
 pub fn leaf_numbers(words: &[u32], values: &[i32], count: u32, props: &[i32], number: &mut [u32])
     requires { ⌜ AllRoutable (now words) (now values) count (now props) (now number) ⌝ }
     ensures { λ _. ⌜ ((costs : List Float) (toks : List ℕ) (res : List ℤ) → now (number .exit)
-        ≡ leafNumbers (treeIn count (storedIn (now (words .entry)) (now (values .entry)) costs)) (rowsOf (length (now (number .entry))) (now (props .entry)) toks res)) ⌝ }
+        ≡ leafNumbers (treeIn count (storedIn (now (words .entry)) (now (values .entry)) costs))
+        (rowsOf (length (now (number .entry))) (now (props .entry)) toks res)) ⌝ }
 {
     let rows = number.len();
     for row in 0..rows {
@@ -95,7 +101,8 @@ pub fn leaf_numbers(words: &[u32], values: &[i32], count: u32, props: &[i32], nu
 // One split more has this child. A child not below the count is no node.
 fn add_parent(count: u32, child: u32, parents: &mut [u16])
     requires { ⌜ Raisable count (now parents) ⌝ }
-    ensures { λ _. ⌜ ((k : ℕ) → k < count → getD (now (parents .exit)) k 0 ≡ cond (eqb child k) 1 0 + getD (now (parents .entry)) k 0) ⌝ }
+    ensures { λ _. ⌜ ((k : ℕ) → k < count → getD (now (parents .exit)) k 0
+        ≡ cond (eqb child k) 1 0 + getD (now (parents .entry)) k 0) ⌝ }
 {
     if child < count {
         parents[child as usize] += 1;
@@ -105,8 +112,8 @@ fn add_parent(count: u32, child: u32, parents: &mut [u16])
 // A split counts once for each node that is a child of it, also where both its children are that node.
 fn count_children(words: &[u32], count: u32, node: NodeNumber, parents: &mut [u16])
     requires { ⌜ Countable (now words) count (node .0) (now parents) ⌝ }
-    ensures { λ _. ⌜ ((values : List ℤ) (k : ℕ) → k < count →
-        getD (now (parents .exit)) k 0 ≡ cond (hasChild k (nodeAt (now (words .entry)) values (node .0))) 1 0 + getD (now (parents .entry)) k 0) ⌝ }
+    ensures { λ _. ⌜ ((values : List ℤ) (k : ℕ) → k < count → getD (now (parents .exit)) k 0
+        ≡ cond (hasChild k (nodeAt (now (words .entry)) values (node .0))) 1 0 + getD (now (parents .entry)) k 0) ⌝ }
 {
     if layout::is_split(words, node) {
         let gt = layout::gt_of(words, node);
@@ -146,7 +153,8 @@ fn is_fine(words: &[u32], count: u32, node: NodeNumber, parents: u16) -> bool
 
 fn lowest_fault(words: &[u32], count: u32, parents: &[u16]) -> Fault
     requires { ⌜ Counted (now words) count (now parents) ⌝ }
-    ensures { λ r. ⌜ OfTree (now (words .entry)) count (λ (t : List (Record singles)). faultNamed r ≡ faultFrom (nodesOf t) 0 t) ⌝ }
+    ensures { λ r. ⌜ OfTree (now (words .entry)) count (λ (t : List (Record singles)).
+        faultNamed r ≡ faultFrom (nodesOf t) 0 t) ⌝ }
 {
     for i in 0..count {
         if !is_fine(words, count, NodeNumber(i), parents[i as usize]) {
@@ -156,8 +164,9 @@ fn lowest_fault(words: &[u32], count: u32, parents: &[u16]) -> Fault
     Fault::Sound
 }
 
-// Whether the first `count` nodes are a sound tree. The parents are counted in a local list: a fault is a refusal, after which every lent list
-// reads as before, and the lists lent for contexts may be too short, since 8 comes before 7.
+// Whether the first `count` nodes are a sound tree. The parents are counted in a local list: a fault is a refusal,
+// after which every lent list reads as before, and the lists lent for contexts may be too short, since 8 comes
+// before 7.
 pub fn fault_of(words: &[u32], count: u32) -> Fault
     requires { ⌜ HasWords (now words) count ⌝ }
     ensures { λ r. ⌜ OfTree (now (words .entry)) count (λ (t : List (Record singles)). faultNamed r ≡ faultOf t) ⌝ }
@@ -173,7 +182,8 @@ pub fn fault_of(words: &[u32], count: u32) -> Fault
 // The children of a split lie one deeper than it.
 fn lower_children(words: &[u32], node: NodeNumber, out: &mut [u32])
     requires { ⌜ Deepens (now words) (node .0) (now out) ⌝ }
-    ensures { λ _. ⌜ ((values : List ℤ) → now (out .exit) ≡ deeper (nodeAt (now (words .entry)) values (node .0)) (node .0) (now (out .entry))) ⌝ }
+    ensures { λ _. ⌜ ((values : List ℤ) → now (out .exit)
+        ≡ deeper (nodeAt (now (words .entry)) values (node .0)) (node .0) (now (out .entry))) ⌝ }
 {
     if layout::is_split(words, node) {
         let i = node.0 as usize;
@@ -188,7 +198,8 @@ fn lower_children(words: &[u32], node: NodeNumber, out: &mut [u32])
 // The depth of each node of a sound tree. Children stand behind their split, so one pass in ascending order does.
 pub fn depths(words: &[u32], count: u32, out: &mut [u32])
     requires { ⌜ Measurable (now words) count (now out) ⌝ }
-    ensures { λ _. ⌜ OfTree (now (words .entry)) count (λ (t : List (Record singles)). now (out .exit) ≡ depthsOf (nodesOf t)) ⌝ }
+    ensures { λ _. ⌜ OfTree (now (words .entry)) count (λ (t : List (Record singles)).
+        now (out .exit) ≡ depthsOf (nodesOf t)) ⌝ }
 {
     lists::clear_u32(out);
     for i in 0..count {
