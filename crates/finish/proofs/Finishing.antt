@@ -32,9 +32,9 @@ use Rattle.model.proofs.Tally.{tree-count}
 use Rattle.checks.specs.Given.{settingsOf}
 use Rattle.checks.specs.declared.Settings.{Settings}
 use Rattle.layout.specs.declared.Tree.{Tree}
-use Rattle.layout.specs.Tree.{laid, NodeListsOf, NodeLists, holding}
+use Rattle.layout.specs.Tree.{laid, entryWords, NodeListsOf, NodeLists, holding}
 use Rattle.lent.specs.declared.Finished.{Finished}
-use Rattle.lent.specs.Lists.{recordWords, recordValues, recordCosts, spanRows, nodesAfter, clearQueue}
+use Rattle.lent.specs.Lists.{withSpans, recordWords, recordValues, recordCosts, nodesAfter, clearQueue}
 use Rattle.mode.specs.Lent.{Clear}
 use Rattle.prune.specs.Held.{HoldsTree, Prunable, PrunedAs}
 use Rattle.prune.proofs.Front.{front-held, front-room}
@@ -73,11 +73,16 @@ laid-map : {D E A : Type 0} (part : E → List A) (f : D → E) (l : List D) →
 laid-map part f [] = refl
 laid-map part f (d ∷ l) = ap (λ (r : List _). part (f d) ++ r) (laid-map part f l)
 
+with-spans : {M : Meter} (es : List (Entry M))
+    → laid recordWords (withSpans (map recordOf es) (map (λ (e : Entry M). e .span) es)) ≡ laid entryWords es
+with-spans [] = refl
+with-spans (e ∷ es) = ap (λ (r : List ℕ). entryWords e ++ r) (with-spans es)
+
 after-holding : {M : Meter} (f : State M) (written : ℕ) (flatly : M .Total) (lent : NodeListsOf M) → nodesAfter (resultOf f written flatly) lent ≡ holding (withVacated written (f .tree)) lent
 unfolding nodesAfter resultOf holding
 after-holding {M} f written flatly lent =
     let es = withVacated written (f .tree) in
-    rw (laid-map recordWords recordOf es, laid-map recordValues recordOf es, laid-map recordCosts recordOf es, laid-map spanRows (λ (e : Entry M). e .span) es)
+    rw (with-spans es, laid-map recordValues recordOf es, laid-map recordCosts recordOf es)
 
 -- ---- a state pruned and settled, field by field
 
@@ -203,12 +208,11 @@ module _ {s : Settings} {logs : List Float} {counts : List ℕ} {x : Flat} {n : 
     abbrev pub behind : NodeLists
     behind = holding (withVacated (length tree) new) lent
 
-    pub cut-leaves : HoldsLeaves (m .words) (m .spans) (kept .nodes) (usesOf s x) x new behind
+    pub cut-leaves : HoldsLeaves (m .words) (kept .nodes) (usesOf s x) x new behind
     cut-leaves =
         let here = k .lists ∙ front-held new (replicate (length tree - length new) noEntry) lent in
         record {
           words-are = ap (λ (l : NodeLists). l .words) here;
-          spans-are = ap (λ (l : NodeLists). l .spans) here;
           room = front-room new (replicate (length tree - length new) noEntry) lent;
           many = k .nodes;
           shaped = fitting .shaped;

@@ -10,8 +10,8 @@ ghost use Rattle.model.specs.Rows.{Row};
 ghost use Rattle.model.specs.Grow.{Entry, State, steps};
 ghost use Rattle.model.specs.Settle.{settled};
 ghost use Rattle.model.specs.Learn.{finished};
-ghost use Rattle.layout.specs.Tree.{NodeLists, nodeLists};
-ghost use Rattle.layout.specs.Waiting.{queueLists};
+ghost use Rattle.layout.specs.Tree.{NodeLists, nodesNow};
+ghost use Rattle.layout.specs.Waiting.{queueNow};
 ghost use Rattle.lent.specs.Lists.{clearQueue};
 ghost use Rattle.rows.specs.Flat.{flat, Changed};
 ghost use Rattle.prune.specs.Held.{HoldsTree, Prunable};
@@ -27,17 +27,16 @@ fn prune_if(
     words: &mut [u32],
     values: &mut [i32],
     costs: &mut [f32],
-    spans: &mut [u32],
     grown: Tree,
     price: f32,
 ) -> Tree
-    requires { ⌜ Prunable (nodeLists (now words) (now values) (now costs) (now spans)) (grown .nodes) price ⌝ }
+    requires { ⌜ Prunable (nodesNow words values costs) (grown .nodes) price ⌝ }
     ensures { λ r. ⌜ ((tree : List (Entry singles)) (lent : NodeLists)
-        → HoldsTree (nodeLists (now (words .entry)) (now (values .entry)) (now (costs .entry)) (now (spans .entry))) (grown .nodes) price tree lent
-        → Cut price tree (grown .bits) lent (nodeLists (now (words .exit)) (now (values .exit)) (now (costs .exit)) (now (spans .exit))) r) ⌝ }
+        → HoldsTree (nodesNow (words .entry) (values .entry) (costs .entry)) (grown .nodes) price tree lent
+        → Cut price tree (grown .bits) lent (nodesNow (words .exit) (values .exit) (costs .exit)) r) ⌝ }
 {
     if 0.0 < price {
-        return prune::prune_tree(words, values, costs, spans, grown.nodes, price);
+        return prune::prune_tree(words, values, costs, grown.nodes, price);
     }
     grown
 }
@@ -46,21 +45,20 @@ fn prune_if(
 fn settle_if(
     settle: bool,
     words: &[u32],
-    spans: &[u32],
     count: usize,
     uses: bool,
     tok: &mut [u8],
     res: &[i32],
     counts: &mut [u32],
 )
-    requires { ⌜ Settleable (now words) (now spans) count uses (now tok) (now res) (now counts) ⌝ }
+    requires { ⌜ Settleable (now words) count uses (now tok) (now res) (now counts) ⌝ }
     ensures { λ _. ⌜ ((tree : List (Entry singles)) (lent : NodeLists) (props : List ℤ)
-        → HoldsLeaves (now (words .entry)) (now (spans .entry)) count uses (flat props (now (tok .entry)) (now (res .entry))) tree lent
+        → HoldsLeaves (now (words .entry)) count uses (flat props (now (tok .entry)) (now (res .entry))) tree lent
         → Changed (λ rows. cond settle (settled uses tree rows) rows) (flat props (now (tok .entry)) (now (res .entry))) (flat props (now (tok .exit)) (now (res .entry)))) ⌝ }
     ensures { λ _. ⌜ now (counts .exit) ≡ now (counts .entry) ⌝ }
 {
     if settle {
-        settle::settle_leaves(words, spans, count, uses, tok, res, counts);
+        settle::settle_leaves(words, count, uses, tok, res, counts);
     }
 }
 
@@ -71,23 +69,22 @@ fn finish_tree(
     words: &mut [u32],
     values: &mut [i32],
     costs: &mut [f32],
-    spans: &mut [u32],
     counts: &mut [u32],
     s: Settings,
     grown: Tree,
     flat_bits: f64,
 ) -> Finished
-    requires { ⌜ Finishable s (now tok) (now res) (nodeLists (now words) (now values) (now costs) (now spans)) (now counts) grown ⌝ }
+    requires { ⌜ Finishable s (now tok) (now res) (nodesNow words values costs) (now counts) grown ⌝ }
     ensures { λ r. ⌜ ((props : List ℤ) (logs : List Float) (lent : NodeLists) (st : State singles) (seeds : ℕ → Bool) (given : List Row)
-        → Grew s logs (now (counts .entry)) (flat props (now (tok .entry)) (now (res .entry))) (nodeLists (now (words .entry)) (now (values .entry)) (now (costs .entry)) (now (spans .entry))) grown lent st seeds given
+        → Grew s logs (now (counts .entry)) (flat props (now (tok .entry)) (now (res .entry))) (nodesNow (words .entry) (values .entry) (costs .entry)) grown lent st seeds given
         → FinishedTo (flat props (now (tok .entry)) (now (res .entry))) (flat props (now (tok .exit)) (now (res .entry)))
-        (nodeLists (now (words .exit)) (now (values .exit)) (now (costs .exit)) (now (spans .exit))) r lent
+        (nodesNow (words .exit) (values .exit) (costs .exit)) r lent
         (finished (jobIn s logs (flat props (now (tok .entry)) (now (res .entry)))) st «flat_bits»)) ⌝ }
     ensures { λ _. ⌜ now (counts .exit) ≡ now (counts .entry) ⌝ }
 {
-    let kept = prune_if(words, values, costs, spans, grown, s.prune_leaf_bits);
+    let kept = prune_if(words, values, costs, grown, s.prune_leaf_bits);
     let uses = s.modal_offsets & (0 < res.len());
-    settle_if(s.settle, words, spans, kept.nodes, uses, tok, res, counts);
+    settle_if(s.settle, words, kept.nodes, uses, tok, res, counts);
     Finished {
         nodes: kept.nodes,
         written: grown.nodes,
@@ -98,8 +95,8 @@ fn finish_tree(
 
 // Nothing waits any more.
 fn clear_queue(words: &mut [u32], values: &mut [i32], gains: &mut [f32])
-    ensures { λ _. ⌜ queueLists (now (words .exit)) (now (values .exit)) (now (gains .exit))
-        ≡ clearQueue (queueLists (now (words .entry)) (now (values .entry)) (now (gains .entry))) ⌝ }
+    ensures { λ _. ⌜ queueNow (words .exit) (values .exit) (gains .exit)
+        ≡ clearQueue (queueNow (words .entry) (values .entry) (gains .entry)) ⌝ }
 {
     lists::clear_u32(words);
     lists::clear_i32(values);
@@ -114,7 +111,6 @@ pub fn grow_and_finish(
     words: &mut [u32],
     values: &mut [i32],
     costs: &mut [f32],
-    spans: &mut [u32],
     queue_words: &mut [u32],
     queue_values: &mut [i32],
     queue_gains: &mut [f32],
@@ -125,19 +121,19 @@ pub fn grow_and_finish(
     more: usize,
     flat_bits: f64,
 ) -> Finished
-    requires { ⌜ Growable s (now logs) (now counts) (flat (now props) (now tok) (now res)) (nodeLists (now words) (now values) (now costs) (now spans))
-        (queueLists (now «queue_words») (now «queue_values») (now «queue_gains»)) tree more ⌝ }
+    requires { ⌜ Growable s (now logs) (now counts) (flat (now props) (now tok) (now res)) (nodesNow words values costs)
+        (queueNow «queue_words» «queue_values» «queue_gains») tree more ⌝ }
     ensures { λ r. ⌜ ((lent : NodeLists) (st : State singles) (seeds : ℕ → Bool) (given : List Row)
         → Grows s (now (logs .entry)) (now (counts .entry)) (flat (now (props .entry)) (now (tok .entry)) (now (res .entry)))
-        (nodeLists (now (words .entry)) (now (values .entry)) (now (costs .entry)) (now (spans .entry)))
-        (queueLists (now («queue_words» .entry)) (now («queue_values» .entry)) (now («queue_gains» .entry))) tree more lent st seeds given
+        (nodesNow (words .entry) (values .entry) (costs .entry))
+        (queueNow («queue_words» .entry) («queue_values» .entry) («queue_gains» .entry)) tree more lent st seeds given
         → FinishedTo (flat (now (props .entry)) (now (tok .entry)) (now (res .entry))) (flat (now (props .exit)) (now (tok .exit)) (now (res .exit)))
-        (nodeLists (now (words .exit)) (now (values .exit)) (now (costs .exit)) (now (spans .exit))) r lent
+        (nodesNow (words .exit) (values .exit) (costs .exit)) r lent
         (finished (jobIn s (now (logs .entry)) (flat (now (props .entry)) (now (tok .entry)) (now (res .entry))))
         (steps (jobIn s (now (logs .entry)) (flat (now (props .entry)) (now (tok .entry)) (now (res .entry)))) more st) «flat_bits»)) ⌝ }
     ensures { λ _. ⌜ now (counts .exit) ≡ now (counts .entry) ⌝ }
-    ensures { λ _. ⌜ queueLists (now («queue_words» .exit)) (now («queue_values» .exit)) (now («queue_gains» .exit))
-        ≡ clearQueue (queueLists (now («queue_words» .entry)) (now («queue_values» .entry)) (now («queue_gains» .entry))) ⌝ }
+    ensures { λ _. ⌜ queueNow («queue_words» .exit) («queue_values» .exit) («queue_gains» .exit)
+        ≡ clearQueue (queueNow («queue_words» .entry) («queue_values» .entry) («queue_gains» .entry)) ⌝ }
 {
     let grown = grow::grow_tree(
         props,
@@ -146,7 +142,6 @@ pub fn grow_and_finish(
         words,
         values,
         costs,
-        spans,
         queue_words,
         queue_values,
         queue_gains,
@@ -156,18 +151,7 @@ pub fn grow_and_finish(
         tree,
         more,
     );
-    let made = finish_tree(
-        tok,
-        res,
-        words,
-        values,
-        costs,
-        spans,
-        counts,
-        s,
-        grown,
-        flat_bits,
-    );
+    let made = finish_tree(tok, res, words, values, costs, counts, s, grown, flat_bits);
     clear_queue(queue_words, queue_values, queue_gains);
     made
 }

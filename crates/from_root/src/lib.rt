@@ -6,8 +6,8 @@ ghost use Rattle.model.specs.Learn.{rootState};
 ghost use Rattle.model.proofs.Root.{noSeeds};
 ghost use Rattle.model.specs.Flat.{flatBits};
 ghost use Rattle.checks.specs.Given.{settingsOf};
-ghost use Rattle.layout.specs.Tree.{nodeLists};
-ghost use Rattle.layout.specs.Waiting.{queueLists};
+ghost use Rattle.layout.specs.Tree.{nodesNow};
+ghost use Rattle.layout.specs.Waiting.{queueNow};
 ghost use Rattle.lent.specs.Lists.{clearQueue};
 ghost use Rattle.rows.specs.Flat.{flat, heldIn};
 ghost use Rattle.state.specs.Grows.{jobIn, Number, Grows};
@@ -34,7 +34,6 @@ fn plant_root(
     words: &mut [u32],
     values: &mut [i32],
     costs: &mut [f32],
-    spans: &mut [u32],
     queue_words: &mut [u32],
     queue_values: &mut [i32],
     queue_gains: &mut [f32],
@@ -43,12 +42,12 @@ fn plant_root(
     s: Settings,
     rows: usize,
 ) -> Tree
-    requires { ⌜ Plantable s (now logs) (now counts) (flat (now props) (now tok) (now res)) (nodeLists (now words) (now values) (now costs) (now spans))
-        (queueLists (now «queue_words») (now «queue_values») (now «queue_gains»)) rows ⌝ }
+    requires { ⌜ Plantable s (now logs) (now counts) (flat (now props) (now tok) (now res)) (nodesNow words values costs)
+        (queueNow «queue_words» «queue_values» «queue_gains») rows ⌝ }
     ensures { λ r. ⌜ Grows s (now (logs .entry)) (now (counts .exit)) (flat (now (props .entry)) (now (tok .exit)) (now (res .entry)))
-        (nodeLists (now (words .exit)) (now (values .exit)) (now (costs .exit)) (now (spans .exit)))
-        (queueLists (now («queue_words» .exit)) (now («queue_values» .exit)) (now («queue_gains» .exit))) r (s .«max_leaves» - 1)
-        (nodeLists (now (words .entry)) (now (values .entry)) (now (costs .entry)) (now (spans .entry)))
+        (nodesNow (words .exit) (values .exit) (costs .exit))
+        (queueNow («queue_words» .exit) («queue_values» .exit) («queue_gains» .exit)) r (s .«max_leaves» - 1)
+        (nodesNow (words .entry) (values .entry) (costs .entry))
         (rootState (jobIn s (now (logs .entry)) (flat (now (props .entry)) (now (tok .entry)) (now (res .entry)))) (heldIn (flat (now (props .entry)) (now (tok .entry)) (now (res .entry)))))
         noSeeds (heldIn (flat (now (props .entry)) (now (tok .entry)) (now (res .entry)))) ⌝ }
     ensures { λ _. ⌜ now (counts .exit) ≡ now (counts .entry) ⌝ }
@@ -66,7 +65,7 @@ fn plant_root(
         counts,
     );
     let info = root.info;
-    layout::put_leaf(words, values, costs, spans, 0, info, 0, rows);
+    layout::put_leaf(words, values, costs, 0, info, 0, rows);
     let offer = root.offer;
     let waiting = queue::enqueue(queue_words, queue_values, queue_gains, 0, 0, 0, offer);
     Tree {
@@ -84,7 +83,6 @@ pub fn grow_from_root(
     words: &mut [u32],
     values: &mut [i32],
     costs: &mut [f32],
-    spans: &mut [u32],
     queue_words: &mut [u32],
     queue_values: &mut [i32],
     queue_gains: &mut [f32],
@@ -94,16 +92,16 @@ pub fn grow_from_root(
     rows: usize,
     flat_bits: f64,
 ) -> Finished
-    requires { ⌜ Plantable s (now logs) (now counts) (flat (now props) (now tok) (now res)) (nodeLists (now words) (now values) (now costs) (now spans))
-        (queueLists (now «queue_words») (now «queue_values») (now «queue_gains»)) rows ⌝ }
+    requires { ⌜ Plantable s (now logs) (now counts) (flat (now props) (now tok) (now res)) (nodesNow words values costs)
+        (queueNow «queue_words» «queue_values» «queue_gains») rows ⌝ }
     requires { ⌜ «flat_bits» ≡ flatBits (settingsOf s) (now logs) (heldIn (flat (now props) (now tok) (now res))) ⌝ }
     ensures { λ r. ⌜ FinishedTo (flat (now (props .entry)) (now (tok .entry)) (now (res .entry))) (flat (now (props .exit)) (now (tok .exit)) (now (res .exit)))
-        (nodeLists (now (words .exit)) (now (values .exit)) (now (costs .exit)) (now (spans .exit))) r
-        (nodeLists (now (words .entry)) (now (values .entry)) (now (costs .entry)) (now (spans .entry)))
+        (nodesNow (words .exit) (values .exit) (costs .exit)) r
+        (nodesNow (words .entry) (values .entry) (costs .entry))
         (resultIn s (now (logs .entry)) (flat (now (props .entry)) (now (tok .entry)) (now (res .entry)))) ⌝ }
     ensures { λ _. ⌜ now (counts .exit) ≡ now (counts .entry) ⌝ }
-    ensures { λ _. ⌜ queueLists (now («queue_words» .exit)) (now («queue_values» .exit)) (now («queue_gains» .exit))
-        ≡ clearQueue (queueLists (now («queue_words» .entry)) (now («queue_values» .entry)) (now («queue_gains» .entry))) ⌝ }
+    ensures { λ _. ⌜ queueNow («queue_words» .exit) («queue_values» .exit) («queue_gains» .exit)
+        ≡ clearQueue (queueNow («queue_words» .entry) («queue_values» .entry) («queue_gains» .entry)) ⌝ }
 {
     let root = plant_root(
         props,
@@ -112,7 +110,6 @@ pub fn grow_from_root(
         words,
         values,
         costs,
-        spans,
         queue_words,
         queue_values,
         queue_gains,
@@ -129,7 +126,6 @@ pub fn grow_from_root(
         words,
         values,
         costs,
-        spans,
         queue_words,
         queue_values,
         queue_gains,

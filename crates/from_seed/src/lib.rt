@@ -5,8 +5,8 @@ ghost use Prim.Native.Nat.{_+_, _-_, _/_, _≤_};
 ghost use Rattle.model.specs.Settings.{maxNodes};
 ghost use Rattle.model.specs.Flat.{flatBits};
 ghost use Rattle.checks.specs.Given.{settingsOf};
-ghost use Rattle.layout.specs.Tree.{nodeLists};
-ghost use Rattle.layout.specs.Waiting.{queueLists};
+ghost use Rattle.layout.specs.Tree.{nodesNow};
+ghost use Rattle.layout.specs.Waiting.{queueNow};
 ghost use Rattle.lent.specs.Lists.{clearQueue};
 ghost use Rattle.rows.specs.Flat.{flat, heldIn};
 ghost use Rattle.finish.specs.Finished.{FinishedTo};
@@ -32,7 +32,6 @@ pub fn grow_from_seed(
     words: &mut [u32],
     values: &mut [i32],
     costs: &mut [f32],
-    spans: &mut [u32],
     queue_words: &mut [u32],
     queue_values: &mut [i32],
     queue_gains: &mut [f32],
@@ -43,17 +42,17 @@ pub fn grow_from_seed(
     count: usize,
     flat_bits: f64,
 ) -> Finished
-    requires { ⌜ Seedable s (now logs) (now counts) (flat (now props) (now tok) (now res)) (nodeLists (now words) (now values) (now costs) (now spans))
-        (queueLists (now «queue_words») (now «queue_values») (now «queue_gains»)) rows count ⌝ }
+    requires { ⌜ Seedable s (now logs) (now counts) (flat (now props) (now tok) (now res)) (nodesNow words values costs)
+        (queueNow «queue_words» «queue_values» «queue_gains») rows count ⌝ }
     requires { ⌜ «flat_bits» ≡ flatBits (settingsOf s) (now logs) (heldIn (flat (now props) (now tok) (now res))) ⌝ }
     ensures { λ r. ⌜ FinishedTo (flat (now (props .entry)) (now (tok .entry)) (now (res .entry))) (flat (now (props .exit)) (now (tok .exit)) (now (res .exit)))
-        (nodeLists (now (words .exit)) (now (values .exit)) (now (costs .exit)) (now (spans .exit))) r
-        (nodeLists (now (words .entry)) (now (values .entry)) (now (costs .entry)) (now (spans .entry)))
+        (nodesNow (words .exit) (values .exit) (costs .exit)) r
+        (nodesNow (words .entry) (values .entry) (costs .entry))
         (deepenedIn s (now (logs .entry)) count (flat (now (props .entry)) (now (tok .entry)) (now (res .entry)))
-        (nodeLists (now (words .entry)) (now (values .entry)) (now (costs .entry)) (now (spans .entry)))) ⌝ }
+        (nodesNow (words .entry) (values .entry) (costs .entry))) ⌝ }
     ensures { λ _. ⌜ now (counts .exit) ≡ now (counts .entry) ⌝ }
-    ensures { λ _. ⌜ queueLists (now («queue_words» .exit)) (now («queue_values» .exit)) (now («queue_gains» .exit))
-        ≡ clearQueue (queueLists (now («queue_words» .entry)) (now («queue_values» .entry)) (now («queue_gains» .entry))) ⌝ }
+    ensures { λ _. ⌜ queueNow («queue_words» .exit) («queue_values» .exit) («queue_gains» .exit)
+        ≡ clearQueue (queueNow («queue_words» .entry) («queue_values» .entry) («queue_gains» .entry)) ⌝ }
 {
     let planted = plant::plant_seed(
         props,
@@ -62,7 +61,6 @@ pub fn grow_from_seed(
         words,
         values,
         costs,
-        spans,
         queue_words,
         queue_values,
         queue_gains,
@@ -80,7 +78,6 @@ pub fn grow_from_seed(
         words,
         values,
         costs,
-        spans,
         queue_words,
         queue_values,
         queue_gains,

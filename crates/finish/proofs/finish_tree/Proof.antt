@@ -18,15 +18,15 @@ use Rattle.finish.proofs.finish_tree.Statement.{statement}
 use Rattle.finish.proofs.finish_tree.Tie as tie
 
 prune-if-requires : tie.Need-prune-if-requires
-prune-if-requires c κs = grew-prunable (c .before .before .before .before .before .before .before .before .before .pre .grew)
+prune-if-requires c κs = grew-prunable (c .before .before .before .before .before .before .before .pre .grew)
 
 -- what was asked, and what is left of the tree
 module _ (c : tie.After-prune-if) where
   abbrev start : tie.Start
-  start = c .before .before .before .before .before .before .before .before .before .before
+  start = c .before .before .before .before .before .before .before .before
 
   abbrev m : NodeLists
-  m = nodeLists (c .prune-if .last .0) (c .prune-if .last .1 .0) (c .prune-if .last .1 .1 .0) (c .prune-if .last .1 .1 .1 .0)
+  m = nodeLists (c .prune-if .last .0) (c .prune-if .last .1 .0) (c .prune-if .last .1 .1 .0)
 
   flag : ((start .args .s .«modal_offsets») && ltb 0 (length (start .args .res .now))) ≡ usesOf (start .args .s) (flat (start .pre .props) (start .args .tok .now) (start .args .res .now))
   flag = ap (λ (b : Bool). (start .args .s .«modal_offsets») && b) (sym (given (start .args .res .now)))
@@ -36,18 +36,18 @@ module _ (c : tie.After-prune-if) where
 
 settle-if-requires : tie.Need-settle-if-requires
 settle-if-requires c κs =
-    let pruned = c .before .before .before .before .before .before .before .before .before .before .before .before in
+    let pruned = c .before .before .before .before .before .before .before .before .before in
     let g = start pruned .pre .grew in
     rw (flag pruned) (settleable (cut-leaves g (left pruned)) (start pruned .args .counts .now) (λ e. clear-counts g))
 
-abbrev after-settle-if : tie.After-slice-known10 → tie.After-settle-if
+abbrev after-settle-if : tie.After-slice-known8 → tie.After-settle-if
 after-settle-if c = c .before .before .before .before
 
 same-length : tie.Need-same-length
-same-length c = after-settle-if c .settle-if .kept .1 .1 .1 .1 .1 .0
+same-length c = after-settle-if c .settle-if .kept .1 .1 .1 .1 .0
 
-abbrev after-prune-if : tie.After-slice-known10 → tie.After-prune-if
-after-prune-if c = c .before .before .before .before .before .before .before .before .before .before .before .before .before .before .before .before .before
+abbrev after-prune-if : tie.After-slice-known8 → tie.After-prune-if
+after-prune-if c = c .before .before .before .before .before .before .before .before .before .before .before .before .before .before
 
 same-length-2 : tie.Need-same-length-2
 same-length-2 c = after-prune-if c .prune-if .kept .0
@@ -59,14 +59,11 @@ same-length-4 : tie.Need-same-length-4
 same-length-4 c = after-prune-if c .prune-if .kept .1 .1 .0
 
 same-length-5 : tie.Need-same-length-5
-same-length-5 c = after-prune-if c .prune-if .kept .1 .1 .1 .0
-
-same-length-6 : tie.Need-same-length-6
-same-length-6 c = after-settle-if c .settle-if .kept .1 .1 .1 .1 .1 .1 .1 .0
+same-length-5 c = after-settle-if c .settle-if .kept .1 .1 .1 .1 .1 .1 .0
 
 returns : tie.Need-returns
 returns c =
-    let pruned = c .before .before .before .before .before .before .before .before .before .before .before .before .before .before .before .before .before in
+    let pruned = after-prune-if c in
     let settled = after-settle-if c .settle-if in
     let given = start pruned .args in (
       λ props logs lent st seeds rows g.
@@ -74,10 +71,10 @@ returns c =
           finished-lists g cut (given .flat-bits)
           (subst
           (λ (u : Bool). Changed (λ (l : List Row). cond (given .s .settle) (modes u (cutTree (given .s .«prune_leaf_bits») (st .tree)) l) l) (flat props (given .tok .now) (given .res .now))
-          (flat props (settled .last .1 .1 .1 .1 .1 .0) (given .res .now)))
+          (flat props (settled .last .1 .1 .1 .1 .0) (given .res .now)))
           (flag pruned)
           (settled .ensures .0 (cutTree (given .s .«prune_leaf_bits») (st .tree)) (behind g cut) props
-          (subst (λ (u : Bool). HoldsLeaves (m pruned .words) (m pruned .spans) (pruned .prune-if .result .nodes) u (flat props (given .tok .now) (given .res .now)) (cutTree (given .s .«prune_leaf_bits») (st .tree)) (behind g cut)) (sym (flag pruned)) (cut-leaves g cut))))
+          (subst (λ (u : Bool). HoldsLeaves (m pruned .words) (pruned .prune-if .result .nodes) u (flat props (given .tok .now) (given .res .now)) (cutTree (given .s .«prune_leaf_bits») (st .tree)) (behind g cut)) (sym (flag pruned)) (cut-leaves g cut))))
           refl refl refl refl,
       settled .ensures .1,
     )
@@ -93,5 +90,4 @@ finish-tree-spec =
     same-length-3
     same-length-4
     same-length-5
-    same-length-6
     returns)

@@ -18,21 +18,18 @@ same-length-2 c = search needs
 same-length-3 : tie.Need-same-length-3
 same-length-3 c = search needs
 
-same-length-4 : tie.Need-same-length-4
-same-length-4 c = search needs
-
 returns : tie.Need-returns
 unfolding ofBits
 returns c tree lent h =
-    let given = c .before .before .before .before .before .before .before .before .before .before .before .before .before .before .before .before .args in
-    let call = c .before .before .before .before .before .before .before .prune-tree in
-    cut-pruned (given .price) tree (given .grown .bits) lent (nodeLists (call .last .0) (call .last .1 .0) (call .last .1 .1 .0) (call .last .1 .1 .1 .0)) (call .result) (c .before .before .before .before .before .before .before .before .before .before .before .before .if1 .taken) (call .ensures tree lent h)
+    let given = c .before .before .before .before .before .before .before .before .before .before .before .before .args in
+    let call = c .before .before .before .before .before .prune-tree in
+    cut-pruned (given .price) tree (given .grown .bits) lent (nodeLists (call .last .0) (call .last .1 .0) (call .last .1 .1 .0)) (call .result) (c .before .before .before .before .before .before .before .before .before .if1 .taken) (call .ensures tree lent h)
 
 returns-2 : tie.Need-returns-2
 unfolding ofBits
 returns-2 c tree lent h =
-    let given = c .before .before .before .before .args in
-    cut-kept (given .price) tree lent (nodeLists (given .words .now) (given .values .now) (given .costs .now) (given .spans .now)) (given .grown) (c .if1 .left) h
+    let given = c .before .before .before .args in
+    cut-kept (given .price) tree lent (nodeLists (given .words .now) (given .values .now) (given .costs .now)) (given .grown) (c .if1 .left) h
 
 pub prune-if-spec : {M : Type 1} → statement M
 prune-if-spec =
@@ -42,6 +39,5 @@ prune-if-spec =
     same-length
     same-length-2
     same-length-3
-    same-length-4
     returns
     returns-2)
