@@ -16,36 +16,36 @@ use Rattle.from_root.proofs.plant_root.Statement.{statement}
 use Rattle.from_root.proofs.plant_root.Tie as tie
 
 make-leaf-requires : tie.Need-make-leaf-requires
-make-leaf-requires c κs = root-fits (c .before .before .before .before .before .before .before .before .before .before .before .pre)
+make-leaf-requires c κs = root-fits (c .before .before .before .before .before .before .before .before .before .before .pre)
 
 -- what was asked
 module _ (c : tie.After-make-leaf) where
   abbrev start : tie.Start
-  start = c .before .before .before .before .before .before .before .before .before .before .before .before
+  start = c .before .before .before .before .before .before .before .before .before .before .before
 
 put-leaf-requires : tie.Need-put-leaf-requires
 put-leaf-requires c κs =
-    let p = c .before .before .before .before .before .before .before .before .before .before .before .before .before .before .before .before .before .before .before .before .before .pre in
+    let p = c .before .before .before .before .before .before .before .before .before .before .before .before .before .before .before .before .before .before .before .pre in
     let limit = p .fitting .settings .limit in
     (room-fewer (p .room) (omega arith), omega (arith, p .counted, p .fitting .few))
 
 enqueue-requires : tie.Need-enqueue-requires
 enqueue-requires c κs =
-    let p = c .before .before .before .before .before .before .before .before .before .before .before .before .before .before .before .before .before .before .before .before .before .before .before .before .before .before .before .before .before .before .before .before .pre in
+    let p = c .before .before .before .before .before .before .before .before .before .before .before .before .before .before .before .before .before .before .before .before .before .before .before .before .before .before .before .before .pre in
     let limit = p .fitting .settings .limit in
     (omega arith, λ o e. fewer-room (p .queue-room) (omega arith))
 
 as-total-requires : tie.Need-as-total-requires
-as-total-requires c κs = let made = c .before .before .before .before .before .before .before .before .before .before .before .before .before .before .before .before .before .before .before .before .before .before .before .before .before .before in root-number (start made .pre) (made .make-leaf .ensures .0)
+as-total-requires c κs = let made = c .before .before .before .before .before .before .before .before .before .before .before .before .before .before .before .before .before .before .before .before .before .before .before in root-number (start made .pre) (made .make-leaf .ensures .0)
 
 abbrev after-make-leaf : tie.After-as-total → tie.After-make-leaf
-after-make-leaf c = c .before .before .before .before .before .before .before .before .before .before .before .before .before .before .before .before .before .before .before .before .before .before .before .before .before .before .before
+after-make-leaf c = c .before .before .before .before .before .before .before .before .before .before .before .before .before .before .before .before .before .before .before .before .before .before .before .before
 
 same-length : tie.Need-same-length
 same-length c = after-make-leaf c .make-leaf .kept .1 .0
 
 abbrev after-put-leaf : tie.After-as-total → tie.After-put-leaf
-after-put-leaf c = c .before .before .before .before .before .before .before .before .before .before .before .before .before .before .before .before .before
+after-put-leaf c = c .before .before .before .before .before .before .before .before .before .before .before .before .before .before .before
 
 same-length-2 : tie.Need-same-length-2
 same-length-2 c = after-put-leaf c .put-leaf .kept .0
@@ -56,33 +56,30 @@ same-length-3 c = after-put-leaf c .put-leaf .kept .1 .0
 same-length-4 : tie.Need-same-length-4
 same-length-4 c = after-put-leaf c .put-leaf .kept .1 .1 .0
 
-same-length-5 : tie.Need-same-length-5
-same-length-5 c = after-put-leaf c .put-leaf .kept .1 .1 .1 .0
-
 abbrev after-enqueue : tie.After-as-total → tie.After-enqueue
 after-enqueue c = c .before .before .before .before .before .before
 
+same-length-5 : tie.Need-same-length-5
+same-length-5 c = after-enqueue c .enqueue .kept .0
+
 same-length-6 : tie.Need-same-length-6
-same-length-6 c = after-enqueue c .enqueue .kept .0
+same-length-6 c = after-enqueue c .enqueue .kept .1 .0
 
 same-length-7 : tie.Need-same-length-7
-same-length-7 c = after-enqueue c .enqueue .kept .1 .0
+same-length-7 c = after-enqueue c .enqueue .kept .1 .1 .0
 
 same-length-8 : tie.Need-same-length-8
-same-length-8 c = after-enqueue c .enqueue .kept .1 .1 .0
-
-same-length-9 : tie.Need-same-length-9
-same-length-9 c = after-make-leaf c .make-leaf .kept .1 .1 .1 .1 .1 .1 .1 .1 .1 .0
+same-length-8 c = after-make-leaf c .make-leaf .kept .1 .1 .1 .1 .1 .1 .1 .1 .1 .0
 
 returns : tie.Need-returns
 returns c =
-    let made = c .before .before .before .before .before .before .before .before .before .before .before .before .before .before .before .before .before .before .before .before .before .before .before .before .before .before .before in
+    let made = after-make-leaf c in
     let written = after-put-leaf c .put-leaf in
     let put-in = after-enqueue c .enqueue in
     let given = start made .args in
     let x : Flat = flat (given .props .now) (given .tok .now) (given .res .now) in
     let y : Flat = flat (given .props .now) (made .make-leaf .last .1 .0) (given .res .now) in
-    let n : NodeLists = nodeLists (given .words .now) (given .values .now) (given .costs .now) (given .spans .now) in
+    let n : NodeLists = nodeLists (given .words .now) (given .values .now) (given .costs .now) in
     let q : QueueLists = queueLists (given .queue-words .now) (given .queue-values .now) (given .queue-gains .now) in
     let q' : QueueLists = queueLists (put-in .last .0) (put-in .last .1 .0) (put-in .last .1 .1 .0) in
     let counts : List ℕ = made .make-leaf .last .1 .1 .1 .1 .1 .1 .1 .1 .1 .0 in (
@@ -111,5 +108,4 @@ plant-root-spec =
     same-length-6
     same-length-7
     same-length-8
-    same-length-9
     returns)
