@@ -1,55 +1,53 @@
--- What the checks ensure of a sound seed: lists that fit, with room for it. Assumes nothing.
+-- What the checks ensure of a sound seed once the count space is cleared: lists that fit, with room for it. Assumes nothing.
 use mathlib.Core.Path.{_≡_, sym, _∙_, subst}
 use mathlib.Core.List.{List}
-use Prim.Native.Nat.{ℕ, _-_, _*_, max}
+use mathlib.Core.Option.{none}
+use Prim.Native.Nat.{ℕ, _≤_}
 use native.Mathlib.Omega.{arith}
 use lib.ListN.{length, replicate, length-replicate}
 use lib.Ieee.{Float}
+use Rattle.model.specs.Settings.{maxNodes}
+use Rattle.model.specs.Meter.{Meter}
+use Rattle.model.specs.Single.{singles}
+use Rattle.model.specs.Tree.{faultOf}
+use Rattle.model.specs.Lent.{Lent, treeIn}
+use Rattle.model.proofs.Accepted.{SeedRooms}
 use Rattle.model.proofs.Lawful.{JobFits}
 use Rattle.model.proofs.SingleLawful.{single-lawful}
 use Rattle.checks.specs.declared.Settings.{Settings}
+use Rattle.checks.proofs.Passed.{Accepted}
 use Rattle.layout.specs.Layout.{storedInOf}
-use Rattle.layout.specs.Tree.{NodeListsOf, HasRoom}
+use Rattle.layout.specs.Tree.{NodeListsOf, NodeLists, HasRoom}
+use Rattle.layout.specs.Waiting.{QueueLists}
+use Rattle.layout.proofs.Held.{room-fewer}
 use Rattle.tree.proofs.Entries.{tree-each}
-use Rattle.plant.proofs.SeedLists.{seed-each}
-use Rattle.model.specs.Meter.{Meter}
-use Rattle.model.specs.Lent.{treeIn}
-use Rattle.model.proofs.Accepted.{SeedRooms}
+use Rattle.rows.specs.Flat.{flat}
 use Rattle.rows.proofs.Cells.{length-held}
+use Rattle.lent.specs.Lists.{storedQueue}
 use Rattle.state.specs.Grows.{jobIn}
-use Rattle.lent.specs.Lists.{ListsOf, Lists, lentIn}
-use Rattle.lent.proofs.Read.{room-read}
-use Rattle.start.proofs.Accepting.{accepted-fitting, accepted-plantable}
+use Rattle.start.proofs.Accepting.{accepted-plantable}
 use Rattle.seed.specs.Ordered.{seedIn}
 use Rattle.plant.specs.Seeded.{Seedable}
-use Rattle.deepen.specs.Deepens.{Deepenable}
+use Rattle.plant.proofs.SeedLists.{seed-each}
 
-pub accepted-seedable : {s : Settings} {logs : List Float} (x : Lists) {rows count : ℕ} (d : Deepenable s logs x rows count) (counts : List ℕ) → counts ≡ replicate (length (x .counts)) 0
-    → Seedable s logs counts (x .rows) (x .nodes) (x .queue) rows count
-accepted-seedable {s} {logs} x {rows} {count} d counts cleared =
-    let a = d .accepted in
-    let p = accepted-plantable x a counts cleared in
-    let rooms = a .model .rooms in
-    let more = d .seed-rooms in
-    let most = max (2 * s .«max_leaves» - 1) count in
-    let long : length counts ≡ length (x .counts) = rw cleared (length-replicate (length (x .counts)) 0) in
+pub accepted-seedable : {s : Settings} {logs : List Float} (x : Lent singles) {rows count : ℕ} → Accepted s logs x rows → SeedRooms count x → count ≤ maxNodes
+    → (n : NodeLists) (q : QueueLists) → x .queue ≡ storedQueue q → HasRoom maxNodes n → faultOf (seedIn count n) ≡ none
+    → Seedable s logs (replicate (length (x .counts)) 0) (flat (x .props) (x .toks) (x .res)) n q rows count
+accepted-seedable {s} {logs} x a more few n q stands room sound =
+    let p = accepted-plantable x a n q stands room in
+    let limit = a .model .settings .limit in
     record {
-      fitting = accepted-fitting x a counts cleared;
-      lawful = subst (JobFits (single-lawful .bounds) (jobIn s logs (x .rows))) (sym (length-held (x .rows .props) (x .rows .toks) (x .rows .res))) (p .lawful);
+      fitting = p .fitting;
+      lawful = subst (JobFits (single-lawful .bounds) (jobIn s logs (flat (x .props) (x .toks) (x .res)))) (sym (length-held (x .props) (x .toks) (x .res))) (p .lawful);
       logs-small = p .logs-small;
       counted = p .counted;
-      room = room-read x most (omega (arith, rooms .nodes, more .nodes)) (omega (arith, rooms .spans, more .spans));
+      room = room-fewer room (omega arith);
       queue-room = p .queue-room;
-      space = omega (arith, more .counts, a .row-count);
-      sound = d .sound;
+      space = omega (arith, more .counts, a .row-count, length-replicate {A = ℕ} (length (x .counts)) 0);
+      sound = sound;
     }
 
--- ---- the test for soundness looks at the seed
-
--- the seed's nodes are there
-pub nodes-there : {M : Meter} (x : ListsOf M) (count : ℕ) → SeedRooms count (lentIn x) → HasRoom count (x .nodes)
-nodes-there x count rooms = room-read x count (rooms .nodes) (rooms .spans)
-
+-- the test for soundness looks at the seed
 pub seed-same : {M : Meter} (count : ℕ) (n : NodeListsOf M) → HasRoom count n → treeIn count (storedInOf M (n .words) (n .values) (n .costs)) ≡ seedIn count n
 seed-same {M} count n room =
     let w = room .words in

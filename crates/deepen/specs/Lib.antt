@@ -1,2 +1,2 @@
--- `Deepens`: what the parts of deepening ask for, and what deepening makes of a seed.
+-- `Deepens`: what deepening asks for.
 pub mod Deepens

@@ -1,43 +1,26 @@
--- `deepen::deepen_ma_tree` meets its contract: a refusal is the checks' own, with the lists untouched; a pass is what `deepen_sound` ensures. Assumes nothing.
-use mathlib.Core.Path.{_≡_, sym, refl, _∙_}
-use mathlib.Core.Option.{none}
+-- `deepen::deepen_ma_tree` meets its contract: flat bits of the rows as first given, and then the finished tree. Assumes nothing.
+use mathlib.Core.Path.{sym, _∙_, subst}
+use mathlib.Core.List.{List}
+use Prim.Native.Nat.{ℕ}
 use borrow.Author.Needs.{needs}
 use Rattle.layout.specs.Tree.{nodeLists}
 use Rattle.layout.specs.Waiting.{queueLists}
 use Rattle.rows.specs.Flat.{flat}
-use Rattle.model.specs.Profile.{single}
-use Rattle.model.specs.Lent.{rowCount}
-use Rattle.model.specs.Refuse.{isShortOfSeedRoom, refusedBefore}
-use Rattle.model.proofs.SingleLawful.{single-lawful}
-use Rattle.checks.specs.Given.{settingsOf, checkOf}
-use Rattle.checks.proofs.Passed.{deepen-passed, deepen-refused}
-use Rattle.lent.specs.Lists.{Lists, lists, lentIn, deepenListsOf}
-use Rattle.lent.proofs.Read.{deepen-read}
-use Rattle.lent.proofs.Answered.{refused-lists, both}
-use Rattle.lent.proofs.Rooms.{lends-rooms}
+use Rattle.lent.specs.Lists.{Lists, lists}
+use Rattle.start.proofs.Flatly.{flattened-from}
+use Rattle.finish.proofs.Made.{made-lists, learned-as}
+use Rattle.plant.specs.Seeded.{Seedable}
 use Rattle.from_seed.specs.Result.{deepenedIn}
 use Rattle.deepen.proofs.deepen_ma_tree.Statement.{statement}
 use Rattle.deepen.proofs.deepen_ma_tree.Tie as tie
 
-node-room-requires : tie.Need-node-room-requires
-node-room-requires c κs = search needs
+clear-u32-requires : tie.Need-clear-u32-requires
+clear-u32-requires c κs = search needs
 
-queue-room-requires : tie.Need-queue-room-requires
-queue-room-requires c κs = search needs
-
-check-deepen-requires : tie.Need-check-deepen-requires
-check-deepen-requires c κs = search needs
-
-enum-known-number : tie.Need-enum-known-number
-enum-known-number c = search needs
-
-enum-known-rows : tie.Need-enum-known-rows
-enum-known-rows c = search needs
-
--- what was asked, and what the checks answer
-module _ (c : tie.After-check-deepen) where
+-- what was asked
+module _ (c : tie.After-clear-u32) where
   abbrev start : tie.Start
-  start = c .before .before .before .before .before .before .before .before .before .before .before .before .before .before .before .before .before .before .before .before
+  start = c .before .before .before .before .before .before .before .before .before .before
 
   abbrev x : Lists
   x =
@@ -45,108 +28,87 @@ module _ (c : tie.After-check-deepen) where
       lists (flat (given .props .now) (given .tok .now) (given .res .now)) (nodeLists (given .words .now) (given .values .now) (given .costs .now) (given .spans .now))
       (queueLists (given .queue-words .now) (given .queue-values .now) (given .queue-gains .now)) (given .counts .now)
 
-  answer : c .check-deepen .result ≡ checkOf (rowCount (lentIn x)) (refusedBefore single (settingsOf (start .args .s)) (start .args .logs .now) (lentIn x) (isShortOfSeedRoom (start .args .count) (lentIn x)) none)
-  answer = c .check-deepen .ensures (lentIn x) (lends-rooms x _ (c .before .before .before .before .before .before .before .before .node-room .ensures) refl (c .before .before .before .before .queue-room .ensures) refl)
+flat-bits-requires : tie.Need-flat-bits-requires
+flat-bits-requires c κs =
+    let cleared = c .before .before .before .before .before in
+    let asked = start cleared .pre .seedable in
+    flattened-from (asked .fitting) (asked .counted) (cleared .clear-u32 .ensures)
 
-deepen-sound-requires : tie.Need-deepen-sound-requires
-deepen-sound-requires c κs =
-    let checked = c .before .before .before .before .before .before .before .before .before .before .before .before .before .before in
-    let passed = c .before .before .before .before .before .before .before .before .before .before .before .before .rows .given in
-    let given = start checked .args in
-    let p = deepen-passed (given .s) (given .logs .now) (lentIn (x checked)) (given .count) (passed .0 .0) (sym (answer checked) ∙ passed .1) in
-    record { left = p .0; accepted = p .1; seed-rooms = p .2 }
+grow-from-seed-requires : tie.Need-grow-from-seed-requires
+grow-from-seed-requires c κs =
+    let cleared = c .before .before .before .before .before .before .before .before .before .before .before .before .before .before .before .before .before .before .before in
+    let summed = c .before .before .before .before .before .before .before .before .before .before .before .before .before .flat-bits in
+    let given = start cleared .args in (
+      subst (λ (l : List ℕ). Seedable (given .s) (given .logs .now) l (x cleared .rows) (x cleared .nodes) (x cleared .queue) (given .rows) (given .count)) (sym (summed .ensures .1 ∙ cleared .clear-u32 .ensures)) (start cleared .pre .seedable),
+      summed .ensures .0 (given .res .now),
+    )
+
+-- ---- from the end back to each call
+abbrev after-grow-from-seed : tie.After-slice-known16 → tie.After-grow-from-seed
+after-grow-from-seed c = c .before .before .before .before .before .before .before .before .before .before .before .before .before .before .before .before .before .before
+
+abbrev after-flat-bits : tie.After-slice-known16 → tie.After-flat-bits
+after-flat-bits c = c .before .before .before .before .before .before .before .before .before .before .before .before .before .before .before .before .before .before .before .before .before .before .before .before .before .before .before .before .before .before .before .before
+
+abbrev after-clear : tie.After-slice-known16 → tie.After-clear-u32
+after-clear c = c .before .before .before .before .before .before .before .before .before .before .before .before .before .before .before .before .before .before .before .before .before .before .before .before .before .before .before .before .before .before .before .before .before .before .before .before .before .before
 
 same-length : tie.Need-same-length
-same-length c = search needs
+same-length c = after-grow-from-seed c .grow-from-seed .kept .0
 
 same-length-2 : tie.Need-same-length-2
-same-length-2 c = search needs
+same-length-2 c = after-grow-from-seed c .grow-from-seed .kept .1 .0
 
 same-length-3 : tie.Need-same-length-3
-same-length-3 c = search needs
+same-length-3 c = after-grow-from-seed c .grow-from-seed .kept .1 .1 .0
 
 same-length-4 : tie.Need-same-length-4
-same-length-4 c = search needs
+same-length-4 c = after-grow-from-seed c .grow-from-seed .kept .1 .1 .1 .0
 
 same-length-5 : tie.Need-same-length-5
-same-length-5 c = search needs
+same-length-5 c = after-grow-from-seed c .grow-from-seed .kept .1 .1 .1 .1 .0
 
 same-length-6 : tie.Need-same-length-6
-same-length-6 c = search needs
+same-length-6 c = after-grow-from-seed c .grow-from-seed .kept .1 .1 .1 .1 .1 .0
 
 same-length-7 : tie.Need-same-length-7
-same-length-7 c = search needs
+same-length-7 c = after-grow-from-seed c .grow-from-seed .kept .1 .1 .1 .1 .1 .1 .0
 
 same-length-8 : tie.Need-same-length-8
-same-length-8 c = search needs
+same-length-8 c = after-grow-from-seed c .grow-from-seed .kept .1 .1 .1 .1 .1 .1 .1 .0
 
 same-length-9 : tie.Need-same-length-9
-same-length-9 c = search needs
-
-returns : tie.Need-returns
-unfolding deepenListsOf
-returns c =
-    let checked = c .before .before .before in
-    let told = c .before .number .given in
-    let given = start checked .args in
-    both
-    (refused-lists (x checked) (deepenedIn (given .s) (given .logs .now) (given .count) (x checked .rows) (x checked .nodes)) (told .0 .0) (told .0 .1 .0)
-    (deepen-refused (given .s) (given .logs .now) (lentIn (x checked)) (given .count) (told .0 .0) (told .0 .1 .0) (sym (answer checked) ∙ told .1)))
-    (deepen-read single single-lawful (settingsOf (given .s)) (given .logs .now) (x checked) (given .count))
-
-abbrev after-deepen-sound : tie.After-slice-known14 → tie.After-deepen-sound
-after-deepen-sound c = c .before .before .before .before .before .before .before .before .before .before .before .before .before .before .before .before .before .before
+same-length-9 c = after-grow-from-seed c .grow-from-seed .kept .1 .1 .1 .1 .1 .1 .1 .1 .0
 
 same-length-10 : tie.Need-same-length-10
-same-length-10 c = after-deepen-sound c .deepen-sound .kept .0
+same-length-10 c = after-grow-from-seed c .grow-from-seed .kept .1 .1 .1 .1 .1 .1 .1 .1 .1 .0
 
 same-length-11 : tie.Need-same-length-11
-same-length-11 c = after-deepen-sound c .deepen-sound .kept .1 .0
+same-length-11 c = after-grow-from-seed c .grow-from-seed .kept .1 .1 .1 .1 .1 .1 .1 .1 .1 .1 .0 ∙ after-flat-bits c .flat-bits .kept .1 .1 .0 ∙ after-clear c .clear-u32 .kept .0
 
-same-length-12 : tie.Need-same-length-12
-same-length-12 c = after-deepen-sound c .deepen-sound .kept .1 .1 .0
-
-same-length-13 : tie.Need-same-length-13
-same-length-13 c = after-deepen-sound c .deepen-sound .kept .1 .1 .1 .0
-
-same-length-14 : tie.Need-same-length-14
-same-length-14 c = after-deepen-sound c .deepen-sound .kept .1 .1 .1 .1 .0
-
-same-length-15 : tie.Need-same-length-15
-same-length-15 c = after-deepen-sound c .deepen-sound .kept .1 .1 .1 .1 .1 .0
-
-same-length-16 : tie.Need-same-length-16
-same-length-16 c = after-deepen-sound c .deepen-sound .kept .1 .1 .1 .1 .1 .1 .0
-
-same-length-17 : tie.Need-same-length-17
-same-length-17 c = after-deepen-sound c .deepen-sound .kept .1 .1 .1 .1 .1 .1 .1 .0
-
-same-length-18 : tie.Need-same-length-18
-same-length-18 c = after-deepen-sound c .deepen-sound .kept .1 .1 .1 .1 .1 .1 .1 .1 .0
-
-same-length-19 : tie.Need-same-length-19
-same-length-19 c = after-deepen-sound c .deepen-sound .kept .1 .1 .1 .1 .1 .1 .1 .1 .1 .0
-
-same-length-20 : tie.Need-same-length-20
-same-length-20 c = after-deepen-sound c .deepen-sound .kept .1 .1 .1 .1 .1 .1 .1 .1 .1 .1 .0
-
-returns-2 : tie.Need-returns-2
-returns-2 c =
-    let checked = c .before .before .before .before .before .before .before .before .before .before .before .before .before .before .before .before .before .before .before .before .before .before .before .before .before .before .before .before .before .before .before .before .before in
-    let made = after-deepen-sound c .deepen-sound in
-    let given = start checked .args in
-    both (made .ensures) (deepen-read single single-lawful (settingsOf (given .s)) (given .logs .now) (x checked) (given .count))
+returns : tie.Need-returns
+returns c =
+    let cleared = after-clear c in
+    let summed = after-flat-bits c .flat-bits in
+    let grown = after-grow-from-seed c .grow-from-seed in
+    let given = start cleared .args in
+    let made = deepenedIn (given .s) (given .logs .now) (given .count) (x cleared .rows) (x cleared .nodes) in
+    let f = grown .ensures .0 in (
+      learned-as f,
+      made-lists (x cleared) made (flat (grown .last .0) (grown .last .1 .0) (grown .last .1 .1 .0))
+          (nodeLists (grown .last .1 .1 .1 .0) (grown .last .1 .1 .1 .1 .0) (grown .last .1 .1 .1 .1 .1 .0) (grown .last .1 .1 .1 .1 .1 .1 .0))
+          (queueLists (grown .last .1 .1 .1 .1 .1 .1 .1 .0) (grown .last .1 .1 .1 .1 .1 .1 .1 .1 .0) (grown .last .1 .1 .1 .1 .1 .1 .1 .1 .1 .0)) (grown .last .1 .1 .1 .1 .1 .1 .1 .1 .1 .1 .0) (grown .result)
+          (start cleared .pre .seedable .fitting .shaped) f
+          (grown .ensures .1 .1) (grown .ensures .1 .0 ∙ summed .ensures .1 ∙ cleared .clear-u32 .ensures),
+    )
 
 pub deepen-ma-tree-spec : {M : Type 1} → statement M
 deepen-ma-tree-spec =
     tie.close
     (tie.spec
-    node-room-requires
-    queue-room-requires
-    check-deepen-requires
-    enum-known-number
-    enum-known-rows
-    deepen-sound-requires
+    clear-u32-requires
+    flat-bits-requires
+    grow-from-seed-requires
     same-length
     same-length-2
     same-length-3
@@ -156,16 +118,6 @@ deepen-ma-tree-spec =
     same-length-7
     same-length-8
     same-length-9
-    returns
     same-length-10
     same-length-11
-    same-length-12
-    same-length-13
-    same-length-14
-    same-length-15
-    same-length-16
-    same-length-17
-    same-length-18
-    same-length-19
-    same-length-20
-    returns-2)
+    returns)
