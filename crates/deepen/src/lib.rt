@@ -1,11 +1,8 @@
 // Deepening a tree from rows in number lists (document 01; the Rust's `deepen_ma_tree`), of a job that the checks accept and a sound seed: flat bits, the seed's
 // leaves, growth, pruning and settling.
 ghost use mathlib.Core.Path.{_≡_};
-ghost use Rattle.layout.specs.Tree.{nodeLists};
-ghost use Rattle.layout.specs.Waiting.{queueLists};
-ghost use Rattle.lent.specs.Lists.{lists, listsAfter};
+ghost use Rattle.lent.specs.Lists.{listsNow, listsAfter};
 ghost use Rattle.lent.specs.Answer.{LearnedAs};
-ghost use Rattle.rows.specs.Flat.{flat};
 ghost use Rattle.from_seed.specs.Result.{deepenedIn};
 ghost use Rattle.deepen.specs.Deepens.{Deepenable};
 use checks::Settings;
@@ -19,7 +16,6 @@ pub fn deepen_ma_tree(
     words: &mut [u32],
     values: &mut [i32],
     costs: &mut [f32],
-    spans: &mut [u32],
     queue_words: &mut [u32],
     queue_values: &mut [i32],
     queue_gains: &mut [f32],
@@ -29,18 +25,16 @@ pub fn deepen_ma_tree(
     rows: usize,
     count: usize,
 ) -> Finished
-    requires { ⌜ Deepenable s (now logs) (lists (flat (now props) (now tok) (now res)) (nodeLists (now words) (now values) (now costs) (now spans))
-        (queueLists (now «queue_words») (now «queue_values») (now «queue_gains»)) (now counts)) rows count ⌝ }
-    ensures finished { λ r. ⌜ LearnedAs (deepenedIn s (now (logs .entry)) count (flat (now (props .entry)) (now (tok .entry)) (now (res .entry)))
-        (nodeLists (now (words .entry)) (now (values .entry)) (now (costs .entry)) (now (spans .entry)))) r ⌝ }
-    ensures lists { λ _. ⌜ lists (flat (now (props .exit)) (now (tok .exit)) (now (res .exit)))
-        (nodeLists (now (words .exit)) (now (values .exit)) (now (costs .exit)) (now (spans .exit)))
-        (queueLists (now («queue_words» .exit)) (now («queue_values» .exit)) (now («queue_gains» .exit))) (now (counts .exit))
-        ≡ listsAfter (deepenedIn s (now (logs .entry)) count (flat (now (props .entry)) (now (tok .entry)) (now (res .entry)))
-        (nodeLists (now (words .entry)) (now (values .entry)) (now (costs .entry)) (now (spans .entry))))
-        (lists (flat (now (props .entry)) (now (tok .entry)) (now (res .entry)))
-        (nodeLists (now (words .entry)) (now (values .entry)) (now (costs .entry)) (now (spans .entry)))
-        (queueLists (now («queue_words» .entry)) (now («queue_values» .entry)) (now («queue_gains» .entry))) (now (counts .entry))) ⌝ }
+    requires { ⌜ Deepenable s (now logs) (listsNow props tok res words values costs
+        «queue_words» «queue_values» «queue_gains» counts) rows count ⌝ }
+    ensures finished { λ r. ⌜ (let x = listsNow (props .entry) (tok .entry) (res .entry) (words .entry) (values .entry) (costs .entry)
+        («queue_words» .entry) («queue_values» .entry) («queue_gains» .entry) (counts .entry) in
+        LearnedAs (deepenedIn s (now (logs .entry)) count (x .rows) (x .nodes)) r) ⌝ }
+    ensures lists { λ _. ⌜ (let x = listsNow (props .entry) (tok .entry) (res .entry) (words .entry) (values .entry) (costs .entry)
+        («queue_words» .entry) («queue_values» .entry) («queue_gains» .entry) (counts .entry) in
+        let y = listsNow (props .exit) (tok .exit) (res .exit) (words .exit) (values .exit) (costs .exit)
+        («queue_words» .exit) («queue_values» .exit) («queue_gains» .exit) (counts .exit) in
+        y ≡ listsAfter (deepenedIn s (now (logs .entry)) count (x .rows) (x .nodes)) x) ⌝ }
 {
     lists::clear_u32(counts);
     let flat_bits = start::flat_bits(props, tok, counts, logs, s, rows);
@@ -51,7 +45,6 @@ pub fn deepen_ma_tree(
         words,
         values,
         costs,
-        spans,
         queue_words,
         queue_values,
         queue_gains,

@@ -1,11 +1,8 @@
 // Learning a tree from rows in number lists (document 01; the Rust's `learn_ma_tree_in_place`), of a job that the checks accept: flat bits, the root, growth,
 // pruning and settling.
 ghost use mathlib.Core.Path.{_≡_};
-ghost use Rattle.layout.specs.Tree.{nodeLists};
-ghost use Rattle.layout.specs.Waiting.{queueLists};
-ghost use Rattle.lent.specs.Lists.{lists, listsAfter};
+ghost use Rattle.lent.specs.Lists.{listsNow, listsAfter};
 ghost use Rattle.lent.specs.Answer.{LearnedAs};
-ghost use Rattle.rows.specs.Flat.{flat};
 ghost use Rattle.from_root.specs.Result.{resultIn};
 ghost use Rattle.learn.specs.Learns.{Learnable};
 use checks::Settings;
@@ -19,7 +16,6 @@ pub fn learn_ma_tree_in_place(
     words: &mut [u32],
     values: &mut [i32],
     costs: &mut [f32],
-    spans: &mut [u32],
     queue_words: &mut [u32],
     queue_values: &mut [i32],
     queue_gains: &mut [f32],
@@ -28,16 +24,16 @@ pub fn learn_ma_tree_in_place(
     s: Settings,
     rows: usize,
 ) -> Finished
-    requires { ⌜ Learnable s (now logs) (lists (flat (now props) (now tok) (now res)) (nodeLists (now words) (now values) (now costs) (now spans))
-        (queueLists (now «queue_words») (now «queue_values») (now «queue_gains»)) (now counts)) rows ⌝ }
-    ensures finished { λ r. ⌜ LearnedAs (resultIn s (now (logs .entry)) (flat (now (props .entry)) (now (tok .entry)) (now (res .entry)))) r ⌝ }
-    ensures lists { λ _. ⌜ lists (flat (now (props .exit)) (now (tok .exit)) (now (res .exit)))
-        (nodeLists (now (words .exit)) (now (values .exit)) (now (costs .exit)) (now (spans .exit)))
-        (queueLists (now («queue_words» .exit)) (now («queue_values» .exit)) (now («queue_gains» .exit))) (now (counts .exit))
-        ≡ listsAfter (resultIn s (now (logs .entry)) (flat (now (props .entry)) (now (tok .entry)) (now (res .entry))))
-        (lists (flat (now (props .entry)) (now (tok .entry)) (now (res .entry)))
-        (nodeLists (now (words .entry)) (now (values .entry)) (now (costs .entry)) (now (spans .entry)))
-        (queueLists (now («queue_words» .entry)) (now («queue_values» .entry)) (now («queue_gains» .entry))) (now (counts .entry))) ⌝ }
+    requires { ⌜ Learnable s (now logs) (listsNow props tok res words values costs
+        «queue_words» «queue_values» «queue_gains» counts) rows ⌝ }
+    ensures finished { λ r. ⌜ (let x = listsNow (props .entry) (tok .entry) (res .entry) (words .entry) (values .entry) (costs .entry)
+        («queue_words» .entry) («queue_values» .entry) («queue_gains» .entry) (counts .entry) in
+        LearnedAs (resultIn s (now (logs .entry)) (x .rows)) r) ⌝ }
+    ensures lists { λ _. ⌜ (let x = listsNow (props .entry) (tok .entry) (res .entry) (words .entry) (values .entry) (costs .entry)
+        («queue_words» .entry) («queue_values» .entry) («queue_gains» .entry) (counts .entry) in
+        let y = listsNow (props .exit) (tok .exit) (res .exit) (words .exit) (values .exit) (costs .exit)
+        («queue_words» .exit) («queue_values» .exit) («queue_gains» .exit) (counts .exit) in
+        y ≡ listsAfter (resultIn s (now (logs .entry)) (x .rows)) x) ⌝ }
 {
     lists::clear_u32(counts);
     let flat_bits = start::flat_bits(props, tok, counts, logs, s, rows);
@@ -48,7 +44,6 @@ pub fn learn_ma_tree_in_place(
         words,
         values,
         costs,
-        spans,
         queue_words,
         queue_values,
         queue_gains,

@@ -4,6 +4,8 @@ use Prim.Native.Nat.{ℕ, _+_, _*_, _/_, min}
 use mathlib.Core.List.{List, [], _∷_, map}
 use lib.ListN.{length, getD, replicate}
 use lib.IntN.{ℤ, pos}
+use lib.Ieee.{Float}
+use denote.Ref.{RefT, now}
 use Rattle.model.specs.Lists.{range, writtenOver}
 use Rattle.model.specs.Meter.{Meter}
 use Rattle.model.specs.Single.{singles}
@@ -12,9 +14,9 @@ use Rattle.model.specs.Tree.{Record}
 use Rattle.model.specs.Learn.{Result}
 use Rattle.model.specs.Lent.{Stored, Waiting}
 use Rattle.layout.specs.Layout.{nodesHeld, storedAtOf, firstAt, endAt}
-use Rattle.layout.specs.Tree.{laid, nodeWords, nodeVal, NodeListsOf, NodeLists}
-use Rattle.layout.specs.Waiting.{QueueListsOf, QueueLists, wordsPerLeaf}
-use Rattle.rows.specs.Flat.{Flat, flatOf, hasResiduals}
+use Rattle.layout.specs.Tree.{laid, nodeWords, nodeVal, NodeListsOf, NodeLists, nodesNow}
+use Rattle.layout.specs.Waiting.{QueueListsOf, QueueLists, queueNow, wordsPerLeaf}
+use Rattle.rows.specs.Flat.{Flat, flat, flatOf, hasResiduals}
 
 -- rows; nodes with what stands beside them and their spans; queue; count space
 pub record ListsOf (M : Meter) : Type 0 where
@@ -28,6 +30,12 @@ Lists = ListsOf singles
 
 abbrev pub lists : Flat → NodeLists → QueueLists → List ℕ → Lists
 lists rows nodes queue counts = record { rows = rows; nodes = nodes; queue = queue; counts = counts }
+
+-- what lent lists hold
+abbrev pub listsNow : RefT (List ℤ) → RefT (List ℕ) → RefT (List ℤ) → RefT (List ℕ) → RefT (List ℤ) → RefT (List Float)
+    → RefT (List ℕ) → RefT (List ℤ) → RefT (List Float) → RefT (List ℕ) → Lists
+listsNow props tok res words values costs queueWords queueValues queueGains counts =
+    lists (flat (now props) (now tok) (now res)) (nodesNow words values costs) (queueNow queueWords queueValues queueGains) (now counts)
 
 -- ---- what the model reads in them
 

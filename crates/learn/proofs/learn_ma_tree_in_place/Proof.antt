@@ -20,12 +20,12 @@ clear-u32-requires c κs = search needs
 -- what was asked
 module _ (c : tie.After-clear-u32) where
   abbrev start : tie.Start
-  start = c .before .before .before .before .before .before .before .before .before .before
+  start = c .before .before .before .before .before .before .before .before .before
 
   abbrev x : Lists
   x =
       let given = start .args in
-      lists (flat (given .props .now) (given .tok .now) (given .res .now)) (nodeLists (given .words .now) (given .values .now) (given .costs .now) (given .spans .now))
+      lists (flat (given .props .now) (given .tok .now) (given .res .now)) (nodeLists (given .words .now) (given .values .now) (given .costs .now))
       (queueLists (given .queue-words .now) (given .queue-values .now) (given .queue-gains .now)) (given .counts .now)
 
 flat-bits-requires : tie.Need-flat-bits-requires
@@ -36,22 +36,22 @@ flat-bits-requires c κs =
 
 grow-from-root-requires : tie.Need-grow-from-root-requires
 grow-from-root-requires c κs =
-    let cleared = c .before .before .before .before .before .before .before .before .before .before .before .before .before .before .before .before .before .before .before in
-    let summed = c .before .before .before .before .before .before .before .before .before .before .before .before .before .flat-bits in
+    let cleared = c .before .before .before .before .before .before .before .before .before .before .before .before .before .before .before .before .before .before in
+    let summed = c .before .before .before .before .before .before .before .before .before .before .before .before .flat-bits in
     let given = start cleared .args in (
       subst (λ (l : List ℕ). Plantable (given .s) (given .logs .now) l (x cleared .rows) (x cleared .nodes) (x cleared .queue) (given .rows)) (sym (summed .ensures .1 ∙ cleared .clear-u32 .ensures)) (start cleared .pre .plantable),
       summed .ensures .0 (given .res .now),
     )
 
 -- ---- from the end back to each call
-abbrev after-grow-from-root : tie.After-slice-known16 → tie.After-grow-from-root
-after-grow-from-root c = c .before .before .before .before .before .before .before .before .before .before .before .before .before .before .before .before .before .before
+abbrev after-grow-from-root : tie.After-slice-known14 → tie.After-grow-from-root
+after-grow-from-root c = c .before .before .before .before .before .before .before .before .before .before .before .before .before .before .before .before
 
-abbrev after-flat-bits : tie.After-slice-known16 → tie.After-flat-bits
-after-flat-bits c = c .before .before .before .before .before .before .before .before .before .before .before .before .before .before .before .before .before .before .before .before .before .before .before .before .before .before .before .before .before .before .before .before
+abbrev after-flat-bits : tie.After-slice-known14 → tie.After-flat-bits
+after-flat-bits c = c .before .before .before .before .before .before .before .before .before .before .before .before .before .before .before .before .before .before .before .before .before .before .before .before .before .before .before .before .before
 
-abbrev after-clear : tie.After-slice-known16 → tie.After-clear-u32
-after-clear c = c .before .before .before .before .before .before .before .before .before .before .before .before .before .before .before .before .before .before .before .before .before .before .before .before .before .before .before .before .before .before .before .before .before .before .before .before .before .before
+abbrev after-clear : tie.After-slice-known14 → tie.After-clear-u32
+after-clear c = c .before .before .before .before .before .before .before .before .before .before .before .before .before .before .before .before .before .before .before .before .before .before .before .before .before .before .before .before .before .before .before .before .before .before .before
 
 same-length : tie.Need-same-length
 same-length c = after-grow-from-root c .grow-from-root .kept .0
@@ -81,10 +81,7 @@ same-length-9 : tie.Need-same-length-9
 same-length-9 c = after-grow-from-root c .grow-from-root .kept .1 .1 .1 .1 .1 .1 .1 .1 .0
 
 same-length-10 : tie.Need-same-length-10
-same-length-10 c = after-grow-from-root c .grow-from-root .kept .1 .1 .1 .1 .1 .1 .1 .1 .1 .0
-
-same-length-11 : tie.Need-same-length-11
-same-length-11 c = after-grow-from-root c .grow-from-root .kept .1 .1 .1 .1 .1 .1 .1 .1 .1 .1 .0 ∙ after-flat-bits c .flat-bits .kept .1 .1 .0 ∙ after-clear c .clear-u32 .kept .0
+same-length-10 c = after-grow-from-root c .grow-from-root .kept .1 .1 .1 .1 .1 .1 .1 .1 .1 .0 ∙ after-flat-bits c .flat-bits .kept .1 .1 .0 ∙ after-clear c .clear-u32 .kept .0
 
 returns : tie.Need-returns
 returns c =
@@ -96,8 +93,8 @@ returns c =
     let f = grown .ensures .0 in (
       learned-as f,
       made-lists (x cleared) made (flat (grown .last .0) (grown .last .1 .0) (grown .last .1 .1 .0))
-          (nodeLists (grown .last .1 .1 .1 .0) (grown .last .1 .1 .1 .1 .0) (grown .last .1 .1 .1 .1 .1 .0) (grown .last .1 .1 .1 .1 .1 .1 .0))
-          (queueLists (grown .last .1 .1 .1 .1 .1 .1 .1 .0) (grown .last .1 .1 .1 .1 .1 .1 .1 .1 .0) (grown .last .1 .1 .1 .1 .1 .1 .1 .1 .1 .0)) (grown .last .1 .1 .1 .1 .1 .1 .1 .1 .1 .1 .0) (grown .result)
+          (nodeLists (grown .last .1 .1 .1 .0) (grown .last .1 .1 .1 .1 .0) (grown .last .1 .1 .1 .1 .1 .0))
+          (queueLists (grown .last .1 .1 .1 .1 .1 .1 .0) (grown .last .1 .1 .1 .1 .1 .1 .1 .0) (grown .last .1 .1 .1 .1 .1 .1 .1 .1 .0)) (grown .last .1 .1 .1 .1 .1 .1 .1 .1 .1 .0) (grown .result)
           (start cleared .pre .plantable .fitting .shaped) f
           (grown .ensures .1 .1) (grown .ensures .1 .0 ∙ summed .ensures .1 ∙ cleared .clear-u32 .ensures),
     )
@@ -119,5 +116,4 @@ learn-ma-tree-in-place-spec =
     same-length-8
     same-length-9
     same-length-10
-    same-length-11
     returns)
