@@ -153,7 +153,7 @@ module _ {s : Settings} {logs : List Float} {counts : List ℕ} {x : Flat} {n n'
       }
 
 pub kept-planted : {s : Settings} {logs : List Float} {counts : List ℕ} {x : Flat} {n n' : NodeLists} {q : QueueLists} {tree : Tree} (depth : ℕ) {scored : Bool}
-    → (eqb (kindAt (n .words) (tree .nodes)) 1 || eqb (spanAt (n .spans) (tree .nodes) .first) (spanAt (n .spans) (tree .nodes) .end)) ≡ true
+    → (eqb (kindAt (n .words) (tree .nodes)) 1 || eqb (spanAt (n .words) (tree .nodes) .first) (spanAt (n .words) (tree .nodes) .end)) ≡ true
     → n' ≡ put (tree .nodes) (keptNode (nodeAt (n .words) (n .values) (tree .nodes)) (infoAt n (tree .nodes))) n
     → NodePlanted s logs counts counts x x n n' q q tree (withNode tree) depth scored
 kept-planted {s} {logs} {counts} {x} {n} {n'} {q} {tree} depth {scored} test is =
@@ -178,8 +178,8 @@ kept-planted {s} {logs} {counts} {x} {n} {n'} {q} {tree} depth {scored} test is 
         go : (b : Bool) → eqb (kindAt (n .words) (tree .nodes)) 1 ≡ b → mine ≡ []
         go true e = next .bare e
         go false e =
-            let f = eqb-true (spanAt (n .spans) (tree .nodes) .first) (spanAt (n .spans) (tree .nodes) .end)
-            (either (eqb (kindAt (n .words) (tree .nodes)) 1) (eqb (spanAt (n .spans) (tree .nodes) .first) (spanAt (n .spans) (tree .nodes) .end)) test e) in
+            let f = eqb-true (spanAt (n .words) (tree .nodes) .first) (spanAt (n .words) (tree .nodes) .end)
+            (either (eqb (kindAt (n .words) (tree .nodes)) 1) (eqb (spanAt (n .words) (tree .nodes) .first) (spanAt (n .words) (tree .nodes) .end)) test e) in
             no-row mine (omega (arith, next .first, next .end, f))
 
 -- ---- a leaf with rows
@@ -246,7 +246,7 @@ module _ {s : Settings} {logs : List Float} {counts counts' : List ℕ} {x y : F
       no-offer : scored ≡ false → offerIs (p .leaf .offer) ≡ none
       no-offer t = p .made .leaf .offer ∙ rw t
 
-  pub leaf-planted : (eqb (kindAt (n .words) i) 1 || eqb first end) ≡ false → first ≡ spanAt (n .spans) i .first → end ≡ spanAt (n .spans) i .end
+  pub leaf-planted : (eqb (kindAt (n .words) i) 1 || eqb first end) ≡ false → first ≡ spanAt (n .words) i .first → end ≡ spanAt (n .words) i .end
       → NodePlanted s logs counts counts' x y n n' q q' tree tree' depth scored
   leaf-planted test f e =
       let t = neither (eqb (kindAt (n .words) i) 1) (eqb first end) .0 test in

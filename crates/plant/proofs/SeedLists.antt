@@ -17,9 +17,9 @@ use Rattle.model.specs.Tree.{Node, split, leaf, Record, blankRecord, nodesOf, h
 use Rattle.model.specs.Lent.{recordIn}
 use Rattle.model.proofs.Written.{getD-unwritten}
 use Rattle.model.proofs.Sound.{sound-count}
-use Rattle.layout.specs.Layout.{kindAt, propAt, gtAt, leAt, predAt, valAt, storedAtOf, nodesHeld, nodeAt}
-use Rattle.layout.specs.Tree.{NodeListsOf, HasRoom, holding, laid, entryWords, entryValues, entryCosts, entrySpans}
-use Rattle.layout.proofs.Held.{words-length, values-length, costs-length, spans-length}
+use Rattle.layout.specs.Layout.{wordsPerNode, valuesPerNode, kindAt, propAt, gtAt, leAt, predAt, valAt, storedAtOf, nodesHeld, nodeAt}
+use Rattle.layout.specs.Tree.{NodeListsOf, HasRoom, holding, laid, entryWords, entryValues, entryCosts}
+use Rattle.layout.proofs.Held.{words-length, values-length, costs-length}
 use Rattle.model.specs.Grow.{Entry}
 use Rattle.model.proofs.Places.{length-each, each-at}
 use Rattle.lent.specs.Lists.{nodesLent, storedNodes, spanAt}
@@ -122,21 +122,17 @@ module _ {M : Meter} (count : ℕ) (n : NodeListsOf M) (room : HasRoom count n) 
 
 -- ---- entries that are not yet written over
 module _ {M : Meter} (tree : List (Entry M)) (n : NodeListsOf M) (i : ℕ) (here : length tree ≡ i) where
-  word-still : (k : ℕ) → getD (holding tree n .words) (i * 5 + k) 0 ≡ getD (n .words) (i * 5 + k) 0
+  word-still : (k : ℕ) → getD (holding tree n .words) (i * wordsPerNode + k) 0 ≡ getD (n .words) (i * wordsPerNode + k) 0
   unfolding holding
-  word-still k = getD-unwritten (laid entryWords tree) (n .words) 0 (i * 5 + k) (omega (arith, words-length tree))
+  word-still k = getD-unwritten (laid entryWords tree) (n .words) 0 (i * wordsPerNode + k) (omega (arith, words-length tree))
 
-  value-still : (k : ℕ) → getD (holding tree n .values) (i * 2 + k) (pos 0) ≡ getD (n .values) (i * 2 + k) (pos 0)
+  value-still : (k : ℕ) → getD (holding tree n .values) (i * valuesPerNode + k) (pos 0) ≡ getD (n .values) (i * valuesPerNode + k) (pos 0)
   unfolding holding
-  value-still k = getD-unwritten (laid entryValues tree) (n .values) (pos 0) (i * 2 + k) (omega (arith, values-length tree))
+  value-still k = getD-unwritten (laid entryValues tree) (n .values) (pos 0) (i * valuesPerNode + k) (omega (arith, values-length tree))
 
   cost-still : getD (holding tree n .costs) i (M .spare) ≡ getD (n .costs) i (M .spare)
   unfolding holding
   cost-still = getD-unwritten (laid entryCosts tree) (n .costs) (M .spare) i (omega (arith, costs-length tree))
-
-  row-still : (k : ℕ) → getD (holding tree n .spans) (i * 2 + k) 0 ≡ getD (n .spans) (i * 2 + k) 0
-  unfolding holding
-  row-still k = getD-unwritten (laid entrySpans tree) (n .spans) 0 (i * 2 + k) (omega (arith, spans-length tree))
 
   pub kind-still : kindAt (holding tree n .words) i ≡ kindAt (n .words) i
   kind-still = rw add-zero at (word-still 0)
@@ -150,8 +146,5 @@ module _ {M : Meter} (tree : List (Entry M)) (n : NodeListsOf M) (i : ℕ) (here
   pub info-still : infoAt (holding tree n) i ≡ infoAt n i
   info-still = rw (cost-still, word-still 4, value-still 1)
 
-  first-still : getD (holding tree n .spans) (i * 2) 0 ≡ getD (n .spans) (i * 2) 0
-  first-still = rw add-zero at (row-still 0)
-
-  pub span-still : spanAt (holding tree n .spans) i ≡ spanAt (n .spans) i
-  span-still = rw (first-still, row-still 1)
+  pub span-still : spanAt (holding tree n .words) i ≡ spanAt (n .words) i
+  span-still = rw (word-still 5, word-still 6)

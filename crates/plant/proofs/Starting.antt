@@ -37,10 +37,9 @@ use Rattle.checks.specs.Given.{settingsOf}
 use Rattle.checks.specs.declared.Settings.{Settings}
 use Rattle.layout.proofs.Queue.{same-itself}
 use Rattle.layout.specs.declared.Tree.{Tree}
-use Rattle.layout.specs.Tree.{NodeListsOf, NodeLists, nodeLists, HasRoom, holding, laid, entrySpans}
+use Rattle.layout.specs.Tree.{NodeLists, nodeLists, HasRoom, holding}
 use Rattle.layout.specs.Waiting.{QueueLists, Queued, queueOf}
-use Rattle.layout.proofs.Held.{room-fewer, spans-length}
-use Rattle.lent.specs.Lists.{storedNodes}
+use Rattle.layout.proofs.Held.{room-fewer}
 use Rattle.order.specs.Order.{rowsWith, orderedBy, firstOf}
 use Rattle.order.specs.Leaves.{leafNumbers}
 use Rattle.order.proofs.OrderLaws.{length-ordered}
@@ -54,6 +53,7 @@ use Rattle.state.proofs.Numbers.{evaluated-number}
 use Rattle.state.specs.Fitting.{usesOf, Fitting}
 use Rattle.state.specs.Grows.{jobIn, Number, Grows}
 use Rattle.seed.specs.Ordered.{seedIn, numbersIn, Orderable, OrderedBy}
+use Rattle.seed.proofs.Same as unseen
 use Rattle.plant.specs.Sown.{seededTo, Plants, Plantable, PlantedTo}
 use Rattle.plant.specs.Seeded.{splitsOf, Seedable, Seeded}
 use Rattle.leaf.proofs.Making.{uses-still, fitting-still}
@@ -160,14 +160,6 @@ numbers-length : (nodes : List Node) (rows : List Row) → length (leafNumbers n
 unfolding leafNumbers
 numbers-length nodes rows = length-map rows _
 
--- what lies under the entries written makes no difference
-over-same : {M : Meter} (tree : List (Entry M)) (n : NodeListsOf M) (spans1 : List ℕ) → drop (length tree * 2) spans1 ≡ drop (length tree * 2) (n .spans)
-    → holding tree (record { words = n .words; values = n .values; costs = n .costs; spans = spans1 }) ≡ holding tree n
-unfolding holding
-over-same tree n spans1 e =
-    let rest : drop (length (laid entrySpans tree)) spans1 ≡ drop (length (laid entrySpans tree)) (n .spans) = rw (spans-length tree) e in
-    rw rest
-
 -- ---- from what the checks ensure
 number-nought : Number (singles .nought)
 unfolding isNan
@@ -191,14 +183,13 @@ module _ {s : Settings} {logs : List Float} {counts : List ℕ} {x : Flat} {n : 
   room-count : HasRoom count n
   room-count = room-fewer (c .room) (omega arith)
 
-  pub orderable : Orderable x (n .words) (n .values) (n .spans) counts rows count
+  pub orderable : Orderable x (n .words) (n .values) counts rows count
   orderable = record {
     shaped = c .fitting .shaped;
     few = c .fitting .few;
     counted = c .counted;
     sound = sound-tree count n room-count (c .sound);
     values-there = room-count .values;
-    spans-there = room-count .spans;
     space = c .space;
     zeros = c .fitting .zeros;
   }
@@ -213,24 +204,23 @@ module _ {s : Settings} {logs : List Float} {counts : List ℕ} {x : Flat} {n : 
       let two = tree-count nodes (sounds.sound seed (c .sound) .rooted) (omega (arith, seed-fits .0)) in
       omega arith
 
-  module _ {counts1 : List ℕ} {y : Flat} {spans1 : List ℕ} (same : counts1 ≡ counts)
-      (by : OrderedBy (numbersIn count (n .words) (n .values) (heldIn x)) count x y (n .spans) spans1) where
+  module _ {counts1 : List ℕ} {y : Flat} {words1 : List ℕ} (same : counts1 ≡ counts)
+      (by : OrderedBy (numbersIn count (n .words) (n .values) (heldIn x)) count x y (n .words) words1) where
     abbrev n1 : NodeLists
-    n1 = nodeLists (n .words) (n .values) (n .costs) spans1
+    n1 = nodeLists words1 (n .values) (n .costs)
 
     abbrev scored : Bool
     scored = ltb ((count + 1) / 2) limit
 
     -- the seed has no use for the spans
     seed-same : seedIn count n1 ≡ seedIn count n
-    unfolding storedNodes
-    seed-same = refl
+    seed-same = unseen.seed-same n words1 (by .spans-are .nodes) (by .spans-are .long) count
 
     room1 : HasRoom count n1
-    room1 = record { words = room-count .words; values = room-count .values; costs = room-count .costs; spans = rw (by .spans-are .long) (room-count .spans) }
+    room1 = unseen.room-still n words1 (by .spans-are .long) count room-count
 
     numbers-same : numbersIn count (n .words) (n .values) (heldIn x) ≡ leafNumbers (nodesOf (seedIn count n1)) (heldIn x)
-    numbers-same = ap (λ (l : List Node). leafNumbers l (heldIn x)) (sym (nodes-in count n1 room1))
+    numbers-same = ap (λ (l : List Node). leafNumbers l (heldIn x)) (sym (ap nodesOf seed-same ∙ nodes-in count n room-count))
 
     fits1 : Fitting s logs counts1 y
     fits1 = subst (λ (l : List ℕ). Fitting s logs l y) (sym same)
@@ -297,7 +287,7 @@ module _ {s : Settings} {logs : List Float} {counts : List ℕ} {x : Flat} {n : 
       -- the spans of the seed are written over
       lists-are : n2 ≡ holding (st .tree) n
       lists-are = done .sown .nodes ∙ ap (λ (w : State singles). holding (w .tree) n1) state-is
-          ∙ over-same (st .tree) n spans1 (rw tree-long (by .spans-are .rest))
+          ∙ unseen.over-same n words1 (st .tree) count (omega (arith, tree-long)) (by .spans-are .rest)
 
       waiting-few : r .waiting + (limit - (count + 1) / 2) ≤ limit
       waiting-few = go scored refl

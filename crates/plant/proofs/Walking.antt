@@ -28,7 +28,7 @@ use Rattle.layout.proofs.Queue.{same-itself, same-queue}
 use Rattle.layout.specs.Layout.{kindAt, propAt, gtAt, leAt, valAt, nodesHeld, nodeAt}
 use Rattle.layout.specs.declared.Tree.{Tree}
 use Rattle.layout.specs.Tree.{NodeLists, HasRoom, holding}
-use Rattle.layout.specs.Waiting.{QueueListsOf, QueueLists, QueueRoom, SameQueue, waitingFrom}
+use Rattle.layout.specs.Waiting.{QueueListsOf, QueueLists, QueueRoom, SameQueue, waitingFrom, wordsPerLeaf}
 use Rattle.layout.proofs.Held.{SameLengths, room-fewer, holding-lengths, holding-room, holding-none}
 use Rattle.lent.specs.Lists.{spanAt}
 use Rattle.order.specs.Order.{firstOf}
@@ -59,7 +59,7 @@ one-if false = refl
 
 pub room-queue : {M : Meter} {k m : ℕ} {q p : QueueListsOf M} → k ≤ m → SameQueue q p → QueueRoom m q → QueueRoom k p
 room-queue h same room = record {
-  words = rw (same .words) (le-trans (mul-le-mul-right 3 h) (room .words));
+  words = rw (same .words) (le-trans (mul-le-mul-right wordsPerLeaf h) (room .words));
   values = rw (same .values) (le-trans h (room .values));
   gains = rw (same .gains) (le-trans h (room .gains));
 }
@@ -139,8 +139,8 @@ module _ {s : Settings} {logs : List Float} {counts : List ℕ} {x : Flat} {n : 
     lists : n' ≡ holding (to i .tree) n
     lists = done .sown .nodes
 
-    span-is : spanAt (n' .spans) i ≡ span (firstOf ks i) (firstOf ks (suc i))
-    span-is = ap (λ (m : NodeLists). spanAt (m .spans) i) lists ∙ span-still (to i .tree) n i here ∙ p .spans i inside
+    span-is : spanAt (n' .words) i ≡ span (firstOf ks i) (firstOf ks (suc i))
+    span-is = ap (λ (m : NodeLists). spanAt (m .words) i) lists ∙ span-still (to i .tree) n i here ∙ p .spans i inside
 
     node-is : nodeAt (n' .words) (n' .values) i ≡ getD nodes i leaf
     node-is = ap (λ (m : NodeLists). nodeAt (m .words) (m .values) i) lists ∙ node-still (to i .tree) n i here ∙ sym (node-in count n (p .room) i inside)

@@ -86,15 +86,15 @@ pub record NodeFits (s : Settings) (logs : List Float) (counts : List ℕ) (x : 
     (scored : Bool) : Type 0 where
   pub fitting : Fitting s logs counts x
   pub logs-small : LogsWithin (rowCount x) logs
-  pub spanned : Spanned (spanAt (n .spans) (tree .nodes)) x
+  pub spanned : Spanned (spanAt (n .words) (tree .nodes)) x
   pub room : HasRoom (tree .nodes + 1) n
   pub few : tree .nodes < maxNodes
   pub queue-room : scored ≡ true → eqb (kindAt (n .words) (tree .nodes)) 1 ≡ false → QueueRoom (tree .waiting + 1) q
 
 -- node i is the next of the state, and its span holds the rows `mine`; a split has none
 pub record NextIs {M : Meter} (n : NodeListsOf M) (i : ℕ) (lent : NodeListsOf M) (st : State M) (mine : List Row) : Type 0 where
-  pub first : spanAt (n .spans) i .first ≡ length (st .rows)
-  pub end : spanAt (n .spans) i .end ≡ length (st .rows) + length mine
+  pub first : spanAt (n .words) i .first ≡ length (st .rows)
+  pub end : spanAt (n .words) i .end ≡ length (st .rows) + length mine
   pub bare : eqb (kindAt (n .words) i) 1 ≡ true → mine ≡ []
   pub room : HasRoom (i + 1) lent
 
@@ -113,7 +113,7 @@ pub record NodePlanted (s : Settings) (logs : List Float) (counts counts' : List
 
 -- ---- all nodes
 
--- the rows stand in the order of the seed's leaves, whose spans stand in the span list; they were given in another order
+-- the rows stand in the order of the seed's leaves, whose spans stand beside them; they were given in another order
 pub record Plants (s : Settings) (logs : List Float) (counts : List ℕ) (x : Flat) (n : NodeLists) (q : QueueLists) (count : ℕ) (scored : Bool)
     (given : List Row) : Type 0 where
   pub fitting : Fitting s logs counts x
@@ -122,7 +122,7 @@ pub record Plants (s : Settings) (logs : List Float) (counts : List ℕ) (x : Fl
   pub sound : faultOf (seedIn count n) ≡ none
   pub rows : heldIn x ≡ orderedBy (leafNumbers (nodesOf (seedIn count n)) given) count given
   pub many : length given ≡ rowCount x
-  pub spans : (i : ℕ) → i < count → spanAt (n .spans) i ≡ span (firstOf (leafNumbers (nodesOf (seedIn count n)) given) i)
+  pub spans : (i : ℕ) → i < count → spanAt (n .words) i ≡ span (firstOf (leafNumbers (nodesOf (seedIn count n)) given) i)
       (firstOf (leafNumbers (nodesOf (seedIn count n)) given) (suc i))
   pub queue-room : scored ≡ true → QueueRoom (leafCount (nodesOf (seedIn count n))) q
 

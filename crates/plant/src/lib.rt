@@ -1,17 +1,18 @@
-// A seed planted for growth (document 01, "Deepening"; the Rust's `deepen_ma_tree` before `grow_tree`): its leaves with rows evaluated at their depth, and
-// what stands beside its nodes.
+// A seed planted for growth (document 01, "Deepening"; the Rust's `deepen_ma_tree` before `grow_tree`): its leaves with
+// rows evaluated at their depth, and what stands beside its nodes.
 ghost use mathlib.Core.Path.{_≡_};
 ghost use mathlib.Core.List.{List};
 ghost use Rattle.model.specs.Rows.{Row};
-ghost use Rattle.layout.specs.Tree.{nodeLists};
-ghost use Rattle.layout.specs.Waiting.{queueLists};
+ghost use Rattle.layout.specs.Tree.{nodesNow};
+ghost use Rattle.layout.specs.Waiting.{queueNow};
 ghost use Rattle.rows.specs.Flat.{flat};
 ghost use Rattle.plant.specs.Sown.{LeafReady, LeafPlanted, NodeFits, NodePlanted, Plants, Plantable, PlantedTo};
 ghost use Rattle.plant.specs.Seeded.{Seedable, Seeded};
 use checks::Settings;
 use layout::Tree;
 
-// The next node, a leaf with rows: it takes its mode and is evaluated at its depth. Its cost is added, and it waits if it offers a split.
+// The next node, a leaf with rows: it takes its mode and is evaluated at its depth. Its cost is added, and it waits if
+// it offers a split.
 fn plant_leaf(
     props: &[i32],
     tok: &mut [u8],
@@ -19,7 +20,6 @@ fn plant_leaf(
     words: &mut [u32],
     values: &mut [i32],
     costs: &mut [f32],
-    spans: &mut [u32],
     queue_words: &mut [u32],
     queue_values: &mut [i32],
     queue_gains: &mut [f32],
@@ -32,14 +32,16 @@ fn plant_leaf(
     score_split: bool,
     tree: Tree,
 ) -> Tree
-    requires { ⌜ LeafReady s (now logs) (now counts) (flat (now props) (now tok) (now res)) (nodeLists (now words) (now values) (now costs) (now spans))
-        (queueLists (now «queue_words») (now «queue_values») (now «queue_gains»)) tree first end «score_split» ⌝ }
+    requires { ⌜ LeafReady s (now logs) (now counts) (flat (now props) (now tok) (now res))
+        (nodesNow words values costs) (queueNow «queue_words» «queue_values» «queue_gains»)
+        tree first end «score_split» ⌝ }
     ensures { λ r. ⌜ LeafPlanted s (now (logs .entry)) (now (counts .entry)) (now (counts .exit))
-        (flat (now (props .entry)) (now (tok .entry)) (now (res .entry))) (flat (now (props .entry)) (now (tok .exit)) (now (res .entry)))
-        (nodeLists (now (words .entry)) (now (values .entry)) (now (costs .entry)) (now (spans .entry)))
-        (nodeLists (now (words .exit)) (now (values .exit)) (now (costs .exit)) (now (spans .exit)))
-        (queueLists (now («queue_words» .entry)) (now («queue_values» .entry)) (now («queue_gains» .entry)))
-        (queueLists (now («queue_words» .exit)) (now («queue_values» .exit)) (now («queue_gains» .exit)))
+        (flat (now (props .entry)) (now (tok .entry)) (now (res .entry)))
+        (flat (now (props .entry)) (now (tok .exit)) (now (res .entry)))
+        (nodesNow (words .entry) (values .entry) (costs .entry))
+        (nodesNow (words .exit) (values .exit) (costs .exit))
+        (queueNow («queue_words» .entry) («queue_values» .entry) («queue_gains» .entry))
+        (queueNow («queue_words» .exit) («queue_values» .exit) («queue_gains» .exit))
         tree r first end depth «score_split» ⌝ }
 {
     let leaf = leaf::make_leaf(
@@ -56,7 +58,7 @@ fn plant_leaf(
     );
     let info = leaf.info;
     let offer = leaf.offer;
-    layout::put_leaf(words, values, costs, spans, tree.nodes, info, first, end);
+    layout::put_leaf(words, values, costs, tree.nodes, info, first, end);
     let waiting = queue::enqueue(
         queue_words,
         queue_values,
@@ -74,7 +76,7 @@ fn plant_leaf(
     }
 }
 
-// The next node of the seed, whose span already stands in the span list.
+// The next node of the seed, whose span already stands beside it.
 fn plant_node(
     props: &[i32],
     tok: &mut [u8],
@@ -82,7 +84,6 @@ fn plant_node(
     words: &mut [u32],
     values: &mut [i32],
     costs: &mut [f32],
-    spans: &mut [u32],
     queue_words: &mut [u32],
     queue_values: &mut [i32],
     queue_gains: &mut [f32],
@@ -93,22 +94,23 @@ fn plant_node(
     score_split: bool,
     tree: Tree,
 ) -> Tree
-    requires { ⌜ NodeFits s (now logs) (now counts) (flat (now props) (now tok) (now res)) (nodeLists (now words) (now values) (now costs) (now spans))
-        (queueLists (now «queue_words») (now «queue_values») (now «queue_gains»)) tree «score_split» ⌝ }
+    requires { ⌜ NodeFits s (now logs) (now counts) (flat (now props) (now tok) (now res))
+        (nodesNow words values costs) (queueNow «queue_words» «queue_values» «queue_gains») tree «score_split» ⌝ }
     ensures { λ r. ⌜ NodePlanted s (now (logs .entry)) (now (counts .entry)) (now (counts .exit))
-        (flat (now (props .entry)) (now (tok .entry)) (now (res .entry))) (flat (now (props .entry)) (now (tok .exit)) (now (res .entry)))
-        (nodeLists (now (words .entry)) (now (values .entry)) (now (costs .entry)) (now (spans .entry)))
-        (nodeLists (now (words .exit)) (now (values .exit)) (now (costs .exit)) (now (spans .exit)))
-        (queueLists (now («queue_words» .entry)) (now («queue_values» .entry)) (now («queue_gains» .entry)))
-        (queueLists (now («queue_words» .exit)) (now («queue_values» .exit)) (now («queue_gains» .exit)))
+        (flat (now (props .entry)) (now (tok .entry)) (now (res .entry)))
+        (flat (now (props .entry)) (now (tok .exit)) (now (res .entry)))
+        (nodesNow (words .entry) (values .entry) (costs .entry))
+        (nodesNow (words .exit) (values .exit) (costs .exit))
+        (queueNow («queue_words» .entry) («queue_values» .entry) («queue_gains» .entry))
+        (queueNow («queue_words» .exit) («queue_values» .exit) («queue_gains» .exit))
         tree r depth «score_split» ⌝ }
 {
     let i = tree.nodes;
-    let span = layout::span_at(spans, i);
+    let span = layout::span_at(words, i);
     let first = span.first as usize;
     let end = span.end as usize;
     if (layout::kind_at(words, i) == 1) | (first == end) {
-        layout::keep_node(words, values, costs, spans, i);
+        layout::keep_node(words, values, costs, i);
         return Tree {
             nodes: i + 1,
             waiting: tree.waiting,
@@ -122,7 +124,6 @@ fn plant_node(
         words,
         values,
         costs,
-        spans,
         queue_words,
         queue_values,
         queue_gains,
@@ -137,7 +138,7 @@ fn plant_node(
     )
 }
 
-// The seed's nodes in ascending order. The rows stand in the order of its leaves, and each node's span in the span list.
+// The seed's nodes in ascending order. The rows stand in the order of its leaves, and each node's span beside it.
 fn plant_nodes(
     props: &[i32],
     tok: &mut [u8],
@@ -145,7 +146,6 @@ fn plant_nodes(
     words: &mut [u32],
     values: &mut [i32],
     costs: &mut [f32],
-    spans: &mut [u32],
     queue_words: &mut [u32],
     queue_values: &mut [i32],
     queue_gains: &mut [f32],
@@ -155,18 +155,21 @@ fn plant_nodes(
     count: usize,
     score_split: bool,
 ) -> Tree
-    requires { ⌜ Plantable s (now logs) (now counts) (flat (now props) (now tok) (now res)) (nodeLists (now words) (now values) (now costs) (now spans))
-        (queueLists (now «queue_words») (now «queue_values») (now «queue_gains»)) count «score_split» ⌝ }
+    requires { ⌜ Plantable s (now logs) (now counts) (flat (now props) (now tok) (now res))
+        (nodesNow words values costs) (queueNow «queue_words» «queue_values» «queue_gains») count «score_split» ⌝ }
     ensures { λ r. ⌜ ((given : List Row)
-        → Plants s (now (logs .entry)) (now (counts .entry)) (flat (now (props .entry)) (now (tok .entry)) (now (res .entry)))
-        (nodeLists (now (words .entry)) (now (values .entry)) (now (costs .entry)) (now (spans .entry)))
-        (queueLists (now («queue_words» .entry)) (now («queue_values» .entry)) (now («queue_gains» .entry))) count «score_split» given
+        → Plants s (now (logs .entry)) (now (counts .entry))
+        (flat (now (props .entry)) (now (tok .entry)) (now (res .entry)))
+        (nodesNow (words .entry) (values .entry) (costs .entry))
+        (queueNow («queue_words» .entry) («queue_values» .entry) («queue_gains» .entry))
+        count «score_split» given
         → PlantedTo s (now (logs .entry)) (now (counts .entry)) (now (counts .exit))
-        (flat (now (props .entry)) (now (tok .entry)) (now (res .entry))) (flat (now (props .entry)) (now (tok .exit)) (now (res .entry)))
-        (nodeLists (now (words .entry)) (now (values .entry)) (now (costs .entry)) (now (spans .entry)))
-        (nodeLists (now (words .exit)) (now (values .exit)) (now (costs .exit)) (now (spans .exit)))
-        (queueLists (now («queue_words» .entry)) (now («queue_values» .entry)) (now («queue_gains» .entry)))
-        (queueLists (now («queue_words» .exit)) (now («queue_values» .exit)) (now («queue_gains» .exit)))
+        (flat (now (props .entry)) (now (tok .entry)) (now (res .entry)))
+        (flat (now (props .entry)) (now (tok .exit)) (now (res .entry)))
+        (nodesNow (words .entry) (values .entry) (costs .entry))
+        (nodesNow (words .exit) (values .exit) (costs .exit))
+        (queueNow («queue_words» .entry) («queue_values» .entry) («queue_gains» .entry))
+        (queueNow («queue_words» .exit) («queue_values» .exit) («queue_gains» .exit))
         r count count «score_split» given) ⌝ }
 {
     let mut depths = [0u32; layout::MAX_NODES];
@@ -186,7 +189,6 @@ fn plant_nodes(
             words,
             values,
             costs,
-            spans,
             queue_words,
             queue_values,
             queue_gains,
@@ -201,8 +203,8 @@ fn plant_nodes(
     tree
 }
 
-// The seed of `count` nodes, planted. Every node but the first is one of a split's two children, so there is one leaf more than splits.
-// Leaves are scored only if more are wanted.
+// The seed of `count` nodes, planted. Every node but the first is one of a split's two children, so there is one leaf
+// more than splits. Leaves are scored only if more are wanted.
 pub fn plant_seed(
     props: &mut [i32],
     tok: &mut [u8],
@@ -210,7 +212,6 @@ pub fn plant_seed(
     words: &mut [u32],
     values: &mut [i32],
     costs: &mut [f32],
-    spans: &mut [u32],
     queue_words: &mut [u32],
     queue_values: &mut [i32],
     queue_gains: &mut [f32],
@@ -220,20 +221,21 @@ pub fn plant_seed(
     rows: usize,
     count: usize,
 ) -> Tree
-    requires { ⌜ Seedable s (now logs) (now counts) (flat (now props) (now tok) (now res)) (nodeLists (now words) (now values) (now costs) (now spans))
-        (queueLists (now «queue_words») (now «queue_values») (now «queue_gains»)) rows count ⌝ }
+    requires { ⌜ Seedable s (now logs) (now counts) (flat (now props) (now tok) (now res))
+        (nodesNow words values costs) (queueNow «queue_words» «queue_values» «queue_gains») rows count ⌝ }
     ensures { λ r. ⌜ Seeded s (now (logs .entry)) (now (counts .exit))
-        (flat (now (props .entry)) (now (tok .entry)) (now (res .entry))) (flat (now (props .exit)) (now (tok .exit)) (now (res .exit)))
-        (nodeLists (now (words .entry)) (now (values .entry)) (now (costs .entry)) (now (spans .entry)))
-        (nodeLists (now (words .exit)) (now (values .exit)) (now (costs .exit)) (now (spans .exit)))
-        (queueLists (now («queue_words» .entry)) (now («queue_values» .entry)) (now («queue_gains» .entry)))
-        (queueLists (now («queue_words» .exit)) (now («queue_values» .exit)) (now («queue_gains» .exit)))
+        (flat (now (props .entry)) (now (tok .entry)) (now (res .entry)))
+        (flat (now (props .exit)) (now (tok .exit)) (now (res .exit)))
+        (nodesNow (words .entry) (values .entry) (costs .entry))
+        (nodesNow (words .exit) (values .exit) (costs .exit))
+        (queueNow («queue_words» .entry) («queue_values» .entry) («queue_gains» .entry))
+        (queueNow («queue_words» .exit) («queue_values» .exit) («queue_gains» .exit))
         count r ⌝ }
     ensures { λ _. ⌜ now (counts .exit) ≡ now (counts .entry) ⌝ }
 {
     let leaves = (count + 1) / 2;
     let score_split = leaves < s.max_leaves as usize;
-    seed::order_by_leaf(props, tok, res, words, values, spans, counts, rows, count);
+    seed::order_by_leaf(props, tok, res, words, values, counts, rows, count);
     plant_nodes(
         props,
         tok,
@@ -241,7 +243,6 @@ pub fn plant_seed(
         words,
         values,
         costs,
-        spans,
         queue_words,
         queue_values,
         queue_gains,

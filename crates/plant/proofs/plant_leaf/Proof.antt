@@ -8,13 +8,13 @@ use Rattle.plant.proofs.plant_leaf.Tie as tie
 
 -- ---- from each call back to the one before it
 abbrev entry : tie.After-make-leaf → tie.Start
-entry c = c .before .before .before .before .before .before .before .before .before .before .before
+entry c = c .before .before .before .before .before .before .before .before .before .before
 
 abbrev making : tie.After-put-leaf → tie.After-make-leaf
-making c = c .before .before .before .before .before .before .before .before .before .before
+making c = c .before .before .before .before .before .before .before .before .before
 
 abbrev putting : tie.After-enqueue → tie.After-put-leaf
-putting c = c .before .before .before .before .before .before .before .before .before .before .before
+putting c = c .before .before .before .before .before .before .before .before .before
 
 make-leaf-requires : tie.Need-make-leaf-requires
 make-leaf-requires c κs = search needs
@@ -24,7 +24,7 @@ put-leaf-requires c κs = search needs
 
 enqueue-requires : tie.Need-enqueue-requires
 enqueue-requires c κs =
-    let made = making (c .before .before .before .before .before .before .before .before .before .before) in
+    let made = making (c .before .before .before .before .before .before .before .before) in
     (entry made .pre .few, offer-room (made .make-leaf .ensures .0) (entry made .pre .queue-room))
 
 float-to-float-bits : tie.Need-float-to-float-bits
@@ -33,16 +33,16 @@ float-to-float-bits c =
     made-widens (made .make-leaf .ensures .0) (entry made .pre .fitting) (entry made .pre .spanned)
 
 abbrev after-make-leaf : tie.After-struct-known3 → tie.After-make-leaf
-after-make-leaf c = c .before .before .before .before .before .before .before .before .before .before .before .before .before .before .before .before .before .before .before .before .before .before .before .before .before .before .before .before .before
+after-make-leaf c = c .before .before .before .before .before .before .before .before .before .before .before .before .before .before .before .before .before .before .before .before .before .before .before .before .before .before
 
-add-t44 : tie.Need-add-t44
-add-t44 c = record { fits = omega (arith, entry (after-make-leaf c) .pre .few) }
+add-t41 : tie.Need-add-t41
+add-t41 c = record { fits = omega (arith, entry (after-make-leaf c) .pre .few) }
 
 same-length : tie.Need-same-length
 same-length c = after-make-leaf c .make-leaf .kept .1 .0
 
 abbrev after-put-leaf : tie.After-struct-known3 → tie.After-put-leaf
-after-put-leaf c = c .before .before .before .before .before .before .before .before .before .before .before .before .before .before .before .before .before .before .before
+after-put-leaf c = c .before .before .before .before .before .before .before .before .before .before .before .before .before .before .before .before .before
 
 same-length-2 : tie.Need-same-length-2
 same-length-2 c = after-put-leaf c .put-leaf .kept .0
@@ -53,23 +53,20 @@ same-length-3 c = after-put-leaf c .put-leaf .kept .1 .0
 same-length-4 : tie.Need-same-length-4
 same-length-4 c = after-put-leaf c .put-leaf .kept .1 .1 .0
 
-same-length-5 : tie.Need-same-length-5
-same-length-5 c = after-put-leaf c .put-leaf .kept .1 .1 .1 .0
-
 abbrev after-enqueue : tie.After-struct-known3 → tie.After-enqueue
 after-enqueue c = c .before .before .before .before .before .before .before .before
 
+same-length-5 : tie.Need-same-length-5
+same-length-5 c = after-enqueue c .enqueue .kept .0
+
 same-length-6 : tie.Need-same-length-6
-same-length-6 c = after-enqueue c .enqueue .kept .0
+same-length-6 c = after-enqueue c .enqueue .kept .1 .0
 
 same-length-7 : tie.Need-same-length-7
-same-length-7 c = after-enqueue c .enqueue .kept .1 .0
+same-length-7 c = after-enqueue c .enqueue .kept .1 .1 .0
 
 same-length-8 : tie.Need-same-length-8
-same-length-8 c = after-enqueue c .enqueue .kept .1 .1 .0
-
-same-length-9 : tie.Need-same-length-9
-same-length-9 c = after-make-leaf c .make-leaf .kept .1 .1 .1 .1 .1 .1 .1 .1 .1 .0
+same-length-8 c = after-make-leaf c .make-leaf .kept .1 .1 .1 .1 .1 .1 .1 .1 .1 .0
 
 returns : tie.Need-returns
 returns c =
@@ -95,7 +92,7 @@ plant-leaf-spec =
     put-leaf-requires
     enqueue-requires
     float-to-float-bits
-    add-t44
+    add-t41
     same-length
     same-length-2
     same-length-3
@@ -104,5 +101,4 @@ plant-leaf-spec =
     same-length-6
     same-length-7
     same-length-8
-    same-length-9
     returns)

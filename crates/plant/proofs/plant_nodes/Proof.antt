@@ -15,39 +15,39 @@ use Rattle.plant.proofs.plant_nodes.Statement.{statement}
 use Rattle.plant.proofs.plant_nodes.Tie as tie
 
 abbrev Inv-loop : tie.InvT-loop
-Inv-loop props tok₀ res words₀ values₀ costs₀ spans₀ queue-words₀ queue-values₀ queue-gains₀ counts₀ logs s count score-split depths tree₀ tok words values costs spans queue-words queue-values queue-gains counts tree =
-    Walked s logs counts₀ counts (flat props tok₀ res) (flat props tok res) (nodeLists words₀ values₀ costs₀ spans₀) (nodeLists words values costs spans)
+Inv-loop props tok₀ res words₀ values₀ costs₀ queue-words₀ queue-values₀ queue-gains₀ counts₀ logs s count score-split depths tree₀ tok words values costs queue-words queue-values queue-gains counts tree =
+    Walked s logs counts₀ counts (flat props tok₀ res) (flat props tok res) (nodeLists words₀ values₀ costs₀) (nodeLists words values costs)
     (queueLists queue-words₀ queue-values₀ queue-gains₀) (queueLists queue-words queue-values queue-gains) tree count score-split depths
 
 abbrev μ-loop : tie.MeasureT-loop
-μ-loop props tok₀ res words₀ values₀ costs₀ spans₀ queue-words₀ queue-values₀ queue-gains₀ counts₀ logs s count score-split depths tree₀ tok words values costs spans queue-words queue-values queue-gains counts tree =
+μ-loop props tok₀ res words₀ values₀ costs₀ queue-words₀ queue-values₀ queue-gains₀ counts₀ logs s count score-split depths tree₀ tok words values costs queue-words queue-values queue-gains counts tree =
     count - tree .nodes
 
 -- ---- from the loop back to the entry, from its test to the loop, from the call to the test, and from the turn's end to the call
 abbrev entry : tie.At-loop Inv-loop μ-loop → tie.Start Inv-loop μ-loop
-entry c = c .before .before .before .before .before .before .before .before .before .before .before .before .before
+entry c = c .before .before .before .before .before .before .before .before .before .before .before .before
 
 abbrev loop : tie.Then1 Inv-loop μ-loop → tie.At-loop Inv-loop μ-loop
 loop c = c .before .before
 
-abbrev test : tie.After-plant-node-arg9 Inv-loop μ-loop → tie.Then1 Inv-loop μ-loop
-test c = c .before .before .before .before .before .before .before .before .before
+abbrev test : tie.After-plant-node-arg8 Inv-loop μ-loop → tie.Then1 Inv-loop μ-loop
+test c = c .before .before .before .before .before .before .before .before
 
-abbrev call : tie.After-slice-known14 Inv-loop μ-loop → tie.After-plant-node Inv-loop μ-loop
-call c = c .before .before .before .before .before .before .before .before .before .before .before .before .before .before .before .before
+abbrev call : tie.After-slice-known12 Inv-loop μ-loop → tie.After-plant-node Inv-loop μ-loop
+call c = c .before .before .before .before .before .before .before .before .before .before .before .before .before .before
 
 slice-aggregate-seed-depths : tie.Need-slice-aggregate-seed-depths Inv-loop μ-loop
 slice-aggregate-seed-depths c = search needs
 
 seed-depths-requires : tie.Need-seed-depths-requires Inv-loop μ-loop
 seed-depths-requires c κs =
-    let start = c .before .before .before .before .before .before .before .before .before .before in
+    let start = c .before .before .before .before .before .before .before .before .before in
     record { sound = walk-sound (start .pre .plants); zeros = refl }
 
 loop-holds : tie.Need-loop-holds Inv-loop μ-loop
 unfolding ofBits
 loop-holds c =
-    let start = c .before .before .before .before .before .before .before .before .before .before .before .before in
+    let start = c .before .before .before .before .before .before .before .before .before .before .before in
     record {
       inside = omega arith;
       deep = depths-deep (start .pre .plants) _ (c .before .seed-depths .ensures);
@@ -94,19 +94,16 @@ same-length-4 : tie.Need-same-length-4 Inv-loop μ-loop
 same-length-4 c = walked-lists (entry (c .before .before) .pre .plants) (c .before .before .loop .inv) .costs
 
 same-length-5 : tie.Need-same-length-5 Inv-loop μ-loop
-same-length-5 c = walked-lists (entry (c .before .before) .pre .plants) (c .before .before .loop .inv) .spans
+same-length-5 c = walked-queue (entry (c .before .before) .pre .plants) (c .before .before .loop .inv) .words
 
 same-length-6 : tie.Need-same-length-6 Inv-loop μ-loop
-same-length-6 c = walked-queue (entry (c .before .before) .pre .plants) (c .before .before .loop .inv) .words
+same-length-6 c = walked-queue (entry (c .before .before) .pre .plants) (c .before .before .loop .inv) .values
 
 same-length-7 : tie.Need-same-length-7 Inv-loop μ-loop
-same-length-7 c = walked-queue (entry (c .before .before) .pre .plants) (c .before .before .loop .inv) .values
+same-length-7 c = walked-queue (entry (c .before .before) .pre .plants) (c .before .before .loop .inv) .gains
 
 same-length-8 : tie.Need-same-length-8 Inv-loop μ-loop
-same-length-8 c = walked-queue (entry (c .before .before) .pre .plants) (c .before .before .loop .inv) .gains
-
-same-length-9 : tie.Need-same-length-9 Inv-loop μ-loop
-same-length-9 c = ap length (walked-zeros (entry (c .before .before) .pre .plants) (c .before .before .loop .inv))
+same-length-8 c = ap length (walked-zeros (entry (c .before .before) .pre .plants) (c .before .before .loop .inv))
 
 returns : tie.Need-returns Inv-loop μ-loop
 returns c given p =
@@ -115,8 +112,8 @@ returns c given p =
     let e : here .tree .nodes ≡ start .count = omega (arith, here .inv .inside, c .if1 .left) in
     subst (λ (k : ℕ). PlantedTo (start .s) (start .logs .now) (start .counts .now) (here .counts)
     (flat (start .props .now) (start .tok .now) (start .res .now)) (flat (start .props .now) (here .tok) (start .res .now))
-    (nodeLists (start .words .now) (start .values .now) (start .costs .now) (start .spans .now))
-    (nodeLists (here .words) (here .values) (here .costs) (here .spans))
+    (nodeLists (start .words .now) (start .values .now) (start .costs .now))
+    (nodeLists (here .words) (here .values) (here .costs))
     (queueLists (start .queue-words .now) (start .queue-values .now) (start .queue-gains .now))
     (queueLists (here .queue-words) (here .queue-values) (here .queue-gains))
     (here .tree) (start .count) k (start .score-split) given) e (here .inv .planted given p)
@@ -143,5 +140,4 @@ plant-nodes-spec =
     same-length-6
     same-length-7
     same-length-8
-    same-length-9
     returns)

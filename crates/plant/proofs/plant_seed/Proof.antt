@@ -8,11 +8,11 @@ use Rattle.plant.proofs.plant_seed.Tie as tie
 
 -- ---- from each call back to the one before it
 abbrev entry : tie.After-order-by-leaf → tie.Start
-entry c = c .before .before .before .before .before .before .before .before .before .before .before .before .before .before .before .before .before
+entry c = c .before .before .before .before .before .before .before .before .before .before .before .before .before .before .before
 
-abbrev ordering : tie.After-plant-nodes-arg11 → tie.After-order-by-leaf
+abbrev ordering : tie.After-plant-nodes-arg10 → tie.After-order-by-leaf
 ordering c =
-    c .before .before .before .before .before .before .before .before .before .before .before .before .before .before .before .before .before .before .before
+    c .before .before .before .before .before .before .before .before .before .before .before .before .before .before .before .before .before .before
 
 add-leaves : tie.Need-add-leaves
 add-leaves c = search needs
@@ -22,7 +22,7 @@ cast-score-split c = search needs
 
 order-by-leaf-requires : tie.Need-order-by-leaf-requires
 order-by-leaf-requires c κs =
-    let start = c .before .before .before .before .before .before .before .before .before .before .before .before .before .before .before .before in
+    let start = c .before .before .before .before .before .before .before .before .before .before .before .before .before .before in
     orderable (start .pre)
 
 plant-nodes-requires : tie.Need-plant-nodes-requires
@@ -30,14 +30,14 @@ plant-nodes-requires c κs =
     let ordered = ordering c .order-by-leaf .ensures in
     plantable (entry (ordering c) .pre) (ordered .1) (ordered .0)
 
-abbrev after-order-by-leaf : tie.After-slice-known17 → tie.After-order-by-leaf
-after-order-by-leaf c = c .before .before .before .before .before .before .before .before .before .before .before .before .before .before .before .before .before .before .before .before .before .before .before .before .before .before .before .before .before .before .before .before .before .before .before .before
+abbrev after-order-by-leaf : tie.After-slice-known15 → tie.After-order-by-leaf
+after-order-by-leaf c = c .before .before .before .before .before .before .before .before .before .before .before .before .before .before .before .before .before .before .before .before .before .before .before .before .before .before .before .before .before .before .before .before .before
 
 same-length : tie.Need-same-length
 same-length c = after-order-by-leaf c .order-by-leaf .kept .0
 
-abbrev after-plant-nodes : tie.After-slice-known17 → tie.After-plant-nodes
-after-plant-nodes c = c .before .before .before .before .before .before .before .before .before .before .before .before .before .before .before .before
+abbrev after-plant-nodes : tie.After-slice-known15 → tie.After-plant-nodes
+after-plant-nodes c = c .before .before .before .before .before .before .before .before .before .before .before .before .before .before
 
 same-length-2 : tie.Need-same-length-2
 same-length-2 c = after-plant-nodes c .plant-nodes .kept .1 .0 ∙ after-order-by-leaf c .order-by-leaf .kept .1 .0
@@ -46,7 +46,7 @@ same-length-3 : tie.Need-same-length-3
 same-length-3 c = after-order-by-leaf c .order-by-leaf .kept .1 .1 .0
 
 same-length-4 : tie.Need-same-length-4
-same-length-4 c = after-plant-nodes c .plant-nodes .kept .1 .1 .1 .0
+same-length-4 c = after-plant-nodes c .plant-nodes .kept .1 .1 .1 .0 ∙ after-order-by-leaf c .order-by-leaf .kept .1 .1 .1 .0
 
 same-length-5 : tie.Need-same-length-5
 same-length-5 c = after-plant-nodes c .plant-nodes .kept .1 .1 .1 .1 .0
@@ -55,7 +55,7 @@ same-length-6 : tie.Need-same-length-6
 same-length-6 c = after-plant-nodes c .plant-nodes .kept .1 .1 .1 .1 .1 .0
 
 same-length-7 : tie.Need-same-length-7
-same-length-7 c = after-plant-nodes c .plant-nodes .kept .1 .1 .1 .1 .1 .1 .0 ∙ after-order-by-leaf c .order-by-leaf .kept .1 .1 .1 .1 .1 .0
+same-length-7 c = after-plant-nodes c .plant-nodes .kept .1 .1 .1 .1 .1 .1 .0
 
 same-length-8 : tie.Need-same-length-8
 same-length-8 c = after-plant-nodes c .plant-nodes .kept .1 .1 .1 .1 .1 .1 .1 .0
@@ -64,14 +64,11 @@ same-length-9 : tie.Need-same-length-9
 same-length-9 c = after-plant-nodes c .plant-nodes .kept .1 .1 .1 .1 .1 .1 .1 .1 .0
 
 same-length-10 : tie.Need-same-length-10
-same-length-10 c = after-plant-nodes c .plant-nodes .kept .1 .1 .1 .1 .1 .1 .1 .1 .1 .0
-
-same-length-11 : tie.Need-same-length-11
-same-length-11 c = after-plant-nodes c .plant-nodes .kept .1 .1 .1 .1 .1 .1 .1 .1 .1 .1 .0 ∙ after-order-by-leaf c .order-by-leaf .kept .1 .1 .1 .1 .1 .1 .0
+same-length-10 c = after-plant-nodes c .plant-nodes .kept .1 .1 .1 .1 .1 .1 .1 .1 .1 .0 ∙ after-order-by-leaf c .order-by-leaf .kept .1 .1 .1 .1 .1 .0
 
 returns : tie.Need-returns
 returns c =
-    let done = c .before .before .before .before .before .before .before .before .before .before .before .before .before .before .before .before in
+    let done = c .before .before .before .before .before .before .before .before .before .before .before .before .before .before in
     let start = entry (ordering (done .before)) in
     let ordered = ordering (done .before) .order-by-leaf .ensures in
     let given = rowsHeld (start .args .props .now) (start .args .tok .now) (start .args .res .now) in
@@ -96,5 +93,4 @@ plant-seed-spec =
     same-length-8
     same-length-9
     same-length-10
-    same-length-11
     returns)
