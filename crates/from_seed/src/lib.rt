@@ -1,5 +1,5 @@
-// From a sound seed to the finished tree (document 01, "Deepening"; the Rust's `deepen_ma_tree` from the seed on): its leaves planted, then growth, pruning and settling
-// as in learning.
+// From a sound seed to the finished tree (document 01, "Deepening"; the Rust's `deepen_ma_tree` from the seed on): its
+// leaves planted, then growth, pruning and settling as in learning.
 ghost use mathlib.Core.Path.{_≡_};
 ghost use Prim.Native.Nat.{_+_, _-_, _/_, _≤_};
 ghost use Rattle.model.specs.Settings.{maxNodes};
@@ -42,12 +42,12 @@ pub fn grow_from_seed(
     count: usize,
     flat_bits: f64,
 ) -> Finished
-    requires { ⌜ Seedable s (now logs) (now counts) (flat (now props) (now tok) (now res)) (nodesNow words values costs)
-        (queueNow «queue_words» «queue_values» «queue_gains») rows count ⌝ }
+    requires { ⌜ Seedable s (now logs) (now counts) (flat (now props) (now tok) (now res))
+        (nodesNow words values costs) (queueNow «queue_words» «queue_values» «queue_gains») rows count ⌝ }
     requires { ⌜ «flat_bits» ≡ flatBits (settingsOf s) (now logs) (heldIn (flat (now props) (now tok) (now res))) ⌝ }
-    ensures { λ r. ⌜ FinishedTo (flat (now (props .entry)) (now (tok .entry)) (now (res .entry))) (flat (now (props .exit)) (now (tok .exit)) (now (res .exit)))
-        (nodesNow (words .exit) (values .exit) (costs .exit)) r
-        (nodesNow (words .entry) (values .entry) (costs .entry))
+    ensures { λ r. ⌜ FinishedTo (flat (now (props .entry)) (now (tok .entry)) (now (res .entry)))
+        (flat (now (props .exit)) (now (tok .exit)) (now (res .exit)))
+        (nodesNow (words .exit) (values .exit) (costs .exit)) r (nodesNow (words .entry) (values .entry) (costs .entry))
         (deepenedIn s (now (logs .entry)) count (flat (now (props .entry)) (now (tok .entry)) (now (res .entry)))
         (nodesNow (words .entry) (values .entry) (costs .entry))) ⌝ }
     ensures { λ _. ⌜ now (counts .exit) ≡ now (counts .entry) ⌝ }
