@@ -31,11 +31,6 @@ pub const MAX_WORDS: usize = MAX_NODES * NODE_WORDS;
 
 pub const MAX_VALUES: usize = MAX_NODES * NODE_VALUES;
 
-// Properties of a row, and predictors.
-pub const NUM_MA_PROPS: usize = 24;
-
-pub const NUM_MA_PREDS: u32 = 14;
-
 // A node's place in the node list. A leaf's context is another type (crate `contexts`), so that a context never indexes the node list.
 pub struct NodeNumber(pub u32);
 

@@ -49,10 +49,10 @@ fn is_orderly(words: &[u32], count: u32, node: NodeNumber) -> bool
         let prop = layout::prop_of(words, node) as usize;
         let gt = layout::gt_of(words, node);
         let le = layout::le_of(words, node);
-        return (prop < layout::NUM_MA_PROPS)
+        return (prop < model::NUM_MA_PROPS)
             & (((i < gt) & (i < le)) & ((gt < count) & (le < count)));
     }
-    layout::pred_of(words, node) < layout::NUM_MA_PREDS
+    (layout::pred_of(words, node) as usize) < model::NUM_MA_PREDS
 }
 
 // One step down from a split: a property above the value leads to gt, else to le.
@@ -91,8 +91,8 @@ pub fn leaf_numbers(words: &[u32], values: &[i32], count: u32, props: &[i32], nu
 {
     let rows = number.len();
     for row in 0..rows {
-        let at = row * layout::NUM_MA_PROPS;
-        let end = at + layout::NUM_MA_PROPS;
+        let at = row * model::NUM_MA_PROPS;
+        let end = at + model::NUM_MA_PROPS;
         let leaf = leaf_reached(words, values, count, &props[at..end]);
         number[row] = leaf.0;
     }

@@ -54,7 +54,7 @@ fn refuse(number: u32, node: NodeNumber) -> Way
 pub fn begin(room: usize, count: u32, props: &[i32]) -> Way
     ensures { λ r. ⌜ r ≡ begun room count (now (props .entry)) ⌝ }
 {
-    if props.len() != layout::NUM_MA_PROPS {
+    if props.len() != model::NUM_MA_PROPS {
         return refuse(9, NodeNumber(0));
     }
     if (count == 0) | (room < count as usize) {
@@ -69,7 +69,7 @@ fn end_at(m: MaNode, node: NodeNumber) -> Way
     ensures { λ r. ⌜ ((count : ℕ) (ps : List ℤ) → r ≡ stepped m (node .0) count ps) ⌝ }
 {
     let info = m.info;
-    if layout::NUM_MA_PREDS <= info.pred {
+    if model::NUM_MA_PREDS <= info.pred as usize {
         return refuse(8, node);
     }
     Way {
@@ -95,7 +95,7 @@ fn follow(m: MaNode, node: NodeNumber, count: u32, props: &[i32]) -> Way
     let prop = m.prop as usize;
     let gt = m.gt;
     let le = m.le;
-    if !((prop < layout::NUM_MA_PROPS) & (((i < gt) & (i < le)) & ((gt < count) & (le < count)))) {
+    if !((prop < model::NUM_MA_PROPS) & (((i < gt) & (i < le)) & ((gt < count) & (le < count)))) {
         return refuse(8, node);
     }
     if m.val < props[prop] {

@@ -27,6 +27,9 @@ returns c values =
 pred-of-requires : tie.Need-pred-of-requires
 pred-of-requires c κs = search needs
 
+cast-result : tie.Need-cast-result
+cast-result c = search needs
+
 returns-2 : tie.Need-returns-2
 returns-2 c values = rw (sym (c .before .before .is-split .ensures) ∙ c .before .if1 .left, c .pred-of .ensures)
 
@@ -41,4 +44,5 @@ is-orderly-spec =
     le-of-requires
     returns
     pred-of-requires
+    cast-result
     returns-2)
