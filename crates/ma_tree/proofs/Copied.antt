@@ -1,11 +1,11 @@
 -- Records copied to number lists that are long enough: the lists hold the records, and stay as long. Assumes nothing.
 use mathlib.Core.Path.{_∙_}
-use Prim.Native.Nat.{ℕ, _≤_, _<_, _^_}
-use native.Mathlib.Nat.{min-le-right, lt-of-le-of-lt}
+use Prim.Native.Nat.{ℕ, _≤_, _<_, _^_, min}
+use mathlib.Core.Bool.{Bool, true, false}
+use native.Mathlib.Nat.{min-le-left, min-le-right, lt-of-le-of-lt}
 use native.Mathlib.Omega.{arith}
 use mathlib.Core.List.{List}
 use lib.Dec.{lit<}
-use lib.ListN.{length}
 use lib.IntN.{ℤ}
 use lib.Ieee.{Float}
 use Rattle.model.specs.Settings.{maxNodes}
@@ -15,21 +15,30 @@ use Rattle.layout.specs.declared.MaNode.{MaNode}
 use Rattle.records.proofs.Copies.{length-words, length-values, length-costs, read-back}
 use Rattle.numbers.specs.Numbers.{copied, Arrays, Numbered}
 
+-- no more records are copied than there are, and than the largest tree has
+pub copied-there : (seeded : Bool) (count room : ℕ) → copied seeded count room ≤ room
+copied-there true count room = omega (arith, min-le-right count (min room maxNodes), min-le-left room maxNodes)
+copied-there false count room = omega arith
+
+pub copied-most : (seeded : Bool) (count room : ℕ) → copied seeded count room ≤ maxNodes
+copied-most true count room = omega (arith, min-le-right count (min room maxNodes), min-le-right room maxNodes)
+copied-most false count room = omega arith
+
 -- as few fit every count
-pub copied-fits : (room : ℕ) → copied room < 2 ^ 64
-copied-fits room = lt-of-le-of-lt (min-le-right room maxNodes) (lit< tt)
+pub most-fits : {n : ℕ} → n ≤ maxNodes → n < 2 ^ 64
+most-fits most = lt-of-le-of-lt most (lit< tt)
 
 module _ {words : List ℕ} {values : List ℤ} {costs : List Float} (long : Arrays words values costs) where
   pub has-places : {n : ℕ} → n ≤ maxNodes → HasNodes n words values costs
   has-places h = record { words-there = omega (arith, h, long .words-long); values-there = omega (arith, h, long .values-long); costs-there = omega (arith, h, long .costs-long) }
 
-  module _ (nodes : List MaNode) where
-    pub copied-long : (n : ℕ) → Arrays (wordsFrom nodes n words) (valuesFrom nodes n values) (costsFrom nodes n costs)
-    copied-long n = record {
+  module _ (nodes : List MaNode) (n : ℕ) where
+    pub copied-long : Arrays (wordsFrom nodes n words) (valuesFrom nodes n values) (costsFrom nodes n costs)
+    copied-long = record {
       words-long = length-words nodes n words ∙ long .words-long;
       values-long = length-values nodes n values ∙ long .values-long;
       costs-long = length-costs nodes n costs ∙ long .costs-long;
     }
 
-    pub numbered : Numbered nodes (wordsFrom nodes (copied (length nodes)) words) (valuesFrom nodes (copied (length nodes)) values) (costsFrom nodes (copied (length nodes)) costs)
-    numbered = record { each = read-back nodes (copied (length nodes)) words values costs (has-places (min-le-right (length nodes) maxNodes)) }
+    pub numbered : n ≤ maxNodes → Numbered n nodes (wordsFrom nodes n words) (valuesFrom nodes n values) (costsFrom nodes n costs)
+    numbered most = record { each = read-back nodes n words values costs (has-places most) }

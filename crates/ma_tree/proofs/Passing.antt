@@ -1,4 +1,4 @@
--- The call of `work` of which `ostrovuc_learn` and `ostrovuc_deepen` consist: the node list and the eight lists are passed on for good, so that afterwards only what `work` says of them
+-- The call of `work` of which `ostrovuc_learn` and `ostrovuc_deepen` consist: nodes, spans and the seven number lists are passed on for good, so that afterwards only what `work` says of them
 -- is had. Assumes `Given`.
 use mathlib.Core.Path.{refl}
 use mathlib.Core.Bool.{Bool}
@@ -36,7 +36,9 @@ use Rattle.checks.specs.declared.Settings.{Settings}
 use Rattle.checks.proofs.Settings as S
 use Rattle.checks.proofs.Settings.Laws as S′
 use Rattle.layout.specs.declared.MaNode.{MaNode}
+use Rattle.layout.specs.declared.Span.{Span}
 use Rattle.layout.proofs.MaNode as N
+use Rattle.layout.proofs.Span as P
 use Rattle.records.proofs.Rows.{Lists, Spots, Names, Mutss, refs, valued, same}
 use Rattle.answers.specs.declared.LearnedTree.{LearnedTree}
 use Rattle.numbers.specs.Lists as R
@@ -45,31 +47,34 @@ use Rattle.answers.proofs.LearnedTree as L
 use Rattle.answers.proofs.LearnedTree.Laws as L′
 use Rattle.ma_tree.proofs.work as work
 
--- the eight lists' element types
+-- the number lists' element types
 abbrev pub Es : List RattleType
-Es = i32 ∷ u8 ∷ i32 ∷ u32 ∷ u32 ∷ i32 ∷ f32 ∷ u32 ∷ []
+Es = i32 ∷ u8 ∷ i32 ∷ u32 ∷ i32 ∷ f32 ∷ u32 ∷ []
 
--- the node list and the eight lists as one value
-abbrev pub listed : List MaNode → Lists Es → R.Lists
-listed ms zs =
-    lists (flat (zs .0) (zs .1 .0) (zs .1 .1 .0)) ms (zs .1 .1 .1 .0) (queueLists (zs .1 .1 .1 .1 .0) (zs .1 .1 .1 .1 .1 .0) (zs .1 .1 .1 .1 .1 .1 .0)) (zs .1 .1 .1 .1 .1 .1 .1 .0)
+-- all that is lent as one value
+abbrev pub listed : List MaNode → List Span → Lists Es → R.Lists
+listed ms ss zs =
+    lists (flat (zs .0) (zs .1 .0) (zs .1 .1 .0)) ms ss (queueLists (zs .1 .1 .1 .0) (zs .1 .1 .1 .1 .0) (zs .1 .1 .1 .1 .1 .0)) (zs .1 .1 .1 .1 .1 .1 .0)
 
 abbrev pub Work : {M : Type 1} (𝓤 : URA M) (H : Heap 𝓤) (A : Atoms 𝓤) (mem : Memory → SProp 𝓤) (run : Routine → Fun 𝓤) → Contract 𝓤
 Work 𝓤 H A mem run = tripleOf 𝓤 H A work.signature (work.spec 𝓤 H A mem run)
 
-module _ (κ κ′ : Lft) (x : RefT (List MaNode)) (s : Settings) (seeded : Bool) (count : ℕ) (logs : RefT (List Float)) (ps : Spots Es) (δs : Names Es) (ys : Lists Es) where
+module _ (κ κ′ : Lft) (x : RefT (List MaNode)) (y : RefT (List Span)) (s : Settings) (seeded : Bool) (count : ℕ) (logs : RefT (List Float)) (ps : Spots Es) (δs : Names Es) (ys : Lists Es) where
   abbrev handed : Args work.signature (κ, (κ′, tt))
-  handed = (x, (s, (seeded, (count, (logs, refs Es (same Es κ′) ps δs ys)))))
+  handed = (x, (y, (s, (seeded, (count, (logs, refs Es (same Es κ′) ps δs ys))))))
 
   abbrev spelled : Vals work.signature (κ, (κ′, tt))
-  spelled = (slice-vals x, (LL.vals S.the-type S′.the-laws s, (bool-vals seeded, (uint-vals w32 count, (slice-vals logs, valued Es (same Es κ′) ps ys)))))
+  spelled = (slice-vals x, (slice-vals y, (LL.vals S.the-type S′.the-laws s, (bool-vals seeded, (uint-vals w32 count, (slice-vals logs, valued Es (same Es κ′) ps ys))))))
 
-  -- what the records own; and logs and the lists
+  -- what the records own; the spans; and logs and the lists
   abbrev Nodes : Fml
   Nodes = MutSlice (named 0) κ N.the-row .own x (spelled .0)
 
+  abbrev Spans : Fml
+  Spans = MutSlice (named 0) κ P.the-row .own y (spelled .1 .0)
+
   abbrev Nums : Fml
-  Nums = owns (ShrSlice (named 1) κ′ f32 ∷ Mutss Es (same Es κ′)) (handed .1 .1 .1 .1) (spelled .1 .1 .1 .1)
+  Nums = owns (ShrSlice (named 1) κ′ f32 ∷ Mutss Es (same Es κ′)) (handed .1 .1 .1 .1 .1) (spelled .1 .1 .1 .1 .1)
 
   -- what `work` says of the last lists and of its answer
   abbrev pub Last : Type 0
@@ -79,7 +84,7 @@ module _ (κ κ′ : Lft) (x : RefT (List MaNode)) (s : Settings) (seeded : Bool
   last = lasts work.ended (κ, (κ′, tt)) handed
 
   abbrev pub Done : LearnedTree → Last → Type 0
-  Done r ws = Worked (settingsOf s) (logs .now) seeded count (listed (x .now) ys) (listed (ws .0) (ws .1 .1 .1 .1 .1)) r
+  Done r ws = Worked (settingsOf s) (logs .now) seeded count (listed (x .now) (y .now) ys) (listed (ws .0) (ws .1 .0) (ws .1 .1 .1 .1 .1 .1)) r
 
   module _ {M : Type 1} (𝓤 : URA M) (H : Heap 𝓤) (A : Atoms 𝓤) (mem : Memory → SProp 𝓤) (run : Routine → Fun 𝓤) (q q′ : Share) where
     abbrev pub to-work : Work 𝓤 H A mem run .Ghost
@@ -89,11 +94,11 @@ module _ (κ κ′ : Lft) (x : RefT (List MaNode)) (s : Settings) (seeded : Bool
     Alive = ‵ (flft κ q) ⊛ (‵ (flft κ′ q′) ⊛ ‵ ftrue)
 
     -- before the call
-    pub asks-work : (W : Given 𝓤 H A) → Is S.the-row s (LL.vals S.the-type S′.the-laws s) → count < 2 ^ 32 → ent 𝓤 (⋆ 𝓤 H A (Alive ∷ ‵ Nodes ∷ ‵ Nums ∷ [])) (Work 𝓤 H A mem run .pre to-work)
+    pub asks-work : (W : Given 𝓤 H A) → Is S.the-row s (LL.vals S.the-type S′.the-laws s) → count < 2 ^ 32 → ent 𝓤 (⋆ 𝓤 H A (Alive ∷ ‵ Nodes ∷ ‵ Spans ∷ ‵ Nums ∷ [])) (Work 𝓤 H A mem run .pre to-work)
     asks-work W is small =
-        qed W (Alive ∷ ‵ Nodes ∷ ‵ Nums ∷ []) ∵ move ! (2 ∷ []) $ owned ! u32 (Is u32) (uint-makes 𝓤 H A W w32) count _ (refl, small) $ fjoin ! $
+        qed W (Alive ∷ ‵ Nodes ∷ ‵ Spans ∷ ‵ Nums ∷ []) ∵ move ! (3 ∷ []) $ owned ! u32 (Is u32) (uint-makes 𝓤 H A W w32) count _ (refl, small) $ fjoin ! $
         owned ! bool (Is bool) (bool-makes 𝓤 H A W) seeded _ refl $ fjoin ! $ owned ! S.the-row (Is S.the-row) (LL.makes S.the-type S′.the-plain 𝓤 H A) s _ is $ fjoin ! $
-        move ! (2 ∷ 0 ∷ []) $ fjoin ! $ move ! (1 ∷ 0 ∷ []) $ join ! $ frame ! $ nothing ! $ done !
+        move ! (3 ∷ 0 ∷ []) $ fjoin ! $ move ! (2 ∷ 0 ∷ []) $ fjoin ! $ move ! (1 ∷ 0 ∷ []) $ join ! $ frame ! $ nothing ! $ done !
 
     -- after it
     pub comes-work : {K : Type 0} {W : Given 𝓤 H A} {Γ : List (Item 𝓤)} {G : Goal 𝓤 H} → K → Soaks G → (w : Val)

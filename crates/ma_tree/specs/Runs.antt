@@ -12,11 +12,12 @@ use Rattle.model.specs.declared.Encoded.{Encoded}
 use Rattle.model.specs.Profile.{single}
 use Rattle.model.specs.Operations.{ContextLists, learn, deepen, lookup, leafContexts, sample, tokenAnswer}
 use Rattle.rows.specs.Flat.{flat}
-use Rattle.layout.specs.Waiting.{queueLists}
+use Rattle.layout.specs.Waiting.{queueNow}
 use Rattle.checks.specs.Given.{settingsOf}
 use Rattle.checks.specs.declared.Settings.{Settings}
 use Rattle.layout.specs.Records.{storedOf}
 use Rattle.layout.specs.declared.MaNode.{MaNode}
+use Rattle.layout.specs.declared.Span.{Span}
 use Rattle.answers.specs.Answers.{valueIn, foundIn, countIn, treeIn}
 use Rattle.answers.specs.declared.Count.{Count}
 use Rattle.answers.specs.declared.Leaf.{Leaf}
@@ -25,10 +26,10 @@ use Rattle.answers.specs.declared.Read.{Read}
 use Rattle.numbers.specs.Lists.{Lists, lists, lentIn, learnRecords, deepenRecords}
 
 -- what the lists lent to learning or deepening hold, in the order of the parameters; and those lent to contexts
-abbrev pub listsNow : RefT (List MaNode) → RefT (List ℤ) → RefT (List ℕ) → RefT (List ℤ) → RefT (List ℕ)
+abbrev pub listsNow : RefT (List MaNode) → RefT (List Span) → RefT (List ℤ) → RefT (List ℕ) → RefT (List ℤ)
     → RefT (List ℕ) → RefT (List ℤ) → RefT (List Float) → RefT (List ℕ) → Lists
-listsNow nodes props tok res spans words values gains counts =
-    lists (flat (now props) (now tok) (now res)) (now nodes) (now spans) (queueLists (now words) (now values) (now gains)) (now counts)
+listsNow nodes spans props tok res words values gains counts =
+    lists (flat (now props) (now tok) (now res)) (now nodes) (now spans) (queueNow words values gains) (now counts)
 
 abbrev pub contextsNow : RefT (List ℕ) → RefT (List ℕ) → ContextLists
 contextsNow contexts queue = record { contexts = now contexts; queue = now queue }
@@ -37,7 +38,7 @@ contextsNow contexts queue = record { contexts = now contexts; queue = now queue
 pub record Learning (s : Settings) (logs : List Float) (x : Lists) (r : LearnedTree) (y : Lists) : Type 0 where
   pub answers : r ≡ treeIn (learn single (settingsOf s) logs (lentIn x) .outcome)
   pub leaves : lentIn y ≡ learn single (settingsOf s) logs (lentIn x) .lent
-  -- the same, every record and every number, also those that belong to no whole entry
+  -- the same, every record and every number, also those that belong to no whole waiting leaf
   pub leaves-whole : y ≡ learnRecords (settingsOf s) logs x .lent
 
 -- the seed is the first `count` nodes

@@ -1,8 +1,9 @@
-// The public interface, for C, Rust and Rattle: each operation of document 01, with its node list as one lent slice of records. Whatever is handed in, the answer is
-// document 01's, and a refusal changes no list. A slice crosses over to C as two arguments, pointer and length.
+// The public interface, for C, Rust and Rattle: each operation of document 01, with nodes and spans as lent
+// slices of records. Whatever is handed in, the answer is document 01's, and a refusal changes no list. A slice
+// crosses over to C as two arguments, pointer and length.
 //
-// A function that sees the slice of records is walked by hand, so it does little: it copies records to the core's number lists (crate `numbers`)
-// and back, or reads one record after another (crate `ways`).
+// A function that sees a slice of records is walked by hand, so it does little: it copies records to the core's
+// number lists (crate `numbers`) and back, or reads one record after another (crate `ways`).
 ghost use mathlib.Core.Path.{_≡_};
 ghost use mathlib.Core.List.{map};
 ghost use Rattle.model.specs.Pack.{packed};
@@ -19,6 +20,7 @@ use answers::LearnedTree;
 use answers::Read;
 use checks::Settings;
 use layout::MaNode;
+use layout::Span;
 use model::Encoded;
 
 // ---- packing, tokens, even sampling
@@ -57,9 +59,11 @@ pub extern "C" fn ostrovuc_evenly_sampled_indices(
 
 // ---- learning and deepening
 
-// Copies the records to number lists, works there, and copies them back.
+// Copies the seed's records to number lists, works there, and writes the records and spans out. The spans at
+// entry are not looked at.
 fn work<'n, 'a>(
     nodes: &'n mut [MaNode],
+    spans: &'n mut [Span],
     s: Settings,
     seeded: bool,
     count: u32,
@@ -67,27 +71,27 @@ fn work<'n, 'a>(
     props: &'a mut [i32],
     tok: &'a mut [u8],
     res: &'a mut [i32],
-    spans: &'a mut [u32],
     queue_words: &'a mut [u32],
     queue_values: &'a mut [i32],
     queue_gains: &'a mut [f32],
     counts: &'a mut [u32],
 ) -> LearnedTree
-    ensures { λ r. ⌜ Worked (settingsOf s) (now (logs .entry)) seeded count
-        (listsNow (nodes .entry) (props .entry) (tok .entry) (res .entry) (spans .entry)
-        («queue_words» .entry) («queue_values» .entry) («queue_gains» .entry) (counts .entry))
-        (listsNow (nodes .exit) (props .exit) (tok .exit) (res .exit) (spans .exit)
-        («queue_words» .exit) («queue_values» .exit) («queue_gains» .exit) (counts .exit)) r ⌝ }
+    ensures { λ r. ⌜ (let x = listsNow (nodes .entry) (spans .entry) (props .entry) (tok .entry) (res .entry)
+        («queue_words» .entry) («queue_values» .entry) («queue_gains» .entry) (counts .entry) in
+        let y = listsNow (nodes .exit) (spans .exit) (props .exit) (tok .exit) (res .exit)
+        («queue_words» .exit) («queue_values» .exit) («queue_gains» .exit) (counts .exit) in
+        Worked (settingsOf s) (now (logs .entry)) seeded count x y r) ⌝ }
 {
     let mut words = [0u32; layout::MAX_WORDS];
     let mut values = [0i32; layout::MAX_VALUES];
     let mut costs = [0f32; layout::MAX_NODES];
-    let room = nodes.len();
-    let n = numbers::to_copy(room);
+    let node_room = nodes.len();
+    let span_room = spans.len();
+    let n = numbers::to_copy(node_room, seeded, count);
     records::from_records(nodes, n, &mut words[..], &mut values[..], &mut costs[..]);
-    let tree = numbers::work_on(
-        room,
-        n,
+    let done = numbers::work_on(
+        node_room,
+        span_room,
         s,
         seeded,
         count,
@@ -98,39 +102,41 @@ fn work<'n, 'a>(
         props,
         tok,
         res,
-        spans,
         queue_words,
         queue_values,
         queue_gains,
         counts,
     );
-    records::to_records(nodes, n, &words[..], &values[..], &costs[..]);
-    tree
+    let written = done.written;
+    records::to_records(nodes, written, &words[..], &values[..], &costs[..]);
+    records::to_spans(spans, written, &words[..]);
+    done.tree
 }
 
 // Learns a tree from the rows into the node list.
 #[no_mangle]
 pub extern "C" fn ostrovuc_learn<'n, 'a>(
     nodes: &'n mut [MaNode],
+    spans: &'n mut [Span],
     s: Settings,
     logs: &'a [f32],
     props: &'a mut [i32],
     tok: &'a mut [u8],
     res: &'a mut [i32],
-    spans: &'a mut [u32],
     queue_words: &'a mut [u32],
     queue_values: &'a mut [i32],
     queue_gains: &'a mut [f32],
     counts: &'a mut [u32],
 ) -> LearnedTree
-    ensures { λ r. ⌜ Learning s (now (logs .entry))
-        (listsNow (nodes .entry) (props .entry) (tok .entry) (res .entry) (spans .entry)
-        («queue_words» .entry) («queue_values» .entry) («queue_gains» .entry) (counts .entry)) r
-        (listsNow (nodes .exit) (props .exit) (tok .exit) (res .exit) (spans .exit)
-        («queue_words» .exit) («queue_values» .exit) («queue_gains» .exit) (counts .exit)) ⌝ }
+    ensures { λ r. ⌜ (let x = listsNow (nodes .entry) (spans .entry) (props .entry) (tok .entry) (res .entry)
+        («queue_words» .entry) («queue_values» .entry) («queue_gains» .entry) (counts .entry) in
+        let y = listsNow (nodes .exit) (spans .exit) (props .exit) (tok .exit) (res .exit)
+        («queue_words» .exit) («queue_values» .exit) («queue_gains» .exit) (counts .exit) in
+        Learning s (now (logs .entry)) x r y) ⌝ }
 {
     work(
         nodes,
+        spans,
         s,
         false,
         0,
@@ -138,7 +144,6 @@ pub extern "C" fn ostrovuc_learn<'n, 'a>(
         props,
         tok,
         res,
-        spans,
         queue_words,
         queue_values,
         queue_gains,
@@ -150,26 +155,27 @@ pub extern "C" fn ostrovuc_learn<'n, 'a>(
 #[no_mangle]
 pub extern "C" fn ostrovuc_deepen<'n, 'a>(
     nodes: &'n mut [MaNode],
+    spans: &'n mut [Span],
     s: Settings,
     count: u32,
     logs: &'a [f32],
     props: &'a mut [i32],
     tok: &'a mut [u8],
     res: &'a mut [i32],
-    spans: &'a mut [u32],
     queue_words: &'a mut [u32],
     queue_values: &'a mut [i32],
     queue_gains: &'a mut [f32],
     counts: &'a mut [u32],
 ) -> LearnedTree
-    ensures { λ r. ⌜ Deepening s (now (logs .entry)) count
-        (listsNow (nodes .entry) (props .entry) (tok .entry) (res .entry) (spans .entry)
-        («queue_words» .entry) («queue_values» .entry) («queue_gains» .entry) (counts .entry)) r
-        (listsNow (nodes .exit) (props .exit) (tok .exit) (res .exit) (spans .exit)
-        («queue_words» .exit) («queue_values» .exit) («queue_gains» .exit) (counts .exit)) ⌝ }
+    ensures { λ r. ⌜ (let x = listsNow (nodes .entry) (spans .entry) (props .entry) (tok .entry) (res .entry)
+        («queue_words» .entry) («queue_values» .entry) («queue_gains» .entry) (counts .entry) in
+        let y = listsNow (nodes .exit) (spans .exit) (props .exit) (tok .exit) (res .exit)
+        («queue_words» .exit) («queue_values» .exit) («queue_gains» .exit) (counts .exit) in
+        Deepening s (now (logs .entry)) count x r y) ⌝ }
 {
     work(
         nodes,
+        spans,
         s,
         true,
         count,
@@ -177,7 +183,6 @@ pub extern "C" fn ostrovuc_deepen<'n, 'a>(
         props,
         tok,
         res,
-        spans,
         queue_words,
         queue_values,
         queue_gains,
@@ -187,7 +192,8 @@ pub extern "C" fn ostrovuc_deepen<'n, 'a>(
 
 // ---- lookup and contexts
 
-// The leaf that 24 properties lead to in the tree of the first `count` nodes. Only the nodes met on the way are looked at.
+// The leaf that 24 properties lead to in the tree of the first `count` nodes. Only the nodes met on the way are
+// looked at.
 #[no_mangle]
 pub extern "C" fn ostrovuc_lookup<'n, 'a>(nodes: &'n [MaNode], count: u32, props: &'a [i32]) -> Leaf
     ensures { λ r. ⌜ r ≡ foundIn (lookup (map storedOf (now (nodes .entry))) count (now (props .entry))) ⌝ }
@@ -200,7 +206,8 @@ pub extern "C" fn ostrovuc_lookup<'n, 'a>(nodes: &'n [MaNode], count: u32, props
     way.end
 }
 
-// The context of each leaf of the tree of the first `count` nodes, and how many there are. The queue is room for the walk, and holds zeros afterwards.
+// The context of each leaf of the tree of the first `count` nodes, and how many there are. The queue is room
+// for the walk, and holds zeros afterwards.
 #[no_mangle]
 pub extern "C" fn ostrovuc_leaf_contexts<'n, 'a>(
     nodes: &'n [MaNode],
@@ -214,7 +221,7 @@ pub extern "C" fn ostrovuc_leaf_contexts<'n, 'a>(
     let mut words = [0u32; layout::MAX_WORDS];
     let mut values = [0i32; layout::MAX_VALUES];
     let mut costs = [0f32; layout::MAX_NODES];
-    let n = numbers::to_copy(nodes.len());
+    let n = numbers::to_copy(nodes.len(), true, count);
     records::from_records(nodes, n, &mut words[..], &mut values[..], &mut costs[..]);
     numbers::contexts_on(n, count, &words[..], &values[..], contexts, queue)
 }

@@ -1,6 +1,7 @@
 -- `ostrovuc_learn` meets its contract: a walk of its MIR, by hand. All that is lent is passed on to `work` (`Passing.antt`), from which it takes only that it meets its contract.
 -- Assumes nothing.
 use mathlib.Core.Path.{refl}
+use Prim.Native.Nat.{ℕ, _+_, _-_, _*_}
 use mathlib.Core.Bool.{false}
 use mathlib.Core.Option.{some}
 use mathlib.Core.List.{List, [], _∷_}
@@ -37,7 +38,9 @@ use Rattle.checks.specs.declared.Settings.{Settings}
 use Rattle.checks.proofs.Settings as S
 use Rattle.checks.proofs.Settings.Laws as S′
 use Rattle.layout.specs.declared.MaNode.{MaNode}
+use Rattle.layout.specs.declared.Span.{Span}
 use Rattle.layout.proofs.MaNode as N
+use Rattle.layout.proofs.Span as P
 use Rattle.records.proofs.Locals.{States, enters, leaves}
 use Rattle.records.proofs.Rows.{Each, Lists, Spots, Names, Rooms, Mutss, refs, valued, same}
 use Rattle.answers.specs.declared.LearnedTree.{LearnedTree}
@@ -54,18 +57,22 @@ use Rattle.ma_tree.proofs.ostrovuc_learn.Statement as stated
 use Rattle.ma_tree.proofs.ostrovuc_learn.Code as code
 use Rattle.ma_tree.proofs.ostrovuc_learn.Code.Mir as piece
 
+-- where local k stands after p other entries
+abbrev loc : ℕ → ℕ → ℕ
+loc p k = p + 2 * (29 - k)
+
 module _ {M : Type 1} (𝓤 : URA M) (H : Heap 𝓤) (A : Atoms 𝓤) (W : Given 𝓤 H A) (mem : Memory → SProp 𝓤) (run : Routine → Fun 𝓤) (κ κ′ : Lft) (q q′ : Share)
-    (x : RefT (List MaNode)) (s : Settings) (logs : RefT (List Float)) (ps : Spots Es) (δs : Names Es) (ys : Lists Es)
-    (room : Room N.the-row (length (x .now))) (is : Is S.the-row s (LL.vals S.the-type S′.the-laws s)) (logs-room : Room f32 (length (logs .now))) (rooms : Rooms Es ys) where
+    (x : RefT (List MaNode)) (y : RefT (List Span)) (s : Settings) (logs : RefT (List Float)) (ps : Spots Es) (δs : Names Es) (ys : Lists Es)
+    (room : Room N.the-row (length (x .now))) (y-room : Room P.the-row (length (y .now))) (is : Is S.the-row s (LL.vals S.the-type S′.the-laws s)) (logs-room : Room f32 (length (logs .now))) (rooms : Rooms Es ys) where
   -- the parameters' types, values and machine values
   abbrev Ps : List RattleType
-  Ps = MutSlice (named 0) κ N.the-row ∷ S.the-row ∷ ShrSlice (named 1) κ′ f32 ∷ Mutss Es (same Es κ′)
+  Ps = MutSlice (named 0) κ N.the-row ∷ MutSlice (named 0) κ P.the-row ∷ S.the-row ∷ ShrSlice (named 1) κ′ f32 ∷ Mutss Es (same Es κ′)
 
   abbrev a : Denots Ps
-  a = (x, (s, (logs, refs Es (same Es κ′) ps δs ys)))
+  a = (x, (y, (s, (logs, refs Es (same Es κ′) ps δs ys))))
 
   abbrev vals : Vals f.signature (κ, (κ′, tt))
-  vals = (slice-vals x, (LL.vals S.the-type S′.the-laws s, (slice-vals logs, valued Es (same Es κ′) ps ys)))
+  vals = (slice-vals x, (slice-vals y, (LL.vals S.the-type S′.the-laws s, (slice-vals logs, valued Es (same Es κ′) ps ys))))
 
   abbrev Post : Val → SProp 𝓤
   Post = SaidPost 𝓤 H A f.ended (f.clauses 𝓤 H A mem run) (((κ, (κ′, tt)), (q, (q′, tt)), tt, a, vals), tt)
@@ -74,57 +81,62 @@ module _ {M : Type 1} (𝓤 : URA M) (H : Heap 𝓤) (A : Atoms 𝓤) (W : Given
   Alive = ‵ (flft κ q) ⊛ (‵ (flft κ′ q′) ⊛ ‵ ftrue)
 
   -- what is handed to `work`
-  asks : ent 𝓤 (⋆ 𝓤 H A (Alive ∷ ‵ (owns Ps a vals) ∷ [])) (Work 𝓤 H A mem run .pre (to-work κ κ′ x s false 0 logs ps δs ys 𝓤 H A mem run q q′))
+  asks : ent 𝓤 (⋆ 𝓤 H A (Alive ∷ ‵ (owns Ps a vals) ∷ [])) (Work 𝓤 H A mem run .pre (to-work κ κ′ x y s false 0 logs ps δs ys 𝓤 H A mem run q q′))
   asks =
-      qed W (Alive ∷ ‵ (owns Ps a vals) ∷ []) ∵ move ! (1 ∷ []) $ fsplit ! $ move ! (1 ∷ []) $ fsplit ! $ drop ! $ move ! (2 ∷ 1 ∷ 0 ∷ []) $
-      by ! (asks-work κ κ′ x s false 0 logs ps δs ys 𝓤 H A mem run q q′ W is (lit< tt))
+      qed W (Alive ∷ ‵ (owns Ps a vals) ∷ []) ∵ move ! (1 ∷ []) $ fsplit ! $ move ! (1 ∷ []) $ fsplit ! $ move ! (1 ∷ []) $ fsplit ! $ drop ! $ move ! (3 ∷ 2 ∷ 1 ∷ 0 ∷ []) $
+      by ! (asks-work κ κ′ x y s false 0 logs ps δs ys 𝓤 H A mem run q q′ W is (lit< tt))
 
   -- what is left at the exit
-  abbrev Left : Val → LearnedTree → Last κ κ′ x s false 0 logs ps δs ys → List (Item 𝓤)
-  Left w r ws = ‵ (L.the-row .own r (w ∷ [])) ∷ Alive ∷ ‵ (last κ κ′ x s false 0 logs ps δs ys ws) ∷ []
+  abbrev Left : Val → LearnedTree → Last κ κ′ x y s false 0 logs ps δs ys → List (Item 𝓤)
+  Left w r ws = ‵ (L.the-row .own r (w ∷ [])) ∷ Alive ∷ ‵ (last κ κ′ x y s false 0 logs ps δs ys ws) ∷ []
 
-  exits : (w : Val) (r : LearnedTree) (ws : Last κ κ′ x s false 0 logs ps δs ys) → Done κ κ′ x s false 0 logs ps δs ys r ws → ent 𝓤 (⋆ 𝓤 H A (Left w r ws)) (Post w)
+  exits : (w : Val) (r : LearnedTree) (ws : Last κ κ′ x y s false 0 logs ps δs ys) → Done κ κ′ x y s false 0 logs ps δs ys r ws → ent 𝓤 (⋆ 𝓤 H A (Left w r ws)) (Post w)
   exits w r ws e =
       qed W (Left w r ws) ∵
-      suffices ! _ (said-ends 𝓤 H A f.ended (f.clauses 𝓤 H A mem run) W (((κ, (κ′, tt)), (q, (q′, tt)), tt, a, vals), tt) w r (ws .0, (tt, (tt, ws .1 .1 .1 .1 .1)))) $
+      suffices ! _ (said-ends 𝓤 H A f.ended (f.clauses 𝓤 H A mem run) W (((κ, (κ′, tt)), (q, (q′, tt)), tt, a, vals), tt) w r (ws .0, (ws .1 .0, (tt, (tt, ws .1 .1 .1 .1 .1 .1))))) $
       says ! (record { answers = e .answer-read; leaves = e .lent-read; leaves-whole = e .lent }) $ move ! (1 ∷ []) $ frame ! $
-      move ! (1 ∷ []) $ fsplit ! $ move ! (1 ∷ []) $ fsplit ! $ drop ! $ fsplit ! $ drop ! $ move ! (1 ∷ 0 ∷ []) $ fjoin ! $ done !
+      move ! (1 ∷ []) $ fsplit ! $ move ! (1 ∷ []) $ fsplit ! $ move ! (1 ∷ []) $ fsplit ! $ drop ! $ fsplit ! $ drop ! $ move ! (1 ∷ 0 ∷ []) $ fjoin ! $ move ! (1 ∷ 0 ∷ []) $ fjoin ! $ done !
 
   module _ (𝓣 : Tables 𝓤 H) (known : Triple 𝓤 (𝓣 .C #work) (Work 𝓤 H A mem run)) where
     -- what the locals hold at the end
     abbrev held : Val → States
-    held w = some w ∷ some (sliceVal (x .ptr) (length (x .now))) ∷ some (LL.val S.the-type S′.the-laws s) ∷ some (sliceVal (logs .ptr) (length (logs .now)))
-        ∷ slices Es ps ys (again-all (N.the-row ∷ Es) (x .ptr, ps) (x .now, ys) [])
+    held w = some w ∷ some (sliceVal (x .ptr) (length (x .now))) ∷ some (sliceVal (y .ptr) (length (y .now))) ∷ some (LL.val S.the-type S′.the-laws s) ∷ some (sliceVal (logs .ptr) (length (logs .now)))
+        ∷ slices Es ps ys (again-all (N.the-row ∷ P.the-row ∷ Es) (x .ptr, (y .ptr, ps)) (x .now, (y .now, ys)) [])
 
     walk : ent 𝓤 (onEntry 𝓤 H A f.signature (κ, (κ′, tt)) (q, (q′, tt)) a vals) (WpFn 𝓤 H (𝓣 .C) (𝓣 .Λ) code.function (flat Ps vals) Post)
     walk =
         qed W (Alive ∷ ‵ (owns Ps a vals) ∷ []) ∵ enters ! (𝓣 .C) (𝓣 .Λ) code.function (flat Ps vals) _ (λ bs. params1 ! $
-        pass-slice ! 56 (room .0) refl $ pass1 ! (init ! 54 refl (LL.lawful S.the-type S′.the-laws 𝓤 H A W .typed s _ is .0)) $ pass-slice ! 52 (logs-room .0) refl $
-        pass-slice ! 50 (rooms .0 .0) refl $ pass-slice ! 48 (rooms .1 .0 .0) refl $ pass-slice ! 46 (rooms .1 .1 .0 .0) refl $ pass-slice ! 44 (rooms .1 .1 .1 .0 .0) refl $
-        pass-slice ! 42 (rooms .1 .1 .1 .1 .0 .0) refl $ pass-slice ! 40 (rooms .1 .1 .1 .1 .1 .0 .0) refl $ pass-slice ! 38 (rooms .1 .1 .1 .1 .1 .1 .0 .0) refl $
-        pass-slice ! 36 (rooms .1 .1 .1 .1 .1 .1 .1 .0 .0) refl $ pass0 ! $
+        pass-slice ! (loc 0 1) (room .0) refl $ pass-slice ! (loc 0 2) (y-room .0) refl $
+        pass1 ! (init ! (loc 0 3) refl (LL.lawful S.the-type S′.the-laws 𝓤 H A W .typed s _ is .0)) $ pass-slice ! (loc 0 4) (logs-room .0) refl $
+        pass-slice ! (loc 0 5) (rooms .0 .0) refl $ pass-slice ! (loc 0 6) (rooms .1 .0 .0) refl $ pass-slice ! (loc 0 7) (rooms .1 .1 .0 .0) refl $
+        pass-slice ! (loc 0 8) (rooms .1 .1 .1 .0 .0) refl $ pass-slice ! (loc 0 9) (rooms .1 .1 .1 .1 .0 .0) refl $ pass-slice ! (loc 0 10) (rooms .1 .1 .1 .1 .1 .0 .0) refl $
+        pass-slice ! (loc 0 11) (rooms .1 .1 .1 .1 .1 .1 .0 .0) refl $ pass0 ! $
         -- [_29; …; _0; …; the tokens; what the parameters own]
-        again ! 56 34 32 (room .0) refl $ again ! 50 30 28 (rooms .0 .0) refl $ again ! 48 26 24 (rooms .1 .0 .0) refl $ again ! 46 22 20 (rooms .1 .1 .0 .0) refl $
-        again ! 44 18 16 (rooms .1 .1 .1 .0 .0) refl $ again ! 42 14 12 (rooms .1 .1 .1 .1 .0 .0) refl $ again ! 40 10 8 (rooms .1 .1 .1 .1 .1 .0 .0) refl $
-        again ! 38 6 4 (rooms .1 .1 .1 .1 .1 .1 .0 .0) refl $ again ! 36 2 0 (rooms .1 .1 .1 .1 .1 .1 .1 .0 .0) refl $
-        move ! (60 ∷ 61 ∷ []) $ use2 W (raw (Work 𝓤 H A mem run .pre (to-work κ κ′ x s false 0 logs ps δs ys 𝓤 H A mem run q q′))) asks $
-        calls-at ! (fmOf 𝓤 H (W .laws) 𝓣) (Work 𝓤 H A mem run) known (to-work κ κ′ x s false 0 logs ps δs ys 𝓤 H A mem run q q′)
-        (also ! 33 refl (also ! 55 refl (and-then ! (false-lit !) (and-then ! (lit ! tt) (also ! 53 refl (also ! 29 refl (also ! 25 refl (also ! 21 refl (also ! 17 refl (also ! 13 refl
-        (also ! 9 refl (also ! 5 refl (also ! 1 refl (no-more !)))))))))))))) (λ w.
-        comes-work κ κ′ x s false 0 logs ps δs ys 𝓤 H A mem run q q′ ! tt w (λ r ws e typed.
+        again ! (loc 0 1) (loc 0 12) (loc 0 13) (room .0) refl $ again ! (loc 0 2) (loc 0 14) (loc 0 15) (y-room .0) refl $
+        again ! (loc 0 5) (loc 0 16) (loc 0 17) (rooms .0 .0) refl $ again ! (loc 0 6) (loc 0 18) (loc 0 19) (rooms .1 .0 .0) refl $
+        again ! (loc 0 7) (loc 0 20) (loc 0 21) (rooms .1 .1 .0 .0) refl $ again ! (loc 0 8) (loc 0 22) (loc 0 23) (rooms .1 .1 .1 .0 .0) refl $
+        again ! (loc 0 9) (loc 0 24) (loc 0 25) (rooms .1 .1 .1 .1 .0 .0) refl $ again ! (loc 0 10) (loc 0 26) (loc 0 27) (rooms .1 .1 .1 .1 .1 .0 .0) refl $
+        again ! (loc 0 11) (loc 0 28) (loc 0 29) (rooms .1 .1 .1 .1 .1 .1 .0 .0) refl $
+        move ! (60 ∷ 61 ∷ []) $ use2 W (raw (Work 𝓤 H A mem run .pre (to-work κ κ′ x y s false 0 logs ps δs ys 𝓤 H A mem run q q′))) asks $
+        calls-at ! (fmOf 𝓤 H (W .laws) 𝓣) (Work 𝓤 H A mem run) known (to-work κ κ′ x y s false 0 logs ps δs ys 𝓤 H A mem run q q′)
+        (also ! (loc 1 13) refl (also ! (loc 1 15) refl (also ! (loc 1 3) refl (and-then ! (false-lit !) (and-then ! (lit ! tt) (also ! (loc 1 4) refl (also ! (loc 1 17) refl
+        (also ! (loc 1 19) refl (also ! (loc 1 21) refl (also ! (loc 1 23) refl (also ! (loc 1 25) refl (also ! (loc 1 27) refl (also ! (loc 1 29) refl (no-more !)))))))))))))) (λ w.
+        comes-work κ κ′ x y s false 0 logs ps δs ys 𝓤 H A mem run q q′ ! tt w (λ r ws e typed.
         -- [the result; the tokens; the last lists; _29; …; _0; …]
-        land ! (from ! (stop !)) (init ! 61 refl typed) $ returns ! (look ! 61 refl) $ leaves ! (Left w r ws) piece.locals bs (held w) $ by ! (exits w r ws e))))
+        land ! (from ! (stop !)) (init ! (loc 3 0) refl typed) $ returns ! (look ! (loc 3 0) refl) $ leaves ! (Left w r ws) piece.locals bs (held w) $ by ! (exits w r ws e))))
 
 module _ {M : Type 1} (𝓤 : URA M) (H : Heap 𝓤) (A : Atoms 𝓤) (W : Given 𝓤 H A) (mem : Memory → SProp 𝓤) (run : Routine → Fun 𝓤) (𝓣 : Tables 𝓤 H) where
   walks : Triple 𝓤 (𝓣 .C #work) (Work 𝓤 H A mem run) → SaidWalks 𝓤 H A f.ended (f.clauses 𝓤 H A mem run) (WpFn 𝓤 H (𝓣 .C) (𝓣 .Λ) code.function)
   walks known = walked 𝓤 H A f.ended (all-said (f.ended .signature .params) (f.ended .kept)) (f.clauses 𝓤 H A mem run) (WpFn 𝓤 H (𝓣 .C) (𝓣 .Λ) code.function)
-      (λ κs. (slice-vals, (LL.vals S.the-type S′.the-laws, (slice-vals, spells Es (same Es (κs .1 .0))))))
-      (λ κs. (mut-slice-tells (named 0) (κs .0) N.the-row, (LL.tells S.the-type S′.the-laws, (shr-slice-tells (named 1) (κs .1 .0) f32, tells Es (same Es (κs .1 .0))))))
+      (λ κs. (slice-vals, (slice-vals, (LL.vals S.the-type S′.the-laws, (slice-vals, spells Es (same Es (κs .1 .0)))))))
+      (λ κs.
+      let tell = mut-slice-tells (named 0) (κs .0) in
+      (tell N.the-row, (tell P.the-row, (LL.tells S.the-type S′.the-laws, (shr-slice-tells (named 1) (κs .1 .0) f32, tells Es (same Es (κs .1 .0)))))))
       (λ κs qs bounds a g are.
       let l : Each (λ R. Lft) Es = same Es (κs .1 .0) in
-      let lists : Denots (Mutss Es l) = a .1 .1 .1 in
-      unasked 𝓤 _ (walk 𝓤 H A W mem run (κs .0) (κs .1 .0) (qs .0) (qs .1 .0) (a .0) (a .1 .0) (a .1 .1 .0) (spots Es l lists) (names Es l lists) (nows Es l lists)
-      (are .0 .0 .1) (are .1 .0) (are .1 .1 .0 .0 .1) (roomy Es l lists (are .1 .1 .1)) 𝓣 known))
+      let lists : Denots (Mutss Es l) = a .1 .1 .1 .1 in
+      unasked 𝓤 _ (walk 𝓤 H A W mem run (κs .0) (κs .1 .0) (qs .0) (qs .1 .0) (a .0) (a .1 .0) (a .1 .1 .0) (a .1 .1 .1 .0) (spots Es l lists) (names Es l lists) (nows Es l lists)
+      (are .0 .0 .1) (are .1 .0 .0 .1) (are .1 .1 .0) (are .1 .1 .1 .0 .0 .1) (roomy Es l lists (are .1 .1 .1 .1)) 𝓣 known))
 
 pub ostrovuc-learn-spec : {M : Type 1} → stated.statement M
 unfolding code.routine tablesOf
