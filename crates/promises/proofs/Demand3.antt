@@ -1,31 +1,20 @@
 -- Demand 3 of runs of the public operations, from the model's and the operations' contracts. Assumes nothing.
-use mathlib.Core.Path.{_≡_, refl, sym, ap, subst, _∙_}
-use mathlib.Core.Bool.{Bool}
+use mathlib.Core.Path.{_≡_, sym, ap, subst, _∙_}
 use mathlib.Core.List.{List}
 use mathlib.Core.Option.{Option, none, some}
-use Prim.Native.Nat.{ℕ, _*_, _≤_}
+use Prim.Native.Nat.{ℕ}
 use native.Mathlib.Omega.{arith}
-use lib.ListN.{length, getD}
 use lib.IntN.{ℤ}
 use lib.Ieee.{Float}
 use Rattle.model.specs.Settings as model
 use Rattle.model.specs.Single.{singles}
 use Rattle.model.specs.Profile.{single}
-use Rattle.model.specs.Learn.{Result}
 use Rattle.model.specs.Lent.{Lent}
 use Rattle.model.specs.Refuse.{Refusal, learnRefusal, deepenRefusal, lookupRefusal}
 use Rattle.model.specs.Operations.{accepted, After, unless, outcomeOf, Tree, Found, lookup, learn, deepen}
-use Rattle.model.proofs.SingleLawful.{single-lawful}
-use Rattle.model.proofs.Learned.{result-laws}
-use Rattle.model.proofs.Accepted.{learnedFrom, deepenedFrom, learn-accepted, deepen-accepted}
-use Rattle.model.proofs.Demand3.{learned-fits, deepened-fits}
-use Rattle.model.proofs.Places.{length-each}
-use Rattle.model.proofs.AtExit.{Fits}
-use Rattle.model.proofs.Written.{length-written, getD-unwritten}
+use Rattle.model.proofs.Accepted.{learnedFrom, deepenedFrom}
 use Rattle.model.proofs.Promises.{demand3 as model3}
-use Rattle.layout.specs.Tree.{laid}
-use Rattle.layout.proofs.Cells.{laid-length}
-use Rattle.lent.specs.Lists.{spanRows, spanAt, spansLent, storedSpans, clearQueue}
+use Rattle.lent.specs.Lists.{clearQueue}
 use Rattle.checks.specs.Given.{settingsOf}
 use Rattle.checks.specs.declared.Settings.{Settings}
 use Rattle.answers.specs.Answers.{treeIn, foundIn}
@@ -33,7 +22,7 @@ use Rattle.answers.specs.declared.LearnedTree.{LearnedTree}
 use Rattle.answers.specs.declared.Leaf.{Leaf}
 use Rattle.numbers.specs.Lists.{Lists, lentIn, listsAfter, learnRecords, deepenRecords}
 use Rattle.ma_tree.specs.Runs.{Learning, Deepening, LookingUp}
-use Rattle.promises.specs.Demand3.{answered, RestAlike, Demand3}
+use Rattle.promises.specs.Demand3.{answered, Demand3}
 use Rattle.promises.proofs.Numbered.{Numbered, no-nought, learn-numbered, deepen-numbered, lookup-numbered}
 
 -- an accepted answer says that nothing was refused, and what was answered
@@ -69,67 +58,39 @@ found : (x : Lists) (count : ℕ) (ps : List ℤ) (f : Found) → LookingUp (x .
 unfolding lookup lookupRefusal
 found x count ps f run = leaf-told (lookupRefusal (lentIn x .nodes) count ps) _ f (lookup-numbered (lentIn x .nodes) count ps) run
 
--- ---- what belongs to no whole entry
-
--- queue and spans as an accepted run leaves them
-record Rested (x y : Lists) : Type 0 where
-  queue : y .queue ≡ clearQueue (x .queue)
-  long : length (y .spans) ≡ length (x .spans)
-  past : (i : ℕ) → length (lentIn x .spans) * 2 ≤ i → getD (y .spans) i 0 ≡ getD (x .spans) i 0
-
-whole-spans : (l : List ℕ) → length (storedSpans l) * 2 ≤ length l
-unfolding storedSpans
-whole-spans l = let many = length-each (spanAt l) 0 (spansLent l) in omega arith
-
-rested : {uses : Bool} {most : ℕ} (r : Result singles) (x : Lists) → Fits uses (lentIn x) most r → Rested x (listsAfter r x)
-unfolding listsAfter
-rested r x f =
-    let fits : length (r .spans) ≤ length (lentIn x .spans) = omega (arith, f .kept .paired, f .kept .few, f .span-room) in
-    let size = laid-length spanRows 2 (λ s. refl) (r .spans) in
-    let room = whole-spans (x .spans) in
-    record {
-      queue = refl;
-      long = length-written (laid spanRows (r .spans)) (x .spans) (omega arith);
-      past = λ i h. getD-unwritten (laid spanRows (r .spans)) (x .spans) 0 i (omega arith);
-    }
+-- ---- the queue, number by number
 
 -- nothing was refused, so the lists are those after acceptance
 left-as : (o : Option Refusal) (b : Tree singles) (k : Lent singles) (x z : Lists) {a : Tree singles} {y : Lists} → unless o (lentIn x) b k .outcome ≡ accepted a → y ≡ unless o x b z .lent → y ≡ z
 left-as none b k x z e l = l
 left-as (some f) b k x z e l = let no : _≡_ {A = ℕ} 0 1 = cc in absurd (omega arith)
 
-learn-rested : (s : Settings) (logs : List Float) (x y : Lists) (a : Tree singles) → Learning s logs x (answered a) y → Rested x y
-unfolding learn learnRecords
-learn-rested s logs x y a run =
-    let e = learnt s logs x y a run in
-    let p = learn-accepted single (settingsOf s) logs (lentIn x) (lentIn y) a e .0 in
-    let f = learned-fits single single-lawful (result-laws (single-lawful .bounds)) (settingsOf s) logs (lentIn x) p in
-    subst (Rested x) (sym (left-as (learnRefusal single (settingsOf s) logs (lentIn x)) _ _ x _ (ap (λ (w : After (Tree singles) (Lent singles)). w .outcome) e) (run .leaves-whole)))
-    (rested (learnedFrom single (settingsOf s) logs (lentIn x)) x f)
+-- an accepted run leaves zeros in it
+learn-clears : (s : Settings) (logs : List Float) (x y : Lists) (a : Tree singles) → Learning s logs x (answered a) y → y .queue ≡ clearQueue (x .queue)
+unfolding learn learnRecords listsAfter
+learn-clears s logs x y a run =
+    let told = ap (λ (w : After (Tree singles) (Lent singles)). w .outcome) (learnt s logs x y a run) in
+    let r = learnedFrom single (settingsOf s) logs (lentIn x) in
+    ap (λ (l : Lists). l .queue) (left-as (learnRefusal single (settingsOf s) logs (lentIn x)) _ _ x (listsAfter r x) told (run .leaves-whole))
 
-deepen-rested : (s : Settings) (logs : List Float) (count : ℕ) (x y : Lists) (a : Tree singles) → Deepening s logs count x (answered a) y → Rested x y
-unfolding deepen deepenRecords
-deepen-rested s logs count x y a run =
-    let e = deepened s logs count x y a run in
-    let (p, rooms, sound, _, _) = deepen-accepted single (settingsOf s) logs (lentIn x) (lentIn y) count a e in
-    let f = deepened-fits single single-lawful (result-laws (single-lawful .bounds)) (settingsOf s) logs (lentIn x) p count rooms sound in
-    subst (Rested x) (sym (left-as (deepenRefusal single (settingsOf s) logs count (lentIn x)) _ _ x _ (ap (λ (w : After (Tree singles) (Lent singles)). w .outcome) e) (run .leaves-whole)))
-    (rested (deepenedFrom single (settingsOf s) logs count (lentIn x)) x f)
-
-rest-alike : {x y z : Lists} → Rested x y → Rested x z → RestAlike x y z
-rest-alike p q = record { queue = q .queue ∙ sym (p .queue); spans-long = q .long ∙ sym (p .long); spans = λ i h. q .past i h ∙ sym (p .past i h) }
+deepen-clears : (s : Settings) (logs : List Float) (count : ℕ) (x y : Lists) (a : Tree singles) → Deepening s logs count x (answered a) y → y .queue ≡ clearQueue (x .queue)
+unfolding deepen deepenRecords listsAfter
+deepen-clears s logs count x y a run =
+    let told = ap (λ (w : After (Tree singles) (Lent singles)). w .outcome) (deepened s logs count x y a run) in
+    let r = deepenedFrom single (settingsOf s) logs count (lentIn x) in
+    ap (λ (l : Lists). l .queue) (left-as (deepenRefusal single (settingsOf s) logs count (lentIn x)) _ _ x (listsAfter r x) told (run .leaves-whole))
 
 pub demand3 : Demand3
 demand3 = record {
   learn-more = λ s t logs x y z a b unpruned one run next. record {
     entries = model3 .learn-more (settingsOf s) logs (lentIn x) (lentIn y) (lentIn z) (s .«max_leaves») a b unpruned (learnt s logs x y a run)
         (subst (λ (u : model.Settings singles). learn single u logs (lentIn x) ≡ Ran b z) one (learnt t logs x z b next));
-    rest = rest-alike (learn-rested s logs x y a run) (learn-rested t logs x z b next);
+    queue = learn-clears t logs x z b next ∙ sym (learn-clears s logs x y a run);
   };
   deepen-more = λ s t logs count x y z a b unpruned one run next. record {
     entries = model3 .deepen-more (settingsOf s) logs count (lentIn x) (lentIn y) (lentIn z) (s .«max_leaves») a b unpruned (deepened s logs count x y a run)
         (subst (λ (u : model.Settings singles). deepen single u logs count (lentIn x) ≡ Ran b z) one (deepened t logs count x z b next));
-    rest = rest-alike (deepen-rested s logs count x y a run) (deepen-rested t logs count x z b next);
+    queue = deepen-clears t logs count x z b next ∙ sym (deepen-clears s logs count x y a run);
   };
   learn-kept = λ s logs x y a run. model3 .learn-kept (settingsOf s) logs (lentIn x) (lentIn y) a (learnt s logs x y a run);
   deepen-kept = λ s logs count x y a run. model3 .deepen-kept (settingsOf s) logs count (lentIn x) (lentIn y) a (deepened s logs count x y a run);

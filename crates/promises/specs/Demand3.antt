@@ -1,9 +1,8 @@
 -- Demand 3, whole, about runs of the public operations (00-demands; document 01, "Demand 3's words"). `Kept`, `OneMore`, `SpansHold` and `TokensFresh` are the model's
 -- (Promise), field by field; they speak of what the operations answer and of what they leave in the lent lists. Assumes nothing.
-use Prim.Native.Nat.{ℕ, suc, _*_, _≤_}
+use Prim.Native.Nat.{ℕ, suc}
 use mathlib.Core.Path.{_≡_}
 use mathlib.Core.List.{List}
-use lib.ListN.{length, getD}
 use lib.IntN.{ℤ}
 use lib.Ieee.{Float}
 use Rattle.model.specs.Settings as model
@@ -26,17 +25,11 @@ answered a = treeIn (accepted a)
 abbrev pub OneLeafMore : Settings → Settings → Type 0
 OneLeafMore s t = settingsOf t ≡ model.withLimit (suc (s .«max_leaves»)) (settingsOf s)
 
--- What belongs to no whole entry is alike too: the model reads the span list by pairs and the queue by the shortest of its three lists, so the numbers past them are compared here.
--- Of rows, node records and count space the model reads every number
-pub record RestAlike (x y z : Lists) : Type 0 where
-  pub queue : z .queue ≡ y .queue
-  pub spans-long : length (z .spans) ≡ length (y .spans)
-  pub spans : (i : ℕ) → length (lentIn x .spans) * 2 ≤ i → getD (z .spans) i 0 ≡ getD (y .spans) i 0
-
 -- of two accepted unpruned runs over the same lists x that differ only in the limit: answers a and b, and every number of the lists y and z that they leave
 pub record AtMostOneMore (s : Settings) (x : Lists) (a : Tree singles) (y : Lists) (b : Tree singles) (z : Lists) : Type 0 where
   pub entries : OneMoreOrAlike single (settingsOf s) (lentIn x) a (lentIn y) b (lentIn z)
-  pub rest : RestAlike x y z
+  -- of rows, node records, span records and count space the model reads every number; but it reads the queue by the shortest of its three lists, so that all three are compared here
+  pub queue : z .queue ≡ y .queue
 
 pub record Demand3 : Type 0 where
   -- of two accepted unpruned learnings that differ only in the limit: alike in everything, or in everything but one more split

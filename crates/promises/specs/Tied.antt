@@ -17,6 +17,7 @@ use Rattle.checks.specs.declared.Settings.{Settings}
 use Rattle.rows.specs.Flat.{flat}
 use Rattle.layout.specs.Waiting.{queueLists}
 use Rattle.layout.specs.declared.MaNode.{MaNode}
+use Rattle.layout.specs.declared.Span.{Span}
 use Rattle.answers.specs.declared.Count.{Count}
 use Rattle.answers.specs.declared.Leaf.{Leaf}
 use Rattle.answers.specs.declared.LearnedTree.{LearnedTree}
@@ -35,26 +36,28 @@ pub record Says {M : Type 1} (𝓤 : URA M) (T : Ended) (c : Clauses 𝓤 T) (R 
       → _≡_ {A = SProp 𝓤} (c κs a .ensures g r (atExit T κs a ws)) (fact 𝓤 (R κs a r ws))
 
 -- ---- the relation of each operation, over its parameters in their order; a parameter that is not written has no last value
--- rows' three lists, spans, the queue's three lists and the count space
+-- rows' three lists, the queue's three lists and the count space
 abbrev pub NumberRefs : Type 0
-NumberRefs = RefT (List ℤ) × (RefT (List ℕ) × (RefT (List ℤ) × (RefT (List ℕ) × (RefT (List ℕ) × (RefT (List ℤ) × (RefT (List Float) × (RefT (List ℕ) × Unit {0})))))))
+NumberRefs = RefT (List ℤ) × (RefT (List ℕ) × (RefT (List ℤ) × (RefT (List ℕ) × (RefT (List ℤ) × (RefT (List Float) × (RefT (List ℕ) × Unit {0}))))))
 
 abbrev pub NumberLists : Type 0
-NumberLists = List ℤ × (List ℕ × (List ℤ × (List ℕ × (List ℕ × (List ℤ × (List Float × (List ℕ × Unit {0})))))))
+NumberLists = List ℤ × (List ℕ × (List ℤ × (List ℕ × (List ℤ × (List Float × (List ℕ × Unit {0}))))))
 
-abbrev entered : RefT (List MaNode) → NumberRefs → Lists
-entered nodes n =
-    listsNow nodes (n .0) (n .1 .0) (n .1 .1 .0) (n .1 .1 .1 .0) (n .1 .1 .1 .1 .0) (n .1 .1 .1 .1 .1 .0) (n .1 .1 .1 .1 .1 .1 .0) (n .1 .1 .1 .1 .1 .1 .1 .0)
+abbrev entered : RefT (List MaNode) → RefT (List Span) → NumberRefs → Lists
+entered nodes spans n = listsNow nodes spans (n .0) (n .1 .0) (n .1 .1 .0) (n .1 .1 .1 .0) (n .1 .1 .1 .1 .0) (n .1 .1 .1 .1 .1 .0) (n .1 .1 .1 .1 .1 .1 .0)
 
-abbrev left : List MaNode → NumberLists → Lists
-left nodes n =
-    lists (flat (n .0) (n .1 .0) (n .1 .1 .0)) nodes (n .1 .1 .1 .0) (queueLists (n .1 .1 .1 .1 .0) (n .1 .1 .1 .1 .1 .0) (n .1 .1 .1 .1 .1 .1 .0)) (n .1 .1 .1 .1 .1 .1 .1 .0)
+abbrev left : List MaNode → List Span → NumberLists → Lists
+left nodes spans n =
+    lists (flat (n .0) (n .1 .0) (n .1 .1 .0)) nodes spans (queueLists (n .1 .1 .1 .0) (n .1 .1 .1 .1 .0) (n .1 .1 .1 .1 .1 .0)) (n .1 .1 .1 .1 .1 .1 .0)
 
-abbrev pub learningRun : RefT (List MaNode) × (Settings × (RefT (List Float) × NumberRefs)) → LearnedTree → List MaNode × (Unit {0} × (Unit {0} × NumberLists)) → Type 0
-learningRun a r w = Learning (a .1 .0) (a .1 .1 .0 .now) (entered (a .0) (a .1 .1 .1)) r (left (w .0) (w .1 .1 .1))
+abbrev pub learningRun : RefT (List MaNode) × (RefT (List Span) × (Settings × (RefT (List Float) × NumberRefs))) → LearnedTree
+    → List MaNode × (List Span × (Unit {0} × (Unit {0} × NumberLists))) → Type 0
+learningRun a r w = Learning (a .1 .1 .0) (a .1 .1 .1 .0 .now) (entered (a .0) (a .1 .0) (a .1 .1 .1 .1)) r (left (w .0) (w .1 .0) (w .1 .1 .1 .1))
 
-abbrev pub deepeningRun : RefT (List MaNode) × (Settings × (ℕ × (RefT (List Float) × NumberRefs))) → LearnedTree → List MaNode × (Unit {0} × (Unit {0} × (Unit {0} × NumberLists))) → Type 0
-deepeningRun a r w = Deepening (a .1 .0) (a .1 .1 .1 .0 .now) (a .1 .1 .0) (entered (a .0) (a .1 .1 .1 .1)) r (left (w .0) (w .1 .1 .1 .1))
+abbrev pub deepeningRun : RefT (List MaNode) × (RefT (List Span) × (Settings × (ℕ × (RefT (List Float) × NumberRefs)))) → LearnedTree
+    → List MaNode × (List Span × (Unit {0} × (Unit {0} × (Unit {0} × NumberLists)))) → Type 0
+deepeningRun a r w =
+    Deepening (a .1 .1 .0) (a .1 .1 .1 .1 .0 .now) (a .1 .1 .1 .0) (entered (a .0) (a .1 .0) (a .1 .1 .1 .1 .1)) r (left (w .0) (w .1 .0) (w .1 .1 .1 .1 .1))
 
 abbrev pub lookingUpRun : RefT (List MaNode) × (ℕ × (RefT (List ℤ) × Unit {0})) → Leaf → Type 0
 lookingUpRun a r = LookingUp (a .0 .now) (a .1 .0) (a .1 .1 .0 .now) r
