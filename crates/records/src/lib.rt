@@ -1,5 +1,5 @@
-// Node and span records in lent slices, as a caller holds them: nodes go to the core's number lists and come back from them, and spans come from their
-// words. Only the three loops see the slices, and are walked by hand.
+// Node and span records in lent slices, as a caller holds them: nodes go to the core's number lists and come back
+// from them, and spans come from their words. Only the three loops see the slices, and are walked by hand.
 ghost use mathlib.Core.Path.{_≡_};
 ghost use lib.ListN.{length};
 ghost use Prim.Native.Nat.{_≤_};
