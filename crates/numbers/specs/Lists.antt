@@ -1,5 +1,5 @@
--- The lent lists of learning and deepening with their node list of records: what the model's `Lent` reads in them, and what they hold afterwards, record by
--- record and number by number (document 01, "Which number comes back"). Assumes nothing.
+-- The lent lists of learning and deepening with their node and span lists of records: what the model's `Lent` reads in them, and what they hold afterwards,
+-- record by record (document 01, "Which number comes back"). Assumes nothing.
 use mathlib.Core.Path.{_≡_}
 use Prim.Native.Nat.{ℕ}
 use mathlib.Core.Bool.{Bool, cond}
@@ -16,24 +16,24 @@ use Rattle.model.specs.Lent.{Lent, stored, rowsIn, usesModes, treeIn}
 use Rattle.model.specs.Refuse.{learnRefusal, deepenRefusal}
 use Rattle.model.specs.Operations.{After, Tree, treeOf, unless, learn, deepen}
 use Rattle.model.specs.Tree.{Record}
-use Rattle.layout.specs.Tree.{laid}
 use Rattle.layout.specs.Waiting.{QueueLists}
 use Rattle.rows.specs.Flat.{Flat, flatOf, hasResiduals}
-use Rattle.lent.specs.Lists.{spanRows, storedSpans, storedQueue, clearQueue}
-use Rattle.layout.specs.Records.{storedOf, recordOf}
+use Rattle.lent.specs.Lists.{storedQueue, clearQueue}
+use Rattle.layout.specs.Records.{storedOf, recordOf, spanIs, spanRecord}
 use Rattle.layout.specs.declared.MaNode.{MaNode}
+use Rattle.layout.specs.declared.Span.{Span}
 use Rattle.answers.specs.declared.LearnedTree.{LearnedTree}
 use Rattle.answers.specs.Answers.{treeIn as treeAnswer}
 
--- rows; node records; spans; queue; count space
+-- rows; node records; span records; queue; count space
 pub record Lists : Type 0 where
   pub rows : Flat
   pub nodes : List MaNode
-  pub spans : List ℕ
+  pub spans : List Span
   pub queue : QueueLists
   pub counts : List ℕ
 
-abbrev pub lists : Flat → List MaNode → List ℕ → QueueLists → List ℕ → Lists
+abbrev pub lists : Flat → List MaNode → List Span → QueueLists → List ℕ → Lists
 lists rows nodes spans queue counts = record { rows = rows; nodes = nodes; spans = spans; queue = queue; counts = counts }
 
 -- what the model reads in them
@@ -44,7 +44,7 @@ lentIn x =
       toks = x .rows .toks;
       res = x .rows .res;
       nodes = map storedOf (x .nodes);
-      spans = storedSpans (x .spans);
+      spans = map spanIs (x .spans);
       queue = storedQueue (x .queue);
       counts = x .counts;
     }
@@ -59,7 +59,7 @@ listsAfter r x =
     record {
       rows = flatOf (hasResiduals (x .rows)) (r .rows);
       nodes = writtenOver (map nodeRecord (r .records)) (x .nodes);
-      spans = writtenOver (laid spanRows (r .spans)) (x .spans);
+      spans = writtenOver (map spanRecord (r .spans)) (x .spans);
       queue = clearQueue (x .queue);
       counts = replicate (length (x .counts)) 0;
     }

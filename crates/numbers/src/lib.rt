@@ -1,80 +1,195 @@
-// The operations on number lists that hold a copy of the caller's records. The lists are as long as the largest tree asks for; `n` records were copied.
+// The border between the caller's lists, with records, and the core's number lists, which are as long as the largest tree asks for: a seed's records were copied
+// into them. A job is refused here, by the true lengths of the caller's lists, and the core takes the jobs that are accepted.
 ghost use mathlib.Core.Path.{_≡_};
+ghost use mathlib.Core.Bool.{true, false};
 ghost use mathlib.Core.List.{List, map};
 ghost use lib.ListN.{length};
 ghost use lib.Ieee.{Float};
-ghost use Prim.Native.Nat.{_*_, _<_, _≤_};
-ghost use Rattle.model.specs.Operations.{leafContexts};
+ghost use Prim.Native.Nat.{ℕ, _*_, _≤_};
+ghost use Rattle.model.specs.Operations.{refused, accepted, leafContexts};
 ghost use Rattle.rows.specs.Flat.{flat};
 ghost use Rattle.checks.specs.Given.{settingsOf};
 ghost use Rattle.layout.specs.Waiting.{queueLists};
 ghost use Rattle.records.specs.Records.{filled};
-ghost use Rattle.layout.specs.Records.{storedOf, nodeOf};
+ghost use Rattle.layout.specs.Records.{storedOf, nodeOf, spanIn};
 ghost use Rattle.layout.specs.declared.MaNode.{MaNode};
-ghost use Rattle.lent.specs.Answer.{after};
+ghost use Rattle.layout.specs.declared.Span.{Span};
+ghost use Rattle.lent.specs.Answer.{answerOf};
 ghost use Rattle.layout.specs.Layout.{wordsPerNode, valuesPerNode};
 ghost use Rattle.model.specs.Settings.{maxNodes};
-ghost use Rattle.answers.specs.Answers.{countIn};
-ghost use Rattle.numbers.specs.Lists.{lists, learnRecords, deepenRecords, Worked};
+ghost use Rattle.answers.specs.Answers.{countIn, treeIn};
+ghost use Rattle.numbers.specs.Lists.{lists, Worked};
 ghost use Rattle.numbers.specs.Numbers.{copied, Arrays, Numbered};
 use answers::Count;
 use answers::LearnedTree;
 use checks::Check;
 use checks::Rooms;
 use checks::Settings;
+use lent::Finished;
 use lent::Learned;
+use tree::answers::Fault;
 
-// How many records are copied.
-pub fn to_copy(room: usize) -> usize
-    ensures { λ r. ⌜ r ≡ copied room ⌝ }
+// The answer, and how many entries of the node and span lists were written.
+pub struct Work {
+    pub tree: LearnedTree,
+    pub written: usize,
+}
+
+// How many records are copied in: those of the seed, if there is one.
+pub fn to_copy(room: usize, seeded: bool, count: u32) -> usize
+    ensures { λ r. ⌜ r ≡ copied seeded count room ⌝ }
 {
-    if room < layout::MAX_NODES {
-        room
+    if seeded {
+        let most = lists::smaller(room, layout::MAX_NODES);
+        lists::smaller(count as usize, most)
     } else {
-        layout::MAX_NODES
+        0
     }
 }
 
-// A seed of more nodes than any sound tree has: 8 for its count, if none of 1 to 7 comes before.
-fn refuse_large_seed<'a>(
-    room: usize,
+// A refusal writes nothing.
+fn refused(number: u32, place: u32) -> Work
+    ensures { λ r. ⌜ r ≡ record { tree = treeIn (refused (record { number = number; place = place })); written = 0 } ⌝ }
+{
+    Work {
+        tree: answers::learned_answer(Learned::Refused { number, place }),
+        written: 0,
+    }
+}
+
+// What a finished tree comes to.
+fn finished(tree: Finished) -> Work
+    requires { ⌜ tree .nodes ≤ maxNodes ⌝ }
+    ensures told { λ r. ⌜ r .tree ≡ treeIn (accepted (answerOf tree)) ⌝ }
+    ensures many { λ r. ⌜ r .written ≡ tree .written ⌝ }
+{
+    Work {
+        tree: answers::learned_answer(lent::answer(tree)),
+        written: tree.written,
+    }
+}
+
+// Learns, unless one of conditions 1 to 7 holds.
+pub fn learn_on<'a, 'b>(
+    node_room: usize,
+    span_room: usize,
     s: Settings,
-    count: u32,
     logs: &'a [f32],
-    props: &'a [i32],
-    tok: &'a [u8],
-    res: &'a [i32],
-    spans: &'a [u32],
-    queue_words: &'a [u32],
-    queue_values: &'a [i32],
-    queue_gains: &'a [f32],
-    counts: &'a [u32],
-) -> Learned
-    requires { ⌜ maxNodes < count ⌝ }
-    ensures { λ r. ⌜ ((nodes : List MaNode) → room ≡ length nodes → after r (lists (flat (now (props .entry)) (now (tok .entry)) (now (res .entry))) nodes (now (spans .entry))
+    words: &'b mut [u32],
+    values: &'b mut [i32],
+    costs: &'b mut [f32],
+    props: &'a mut [i32],
+    tok: &'a mut [u8],
+    res: &'a mut [i32],
+    queue_words: &'a mut [u32],
+    queue_values: &'a mut [i32],
+    queue_gains: &'a mut [f32],
+    counts: &'a mut [u32],
+) -> Work
+    requires { ⌜ Arrays (now words) (now values) (now costs) ⌝ }
+    ensures few { λ r. ⌜ (r .written ≤ maxNodes) × (r .written ≤ «node_room») × (r .written ≤ «span_room») ⌝ }
+    ensures worked { λ r. ⌜ ((nodes : List MaNode) (given : List Span) (count : ℕ) → «node_room» ≡ length nodes → «span_room» ≡ length given
+        → Worked (settingsOf s) (now (logs .entry)) false count
+        (lists (flat (now (props .entry)) (now (tok .entry)) (now (res .entry))) nodes given
         (queueLists (now («queue_words» .entry)) (now («queue_values» .entry)) (now («queue_gains» .entry))) (now (counts .entry)))
-        ≡ deepenRecords (settingsOf s) (now (logs .entry)) count (lists (flat (now (props .entry)) (now (tok .entry)) (now (res .entry))) nodes (now (spans .entry))
-        (queueLists (now («queue_words» .entry)) (now («queue_values» .entry)) (now («queue_gains» .entry))) (now (counts .entry)))) ⌝ }
+        (lists (flat (now (props .exit)) (now (tok .exit)) (now (res .exit)))
+        (filled (nodeOf (now (words .exit)) (now (values .exit)) (now (costs .exit))) (r .written) nodes) (filled (spanIn (now (words .exit))) (r .written) given)
+        (queueLists (now («queue_words» .exit)) (now («queue_values» .exit)) (now («queue_gains» .exit))) (now (counts .exit))) (r .tree)) ⌝ }
 {
     let rooms = Rooms {
-        nodes: room,
-        spans: spans.len() / layout::SPAN_ROWS,
+        nodes: node_room,
+        spans: span_room,
         queue: lent::queue_room(queue_words, queue_values, queue_gains),
         counts: counts.len(),
     };
-    match checks::check_deepen(s, props, tok, res, logs, rooms, count as usize) {
-        Check::Refused { number, place } => Learned::Refused { number, place },
-        Check::Pass(_) => Learned::Refused {
-            number: 8,
-            place: 0,
-        },
+    match checks::check_learn(s, props, tok, res, logs, rooms) {
+        Check::Refused { number, place } => refused(number, place),
+        Check::Pass(rows) => finished(learn::learn_ma_tree_in_place(
+            props,
+            tok,
+            res,
+            words,
+            values,
+            costs,
+            queue_words,
+            queue_values,
+            queue_gains,
+            counts,
+            logs,
+            s,
+            rows,
+        )),
     }
 }
 
-// Deepens the first `count` nodes if there is a seed, else learns. The core sees the parts of the lists that hold the caller's records.
+// Deepens the first `count` nodes, unless one of conditions 1 to 7 holds or they are no sound tree: 8, and no sound tree has more than 8,191.
+pub fn deepen_on<'a, 'b>(
+    node_room: usize,
+    span_room: usize,
+    s: Settings,
+    count: u32,
+    logs: &'a [f32],
+    words: &'b mut [u32],
+    values: &'b mut [i32],
+    costs: &'b mut [f32],
+    props: &'a mut [i32],
+    tok: &'a mut [u8],
+    res: &'a mut [i32],
+    queue_words: &'a mut [u32],
+    queue_values: &'a mut [i32],
+    queue_gains: &'a mut [f32],
+    counts: &'a mut [u32],
+) -> Work
+    requires { ⌜ Arrays (now words) (now values) (now costs) ⌝ }
+    ensures few { λ r. ⌜ (r .written ≤ maxNodes) × (r .written ≤ «node_room») × (r .written ≤ «span_room») ⌝ }
+    ensures worked { λ r. ⌜ ((nodes : List MaNode) (given : List Span)
+        → Numbered (copied true count (length nodes)) nodes (now (words .entry)) (now (values .entry)) (now (costs .entry)) → «node_room» ≡ length nodes → «span_room» ≡ length given
+        → Worked (settingsOf s) (now (logs .entry)) true count
+        (lists (flat (now (props .entry)) (now (tok .entry)) (now (res .entry))) nodes given
+        (queueLists (now («queue_words» .entry)) (now («queue_values» .entry)) (now («queue_gains» .entry))) (now (counts .entry)))
+        (lists (flat (now (props .exit)) (now (tok .exit)) (now (res .exit)))
+        (filled (nodeOf (now (words .exit)) (now (values .exit)) (now (costs .exit))) (r .written) nodes) (filled (spanIn (now (words .exit))) (r .written) given)
+        (queueLists (now («queue_words» .exit)) (now («queue_values» .exit)) (now («queue_gains» .exit))) (now (counts .exit))) (r .tree)) ⌝ }
+{
+    let nodes = count as usize;
+    let rooms = Rooms {
+        nodes: node_room,
+        spans: span_room,
+        queue: lent::queue_room(queue_words, queue_values, queue_gains),
+        counts: counts.len(),
+    };
+    let rows = match checks::check_deepen(s, props, tok, res, logs, rooms, nodes) {
+        Check::Refused { number, place } => return refused(number, place),
+        Check::Pass(rows) => rows,
+    };
+    if layout::MAX_NODES < nodes {
+        return refused(8, 0);
+    }
+    match tree::fault_of(words, count) {
+        Fault::At(place) => refused(8, place),
+        Fault::Sound => finished(deepen::deepen_ma_tree(
+            props,
+            tok,
+            res,
+            words,
+            values,
+            costs,
+            queue_words,
+            queue_values,
+            queue_gains,
+            counts,
+            logs,
+            s,
+            rows,
+            nodes,
+        )),
+    }
+}
+
+// Deepens the first `count` nodes if there is a seed, else learns.
 pub fn work_on<'a, 'b>(
-    room: usize,
-    n: usize,
+    node_room: usize,
+    span_room: usize,
     s: Settings,
     seeded: bool,
     count: u32,
@@ -85,70 +200,57 @@ pub fn work_on<'a, 'b>(
     props: &'a mut [i32],
     tok: &'a mut [u8],
     res: &'a mut [i32],
-    spans: &'a mut [u32],
     queue_words: &'a mut [u32],
     queue_values: &'a mut [i32],
     queue_gains: &'a mut [f32],
     counts: &'a mut [u32],
-) -> LearnedTree
+) -> Work
     requires { ⌜ Arrays (now words) (now values) (now costs) ⌝ }
-    requires { ⌜ n ≤ maxNodes ⌝ }
-    ensures { λ r. ⌜ ((nodes : List MaNode) → Numbered nodes (now (words .entry)) (now (values .entry)) (now (costs .entry)) → n ≡ copied (length nodes) → room ≡ length nodes
+    ensures few { λ r. ⌜ (r .written ≤ maxNodes) × (r .written ≤ «node_room») × (r .written ≤ «span_room») ⌝ }
+    ensures worked { λ r. ⌜ ((nodes : List MaNode) (given : List Span)
+        → Numbered (copied seeded count (length nodes)) nodes (now (words .entry)) (now (values .entry)) (now (costs .entry)) → «node_room» ≡ length nodes → «span_room» ≡ length given
         → Worked (settingsOf s) (now (logs .entry)) seeded count
-        (lists (flat (now (props .entry)) (now (tok .entry)) (now (res .entry))) nodes (now (spans .entry))
+        (lists (flat (now (props .entry)) (now (tok .entry)) (now (res .entry))) nodes given
         (queueLists (now («queue_words» .entry)) (now («queue_values» .entry)) (now («queue_gains» .entry))) (now (counts .entry)))
-        (lists (flat (now (props .exit)) (now (tok .exit)) (now (res .exit))) (filled (nodeOf (now (words .exit)) (now (values .exit)) (now (costs .exit))) (copied (length nodes)) nodes) (now (spans .exit))
-        (queueLists (now («queue_words» .exit)) (now («queue_values» .exit)) (now («queue_gains» .exit))) (now (counts .exit))) r) ⌝ }
+        (lists (flat (now (props .exit)) (now (tok .exit)) (now (res .exit)))
+        (filled (nodeOf (now (words .exit)) (now (values .exit)) (now (costs .exit))) (r .written) nodes) (filled (spanIn (now (words .exit))) (r .written) given)
+        (queueLists (now («queue_words» .exit)) (now («queue_values» .exit)) (now («queue_gains» .exit))) (now (counts .exit))) (r .tree)) ⌝ }
 {
     if seeded {
-        if layout::MAX_NODES < count as usize {
-            return answers::learned_answer(refuse_large_seed(
-                room,
-                s,
-                count,
-                logs,
-                props,
-                tok,
-                res,
-                spans,
-                queue_words,
-                queue_values,
-                queue_gains,
-                counts,
-            ));
-        }
-        return answers::learned_answer(deepen::deepen_ma_tree(
+        return deepen_on(
+            node_room,
+            span_room,
+            s,
+            count,
+            logs,
+            words,
+            values,
+            costs,
             props,
             tok,
             res,
-            &mut words[..n * layout::NODE_WORDS],
-            &mut values[..n * layout::NODE_VALUES],
-            &mut costs[..n],
-            spans,
             queue_words,
             queue_values,
             queue_gains,
             counts,
-            logs,
-            s,
-            count,
-        ));
+        );
     }
-    answers::learned_answer(learn::learn_ma_tree_in_place(
+    learn_on(
+        node_room,
+        span_room,
+        s,
+        logs,
+        words,
+        values,
+        costs,
         props,
         tok,
         res,
-        &mut words[..n * layout::NODE_WORDS],
-        &mut values[..n * layout::NODE_VALUES],
-        &mut costs[..n],
-        spans,
         queue_words,
         queue_values,
         queue_gains,
         counts,
-        logs,
-        s,
-    ))
+    )
 }
 
 // The contexts of the leaves, on the number lists.
@@ -162,9 +264,9 @@ pub fn contexts_on<'a, 'b>(
 ) -> Count
     requires { ⌜ n * wordsPerNode ≤ length (now words) ⌝ }
     requires { ⌜ n * valuesPerNode ≤ length (now values) ⌝ }
-    ensures { λ r. ⌜ ((nodes : List MaNode) (costs : List Float) → Numbered nodes (now (words .entry)) (now (values .entry)) costs → n ≡ copied (length nodes)
+    ensures { λ r. ⌜ ((nodes : List MaNode) (costs : List Float) → Numbered n nodes (now (words .entry)) (now (values .entry)) costs → n ≡ copied true count (length nodes)
         → r ≡ countIn (leafContexts (map storedOf nodes) count (record { contexts = now (contexts .entry); queue = now (queue .entry) }) .outcome)) ⌝ }
-    ensures { λ _. ⌜ ((nodes : List MaNode) (costs : List Float) → Numbered nodes (now (words .entry)) (now (values .entry)) costs → n ≡ copied (length nodes)
+    ensures { λ _. ⌜ ((nodes : List MaNode) (costs : List Float) → Numbered n nodes (now (words .entry)) (now (values .entry)) costs → n ≡ copied true count (length nodes)
         → record { contexts = now (contexts .exit); queue = now (queue .exit) }
         ≡ leafContexts (map storedOf nodes) count (record { contexts = now (contexts .entry); queue = now (queue .entry) }) .lent) ⌝ }
 {

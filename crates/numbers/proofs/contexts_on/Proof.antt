@@ -2,6 +2,8 @@
 use Prim.Native.Nat.{_*_}
 use mathlib.Core.Path.{_≡_, sym, ap, _∙_}
 use mathlib.Core.List.{List, map}
+use mathlib.Core.Bool.{true}
+use native.Mathlib.Omega.{arith}
 use lib.ListN.{length}
 use lib.Seq.{length-take-le}
 use lib.Ieee.{Float}
@@ -48,11 +50,11 @@ module _ (c : tie.After-leaf-contexts) (nodes : List MaNode) (costs : List Float
   abbrev asked : ContextLists
   asked = record { contexts = start .args .contexts .now; queue = start .args .queue .now }
 
-  counted : Numbered nodes (start .args .words .now) (start .args .values .now) costs → start .args .n ≡ copied (length nodes)
+  counted : Numbered (start .args .n) nodes (start .args .words .now) (start .args .values .now) costs → start .args .n ≡ copied true (start .args .count) (length nodes)
       → contextsAfter (c .leaf-contexts .result) (c .leaf-contexts .last .1 .1 .1 .0) (c .leaf-contexts .last .1 .1 .1 .1 .0) ≡ leafContexts (map storedOf nodes) (start .args .count) asked
   counted same is =
       c .leaf-contexts .ensures costs
-      ∙ contexts-alike nodes (start .args .words .now) (start .args .values .now) costs (start .args .n) is same (start .pre .0) (start .pre .1) (start .args .count) asked
+      ∙ contexts-alike nodes (start .args .words .now) (start .args .values .now) costs (start .args .n) (omega arith) same (start .pre .0) (start .pre .1) (start .args .count) asked is
 
 returns : tie.Need-returns
 returns c = let called = c .before .before .before .before .before in (
