@@ -1,5 +1,5 @@
-// Deepening a tree from rows in number lists (document 01; the Rust's `deepen_ma_tree`), of a job that the checks accept and a sound seed: flat bits, the seed's
-// leaves, growth, pruning and settling.
+// Deepening a tree from rows in number lists (document 01; the Rust's `deepen_ma_tree`), of a job that the checks accept
+// and a sound seed: flat bits, the seed's leaves, growth, pruning and settling.
 ghost use mathlib.Core.Path.{_≡_};
 ghost use Rattle.lent.specs.Lists.{listsNow, listsAfter};
 ghost use Rattle.lent.specs.Answer.{LearnedAs};

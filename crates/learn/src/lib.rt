@@ -1,5 +1,5 @@
-// Learning a tree from rows in number lists (document 01; the Rust's `learn_ma_tree_in_place`), of a job that the checks accept: flat bits, the root, growth,
-// pruning and settling.
+// Learning a tree from rows in number lists (document 01; the Rust's `learn_ma_tree_in_place`), of a job that the
+// checks accept: flat bits, the root, growth, pruning and settling.
 ghost use mathlib.Core.Path.{_≡_};
 ghost use Rattle.lent.specs.Lists.{listsNow, listsAfter};
 ghost use Rattle.lent.specs.Answer.{LearnedAs};

@@ -4,8 +4,8 @@ ghost use Prim.Native.Nat.{_≤_};
 
 mod rooms;
 
+use answers::LearnedTree;
 use checks::Settings;
-use lent::Learned;
 use tally::Tally;
 use tally::report;
 
@@ -26,67 +26,53 @@ fn settings(alphabet: u32, max_leaves: u32, allowed_preds: u16, modal_offsets: b
     }
 }
 
-fn is_refused(r: Learned, with: u32, at: u32) -> bool {
-    match r {
-        Learned::Grown {
-            nodes,
-            leaves,
-            bits,
-            flat,
-        } => false,
-        Learned::Refused { number, place } => (number == with) & (place == at),
-    }
+fn is_refused(r: LearnedTree, with: u32, at: u32) -> bool {
+    (r.number == with) & (r.place == at)
 }
 
-fn is_grown(r: Learned, to_nodes: u32, to_leaves: u32, to_bits: f64, from_bits: f64) -> bool {
-    match r {
-        Learned::Grown {
-            nodes,
-            leaves,
-            bits,
-            flat,
-        } => {
-            (nodes == to_nodes) & (leaves == to_leaves) & (bits == to_bits) & (flat == from_bits)
-        }
-        Learned::Refused { number, place } => false,
-    }
+fn is_grown(r: LearnedTree, to_nodes: u32, to_leaves: u32, to_bits: f64, from_bits: f64) -> bool {
+    let counted = (r.number == 0) & (r.nodes == to_nodes) & (r.leaves == to_leaves);
+    counted & (r.bits == to_bits) & (r.flat == from_bits)
 }
 
-// One leaf over the rows: lists for a limit of 1.
+// One leaf over the rows: the caller's lists have room for a limit of 1.
 fn learn_one_leaf(
     props: &mut [i32],
     tok: &mut [u8],
     res: &mut [i32],
     logs: &[f32],
     s: Settings,
-) -> Learned {
-    let mut words = [0u32; 5];
-    let mut values = [0i32; 2];
-    let mut costs = [0.0f32; 1];
-    let mut spans = [0u32; 2];
+) -> LearnedTree {
+    let mut words = rooms::words();
+    let mut values = rooms::values();
+    let mut costs = rooms::costs();
+    let mut spans = rooms::spans();
     let mut queue_words = [0u32; 3];
     let mut queue_values = [0i32; 1];
     let mut queue_gains = [0.0f32; 1];
     let mut counts = rooms::counts();
-    learn::learn_ma_tree_in_place(
-        props,
-        tok,
-        res,
+    let work = numbers::learn_on(
+        1,
+        1,
+        s,
+        logs,
         &mut words,
         &mut values,
         &mut costs,
         &mut spans,
+        props,
+        tok,
+        res,
         &mut queue_words,
         &mut queue_values,
         &mut queue_gains,
         &mut counts,
-        logs,
-        s,
-    )
+    );
+    work.tree
 }
 
 // So many properties and tokens, all 0.
-fn zeros(cells: usize, tokens: usize) -> Learned
+fn zeros(cells: usize, tokens: usize) -> LearnedTree
     requires { ⌜ cells ≤ 1572888 ⌝ }
     requires { ⌜ tokens ≤ 917518 ⌝ }
 {
@@ -111,7 +97,7 @@ fn row_limit() -> Tally {
 }
 
 // Nodes 2 and 3 offered two bits each: node 2 is split, and node 3 stays a leaf over rows 0 and 1.
-fn lower_is_split(words: &[u32; 45], spans: &[u32; 18]) -> bool {
+fn lower_is_split(words: &[u32; layout::MAX_WORDS], spans: &[u32; layout::MAX_SPAN_ROWS]) -> bool {
     let split = (words[10] == 1) & (words[12] == 7) & (words[13] == 8);
     split & (words[15] == 0) & (spans[6] == 0) & (spans[7] == 2)
 }
@@ -130,23 +116,25 @@ fn six_rows(max_leaves: u32, nodes: u32, bits: f64) -> bool {
     let mut queue_gains = rooms::queue_gains();
     let mut counts = rooms::counts();
     let logs = rooms::true_logs();
-    let r = learn::learn_ma_tree_in_place(
-        &mut props,
-        &mut tok,
-        &mut res,
+    let work = numbers::learn_on(
+        9,
+        9,
+        settings(17, max_leaves, 3, false),
+        &logs,
         &mut words,
         &mut values,
         &mut costs,
         &mut spans,
+        &mut props,
+        &mut tok,
+        &mut res,
         &mut queue_words,
         &mut queue_values,
         &mut queue_gains,
         &mut counts,
-        &logs,
-        settings(17, max_leaves, 3, false),
     );
     let tied = (max_leaves < 5) | lower_is_split(&words, &spans);
-    tied & is_grown(r, nodes, max_leaves, bits, 6.754887580871582)
+    tied & is_grown(work.tree, nodes, max_leaves, bits, 6.754887580871582)
 }
 
 fn growth() -> Tally {
@@ -159,7 +147,7 @@ fn growth() -> Tally {
 }
 
 // One row, with its residual.
-fn one_row(s: Settings) -> Learned {
+fn one_row(s: Settings) -> LearnedTree {
     let mut props = [0i32; 24];
     let mut tok = [0u8; 14];
     let mut res = [0i32; 1];
@@ -168,7 +156,7 @@ fn one_row(s: Settings) -> Learned {
 }
 
 // Six rows of zeros over these tokens and logarithms.
-fn six(tok: &mut [u8], logs: &[f32]) -> Learned {
+fn six(tok: &mut [u8], logs: &[f32]) -> LearnedTree {
     let mut props = rooms::properties();
     let mut res = [0i32; 0];
     learn_one_leaf(
@@ -180,19 +168,19 @@ fn six(tok: &mut [u8], logs: &[f32]) -> Learned {
     )
 }
 
-fn short_tokens() -> Learned {
+fn short_tokens() -> LearnedTree {
     let mut tok = rooms::short_tokens();
     let logs = rooms::logs();
     six(&mut tok, &logs)
 }
 
-fn odd_token() -> Learned {
+fn odd_token() -> LearnedTree {
     let mut tok = rooms::odd_tokens();
     let logs = rooms::logs();
     six(&mut tok, &logs)
 }
 
-fn short_logs() -> Learned {
+fn short_logs() -> LearnedTree {
     let mut tok = rooms::tokens();
     let logs = rooms::short_logs();
     six(&mut tok, &logs)

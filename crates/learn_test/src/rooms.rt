@@ -95,31 +95,32 @@ pub fn short_logs() -> [f32; 6]
     [0.0; 6]
 }
 
-// Nodes and waiting leaves for five leaves, and count space for an alphabet of 128.
-pub fn words() -> [u32; 45]
-    ensures { λ r. ⌜ 45 ≡ length r ⌝ }
+// The number lists of the nodes, for the largest tree.
+pub fn words() -> [u32; layout::MAX_WORDS]
+    ensures { λ r. ⌜ 40955 ≡ length r ⌝ }
 {
-    [0; 45]
+    [0; layout::MAX_WORDS]
 }
 
-pub fn values() -> [i32; 18]
-    ensures { λ r. ⌜ 18 ≡ length r ⌝ }
+pub fn values() -> [i32; layout::MAX_VALUES]
+    ensures { λ r. ⌜ 16382 ≡ length r ⌝ }
 {
-    [0; 18]
+    [0; layout::MAX_VALUES]
 }
 
-pub fn costs() -> [f32; 9]
-    ensures { λ r. ⌜ 9 ≡ length r ⌝ }
+pub fn costs() -> [f32; layout::MAX_NODES]
+    ensures { λ r. ⌜ 8191 ≡ length r ⌝ }
 {
-    [0.0; 9]
+    [0.0; layout::MAX_NODES]
 }
 
-pub fn spans() -> [u32; 18]
-    ensures { λ r. ⌜ 18 ≡ length r ⌝ }
+pub fn spans() -> [u32; layout::MAX_SPAN_ROWS]
+    ensures { λ r. ⌜ 16382 ≡ length r ⌝ }
 {
-    [0; 18]
+    [0; layout::MAX_SPAN_ROWS]
 }
 
+// Waiting leaves for five leaves, and count space for an alphabet of 128.
 pub fn queue_words() -> [u32; 15]
     ensures { λ r. ⌜ 15 ≡ length r ⌝ }
 {

@@ -1,5 +1,6 @@
-// The border between the caller's lists, with records, and the core's number lists, which are as long as the largest tree asks for: a seed's records were copied
-// into them. A job is refused here, by the true lengths of the caller's lists, and the core takes the jobs that are accepted.
+// The border between the caller's lists, with records, and the core's number lists, which are as long as the largest
+// tree asks for: a seed's records were copied into them. A job is refused here, by the true lengths of the caller's
+// lists, and the core takes the jobs that are accepted.
 ghost use mathlib.Core.Path.{_≡_};
 ghost use mathlib.Core.Bool.{true, false};
 ghost use mathlib.Core.List.{List, map};
@@ -15,6 +16,7 @@ ghost use Rattle.layout.specs.Records.{storedOf, nodeOf, spanIn};
 ghost use Rattle.layout.specs.declared.MaNode.{MaNode};
 ghost use Rattle.layout.specs.declared.Span.{Span};
 ghost use Rattle.lent.specs.Answer.{answerOf};
+ghost use Rattle.lent.specs.Lists.{leavesLent};
 ghost use Rattle.layout.specs.Layout.{wordsPerNode, valuesPerNode};
 ghost use Rattle.model.specs.Settings.{maxNodes};
 ghost use Rattle.answers.specs.Answers.{countIn, treeIn};
@@ -44,6 +46,26 @@ pub fn to_copy(room: usize, seeded: bool, count: u32) -> usize
         lists::smaller(count as usize, most)
     } else {
         0
+    }
+}
+
+// How many entries the caller's lists have.
+fn rooms_of(
+    node_room: usize,
+    span_room: usize,
+    queue_words: &[u32],
+    queue_values: &[i32],
+    queue_gains: &[f32],
+    counts: &[u32],
+) -> Rooms
+    ensures queue { λ r. ⌜ r .queue ≡ leavesLent (now («queue_words» .entry)) (now («queue_values» .entry)) (now («queue_gains» .entry)) ⌝ }
+    ensures rest { λ r. ⌜ (r .nodes ≡ «node_room») × (r .spans ≡ «span_room») × (r .counts ≡ length (now (counts .entry))) ⌝ }
+{
+    Rooms {
+        nodes: node_room,
+        spans: span_room,
+        queue: lent::queue_room(queue_words, queue_values, queue_gains),
+        counts: counts.len(),
     }
 }
 
@@ -96,12 +118,14 @@ pub fn learn_on<'a, 'b>(
         (filled (nodeOf (now (words .exit)) (now (values .exit)) (now (costs .exit))) (r .written) nodes) (filled (spanIn (now (words .exit))) (r .written) given)
         (queueLists (now («queue_words» .exit)) (now («queue_values» .exit)) (now («queue_gains» .exit))) (now (counts .exit))) (r .tree)) ⌝ }
 {
-    let rooms = Rooms {
-        nodes: node_room,
-        spans: span_room,
-        queue: lent::queue_room(queue_words, queue_values, queue_gains),
-        counts: counts.len(),
-    };
+    let rooms = rooms_of(
+        node_room,
+        span_room,
+        queue_words,
+        queue_values,
+        queue_gains,
+        counts,
+    );
     match checks::check_learn(s, props, tok, res, logs, rooms) {
         Check::Refused { number, place } => refused(number, place),
         Check::Pass(rows) => finished(learn::learn_ma_tree_in_place(
@@ -122,7 +146,8 @@ pub fn learn_on<'a, 'b>(
     }
 }
 
-// Deepens the first `count` nodes, unless one of conditions 1 to 7 holds or they are no sound tree: 8, and no sound tree has more than 8,191.
+// Deepens the first `count` nodes, unless one of conditions 1 to 7 holds or they are no sound tree (8). No sound tree
+// has more than 8,191 nodes.
 pub fn deepen_on<'a, 'b>(
     node_room: usize,
     span_room: usize,
@@ -152,12 +177,14 @@ pub fn deepen_on<'a, 'b>(
         (queueLists (now («queue_words» .exit)) (now («queue_values» .exit)) (now («queue_gains» .exit))) (now (counts .exit))) (r .tree)) ⌝ }
 {
     let nodes = count as usize;
-    let rooms = Rooms {
-        nodes: node_room,
-        spans: span_room,
-        queue: lent::queue_room(queue_words, queue_values, queue_gains),
-        counts: counts.len(),
-    };
+    let rooms = rooms_of(
+        node_room,
+        span_room,
+        queue_words,
+        queue_values,
+        queue_gains,
+        counts,
+    );
     let rows = match checks::check_deepen(s, props, tok, res, logs, rooms, nodes) {
         Check::Refused { number, place } => return refused(number, place),
         Check::Pass(rows) => rows,

@@ -11,6 +11,7 @@ use borrow.Author.Needs.{needs}
 use Rattle.model.specs.Operations.{ContextLists, leafContexts}
 use Rattle.contexts.specs.Answers.{contextsAfter}
 use Rattle.layout.specs.Records.{storedOf}
+use Rattle.layout.specs.Layout.{wordsPerNode, valuesPerNode}
 use Rattle.layout.specs.declared.MaNode.{MaNode}
 use Rattle.answers.specs.Answers.{countIn}
 use Rattle.numbers.specs.Numbers.{copied, Numbered}
@@ -22,13 +23,13 @@ mul-leaf-contexts : tie.Need-mul-leaf-contexts
 mul-leaf-contexts c = search needs
 
 slice-aggregate-leaf-contexts : tie.Need-slice-aggregate-leaf-contexts
-slice-aggregate-leaf-contexts c = let start = c .before .before .before .before in sym (length-take-le (start .args .n * 5) (start .args .words .now) (start .pre .0))
+slice-aggregate-leaf-contexts c = let start = c .before .before .before .before in sym (length-take-le (start .args .n * wordsPerNode) (start .args .words .now) (start .pre .0))
 
 mul-leaf-contexts-2 : tie.Need-mul-leaf-contexts-2
 mul-leaf-contexts-2 c = search needs
 
 slice-aggregate-leaf-contexts-2 : tie.Need-slice-aggregate-leaf-contexts-2
-slice-aggregate-leaf-contexts-2 c = let start = c .before .before .before .before .before in sym (length-take-le (start .args .n * 2) (start .args .values .now) (start .pre .1))
+slice-aggregate-leaf-contexts-2 c = let start = c .before .before .before .before .before in sym (length-take-le (start .args .n * valuesPerNode) (start .args .values .now) (start .pre .1))
 
 leaf-contexts-requires : tie.Need-leaf-contexts-requires
 leaf-contexts-requires c κs = search needs

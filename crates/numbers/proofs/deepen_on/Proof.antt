@@ -11,6 +11,7 @@ use Rattle.model.specs.Settings.{maxNodes}
 use Rattle.model.specs.Tree.{faultOf}
 use Rattle.checks.specs.Given.{settingsOf, checkOf}
 use Rattle.checks.proofs.Passed.{deepening, deepen-refused}
+use Rattle.layout.specs.Records.{noSpanRecord}
 use Rattle.layout.specs.Tree.{NodeLists, nodeLists}
 use Rattle.layout.specs.Waiting.{queueLists}
 use Rattle.layout.specs.declared.MaNode.{MaNode}
@@ -21,7 +22,7 @@ use Rattle.seed.specs.Ordered.{seedIn}
 use Rattle.deepen.proofs.Seeding.{seed-same}
 use Rattle.from_seed.specs.Result.{deepenedIn}
 use Rattle.rows.specs.Flat.{flat}
-use Rattle.numbers.specs.Lists.{Lists, lists, lentIn, noSpanRecord}
+use Rattle.numbers.specs.Lists.{Lists, lists, lentIn}
 use Rattle.numbers.specs.Numbers.{copied, Numbered}
 use Rattle.numbers.proofs.Reading.{arrays-room, recordsHeld, held-length, held-numbered}
 use Rattle.numbers.proofs.Checking.{lends-records, fault-refused, large-refused, sound-passes, seed-is, deepenable, faultless, deepened-is, deepened-fitted, work-done, work-few, work-refused, none-written}
@@ -29,8 +30,8 @@ use borrow.Author.Needs.{needs}
 use Rattle.numbers.proofs.deepen_on.Statement.{statement}
 use Rattle.numbers.proofs.deepen_on.Tie as tie
 
-queue-room-requires : tie.Need-queue-room-requires
-queue-room-requires c κs = search needs
+rooms-of-requires : tie.Need-rooms-of-requires
+rooms-of-requires c κs = search needs
 
 check-deepen-requires : tie.Need-check-deepen-requires
 check-deepen-requires c κs = search needs
@@ -58,7 +59,9 @@ module _ (c : tie.After-check-deepen) where
 
   answer : (nodes : List MaNode) (spans : List Span) → start .args .node-room ≡ length nodes → start .args .span-room ≡ length spans
       → c .check-deepen .result ≡ checkOf (rowCount (lentIn (x nodes spans))) (deepening (start .args .s) (start .args .logs .now) (lentIn (x nodes spans)) (start .args .count))
-  answer nodes spans a b = c .check-deepen .ensures (lentIn (x nodes spans)) (lends-records (x nodes spans) _ a b (c .before .before .before .before .queue-room .ensures) refl)
+  answer nodes spans a b =
+      let counted = c .before .before .before .before .rooms-of .ensures in
+      c .check-deepen .ensures (lentIn (x nodes spans)) (lends-records (x nodes spans) _ (counted .1 .0 ∙ a) (counted .1 .1 ∙ b) (counted .0) (counted .1 .2))
 
   -- there are such lists
   abbrev some-nodes : List MaNode
@@ -95,6 +98,9 @@ same-length-5 c = search needs
 same-length-6 : tie.Need-same-length-6
 same-length-6 c = search needs
 
+same-length-7 : tie.Need-same-length-7
+same-length-7 c = search needs
+
 returns : tie.Need-returns
 returns c =
     let checked = c .before .before .before .before in
@@ -114,9 +120,6 @@ enum-known-rows c = search needs
 refused-requires-2 : tie.Need-refused-requires-2
 refused-requires-2 c κs = search needs
 
-same-length-7 : tie.Need-same-length-7
-same-length-7 c = search needs
-
 same-length-8 : tie.Need-same-length-8
 same-length-8 c = search needs
 
@@ -131,6 +134,12 @@ same-length-11 c = search needs
 
 same-length-12 : tie.Need-same-length-12
 same-length-12 c = search needs
+
+same-length-13 : tie.Need-same-length-13
+same-length-13 c = search needs
+
+same-length-14 : tie.Need-same-length-14
+same-length-14 c = search needs
 
 returns-2 : tie.Need-returns-2
 returns-2 c =
@@ -174,22 +183,16 @@ module _ (c : tie.After-fault-of) where
 
 deepen-ma-tree-requires : tie.Need-deepen-ma-tree-requires
 deepen-ma-tree-requires c κs =
-    let tested = c .before .before .before .before .before .before .before .before .before .before .before .before .before in
-    let passed = c .before .before .before .before .before .before .before .before .before .before .before .before .before .before .before .before .before .rows .given in
+    let tested = c .before .before .before .before .before .before .before .before .before .before .before .before in
+    let passed = c .before .before .before .before .before .before .before .before .before .before .before .before .before .before .before .before .rows .given in
     let at = checked tested in
     let given = start at .args in
     let y = x at (some-nodes at) (some-spans at) in
     let e = sym (answer at (some-nodes at) (some-spans at) (nodes-are at) (spans-are at)) ∙ passed .1 in
-    deepenable (given .s) (given .logs .now) y (given .count) e (few tested) (n at) (arrays-room (start at .pre)) (some-numbered at) (found tested ∙ ap faultNamed (c .before .before .before .before .before .before .before .before .before .before .before .enum-told .given .1))
+    deepenable (given .s) (given .logs .now) y (given .count) e (few tested) (n at) (arrays-room (start at .pre)) (some-numbered at) (found tested ∙ ap faultNamed (c .before .before .before .before .before .before .before .before .before .before .enum-told .given .1))
 
 finished-requires : tie.Need-finished-requires
-finished-requires c κs = c .before .before .before .before .before .before .before .before .before .before .before .before .before .before .before .before .before .before .deepen-ma-tree .ensures .0 .few
-
-same-length-13 : tie.Need-same-length-13
-same-length-13 c = search needs
-
-same-length-14 : tie.Need-same-length-14
-same-length-14 c = search needs
+finished-requires c κs = c .before .before .before .before .before .before .before .before .before .before .before .before .before .before .before .before .deepen-ma-tree .ensures .0 .few
 
 same-length-15 : tie.Need-same-length-15
 same-length-15 c = search needs
@@ -205,6 +208,15 @@ same-length-18 c = search needs
 
 same-length-19 : tie.Need-same-length-19
 same-length-19 c = search needs
+
+same-length-20 : tie.Need-same-length-20
+same-length-20 c = search needs
+
+same-length-21 : tie.Need-same-length-21
+same-length-21 c = search needs
+
+same-length-22 : tie.Need-same-length-22
+same-length-22 c = search needs
 
 returns-3 : tie.Need-returns-3
 returns-3 c =
@@ -225,52 +237,49 @@ returns-3 c =
     )
 
 abbrev after-deepening : tie.After-finished → tie.After-deepen-ma-tree
-after-deepening c = c .before .before .before .before .before .before .before .before .before .before .before .before .before .before .before .before .before .before .before
-
-same-length-20 : tie.Need-same-length-20
-same-length-20 c = after-deepening c .deepen-ma-tree .kept .1 .1 .1 .0
-
-same-length-21 : tie.Need-same-length-21
-same-length-21 c = after-deepening c .deepen-ma-tree .kept .1 .1 .1 .1 .0
-
-same-length-22 : tie.Need-same-length-22
-same-length-22 c = after-deepening c .deepen-ma-tree .kept .1 .1 .1 .1 .1 .0
+after-deepening c = c .before .before .before .before .before .before .before .before .before .before .before .before .before .before .before .before .before
 
 same-length-23 : tie.Need-same-length-23
-same-length-23 c = after-deepening c .deepen-ma-tree .kept .1 .1 .1 .1 .1 .1 .0
+same-length-23 c = after-deepening c .deepen-ma-tree .kept .1 .1 .1 .0
 
 same-length-24 : tie.Need-same-length-24
-same-length-24 c = after-deepening c .deepen-ma-tree .kept .0
+same-length-24 c = after-deepening c .deepen-ma-tree .kept .1 .1 .1 .1 .0
 
 same-length-25 : tie.Need-same-length-25
-same-length-25 c = after-deepening c .deepen-ma-tree .kept .1 .0
+same-length-25 c = after-deepening c .deepen-ma-tree .kept .1 .1 .1 .1 .1 .0
 
 same-length-26 : tie.Need-same-length-26
-same-length-26 c = after-deepening c .deepen-ma-tree .kept .1 .1 .0
+same-length-26 c = after-deepening c .deepen-ma-tree .kept .0
 
 same-length-27 : tie.Need-same-length-27
-same-length-27 c = after-deepening c .deepen-ma-tree .kept .1 .1 .1 .1 .1 .1 .1 .0
+same-length-27 c = after-deepening c .deepen-ma-tree .kept .1 .0
 
 same-length-28 : tie.Need-same-length-28
-same-length-28 c = after-deepening c .deepen-ma-tree .kept .1 .1 .1 .1 .1 .1 .1 .1 .0
+same-length-28 c = after-deepening c .deepen-ma-tree .kept .1 .1 .0
 
 same-length-29 : tie.Need-same-length-29
-same-length-29 c = after-deepening c .deepen-ma-tree .kept .1 .1 .1 .1 .1 .1 .1 .1 .1 .0
+same-length-29 c = after-deepening c .deepen-ma-tree .kept .1 .1 .1 .1 .1 .1 .0
 
 same-length-30 : tie.Need-same-length-30
-same-length-30 c = after-deepening c .deepen-ma-tree .kept .1 .1 .1 .1 .1 .1 .1 .1 .1 .1 .0
+same-length-30 c = after-deepening c .deepen-ma-tree .kept .1 .1 .1 .1 .1 .1 .1 .0
+
+same-length-31 : tie.Need-same-length-31
+same-length-31 c = after-deepening c .deepen-ma-tree .kept .1 .1 .1 .1 .1 .1 .1 .1 .0
+
+same-length-32 : tie.Need-same-length-32
+same-length-32 c = after-deepening c .deepen-ma-tree .kept .1 .1 .1 .1 .1 .1 .1 .1 .1 .0
 
 returns-4 : tie.Need-returns-4
 returns-4 c =
-    let tested = c .before .before .before .before .before .before .before .before .before .before .before .before .before .before .before .before .before .before .before .before .before .before .before .before .before .before .before .before .before .before .before .before .before in
+    let tested = c .before .before .before .before .before .before .before .before .before .before .before .before .before .before .before .before .before .before .before .before .before .before .before .before .before .before .before .before .before .before in
     let at = checked tested in
-    let passed = c .before .before .before .before .before .before .before .before .before .before .before .before .before .before .before .before .before .before .before .before .before .before .before .before .before .before .before .before .before .before .before .before .before .before .before .before .before .rows .given in
+    let passed = c .before .before .before .before .before .before .before .before .before .before .before .before .before .before .before .before .before .before .before .before .before .before .before .before .before .before .before .before .before .before .before .before .before .before .rows .given in
     let made = after-deepening c .deepen-ma-tree in
     let given = start at .args in
     let t = settingsOf (given .s) in
-    let sound = found tested ∙ ap faultNamed (c .before .before .before .before .before .before .before .before .before .before .before .before .before .before .before .before .before .before .before .before .before .before .before .before .before .before .before .before .before .before .before .enum-told .given .1) in
+    let sound = found tested ∙ ap faultNamed (c .before .before .before .before .before .before .before .before .before .before .before .before .before .before .before .before .before .before .before .before .before .before .before .before .before .before .before .before .enum-told .given .1) in
     let core = deepenedIn (given .s) (given .logs .now) (given .count) (flat (given .props .now) (given .tok .now) (given .res .now)) (n at) in
-    let left = (nodeLists (made .last .1 .1 .1 .0) (made .last .1 .1 .1 .1 .0) (made .last .1 .1 .1 .1 .1 .0) (made .last .1 .1 .1 .1 .1 .1 .0)) in (
+    let left = nodeLists (made .last .1 .1 .1 .0) (made .last .1 .1 .1 .1 .0) (made .last .1 .1 .1 .1 .1 .0) in (
       let y = x at (some-nodes at) (some-spans at) in
           let e = sym (answer at (some-nodes at) (some-spans at) (nodes-are at) (spans-are at)) ∙ passed .1 in
           let room = arrays-room (start at .pre) in
@@ -292,7 +301,7 @@ pub deepen-on-spec : {M : Type 1} → statement M
 deepen-on-spec =
     tie.close
     (tie.spec
-    queue-room-requires
+    rooms-of-requires
     check-deepen-requires
     enum-known-number
     refused-requires
@@ -302,15 +311,17 @@ deepen-on-spec =
     same-length-4
     same-length-5
     same-length-6
+    same-length-7
     returns
     enum-known-rows
     refused-requires-2
-    same-length-7
     same-length-8
     same-length-9
     same-length-10
     same-length-11
     same-length-12
+    same-length-13
+    same-length-14
     returns-2
     fault-of-requires
     enum-known-place
@@ -318,17 +329,15 @@ deepen-on-spec =
     enum-told
     deepen-ma-tree-requires
     finished-requires
-    same-length-13
-    same-length-14
     same-length-15
     same-length-16
     same-length-17
     same-length-18
     same-length-19
-    returns-3
     same-length-20
     same-length-21
     same-length-22
+    returns-3
     same-length-23
     same-length-24
     same-length-25
@@ -337,4 +346,6 @@ deepen-on-spec =
     same-length-28
     same-length-29
     same-length-30
+    same-length-31
+    same-length-32
     returns-4)

@@ -8,21 +8,22 @@ use Rattle.model.specs.Refuse.{Refusal, learnRefusal}
 use Rattle.model.specs.Profile.{single}
 use Rattle.checks.specs.Given.{settingsOf, checkOf}
 use Rattle.checks.proofs.Passed.{learn-passed, learn-refused}
+use Rattle.layout.specs.Records.{noSpanRecord}
 use Rattle.layout.specs.Tree.{NodeLists, nodeLists}
 use Rattle.layout.specs.Waiting.{queueLists}
 use Rattle.layout.specs.declared.MaNode.{MaNode}
 use Rattle.layout.specs.declared.Span.{Span}
 use Rattle.from_root.specs.Result.{resultIn}
 use Rattle.rows.specs.Flat.{flat}
-use Rattle.numbers.specs.Lists.{Lists, lists, lentIn, noSpanRecord}
+use Rattle.numbers.specs.Lists.{Lists, lists, lentIn}
 use Rattle.numbers.proofs.Reading.{arrays-room, recordsHeld, held-length}
 use Rattle.numbers.proofs.Checking.{lends-records, learnable, learned-fitted, work-done, work-few, work-refused, none-written}
 use borrow.Author.Needs.{needs}
 use Rattle.numbers.proofs.learn_on.Statement.{statement}
 use Rattle.numbers.proofs.learn_on.Tie as tie
 
-queue-room-requires : tie.Need-queue-room-requires
-queue-room-requires c κs = search needs
+rooms-of-requires : tie.Need-rooms-of-requires
+rooms-of-requires c κs = search needs
 
 check-learn-requires : tie.Need-check-learn-requires
 check-learn-requires c κs = search needs
@@ -53,7 +54,9 @@ module _ (c : tie.After-check-learn) where
 
   answer : (nodes : List MaNode) (spans : List Span) → start .args .node-room ≡ length nodes → start .args .span-room ≡ length spans
       → c .check-learn .result ≡ checkOf (rowCount (lentIn (x nodes spans))) (learnRefusal single (settingsOf (start .args .s)) (start .args .logs .now) (lentIn (x nodes spans)))
-  answer nodes spans a b = c .check-learn .ensures (lentIn (x nodes spans)) (lends-records (x nodes spans) _ a b (c .before .before .before .before .queue-room .ensures) refl)
+  answer nodes spans a b =
+      let counted = c .before .before .before .before .rooms-of .ensures in
+      c .check-learn .ensures (lentIn (x nodes spans)) (lends-records (x nodes spans) _ (counted .1 .0 ∙ a) (counted .1 .1 ∙ b) (counted .0) (counted .1 .2))
 
   -- there are such lists
   abbrev some-nodes : List MaNode
@@ -70,15 +73,15 @@ module _ (c : tie.After-check-learn) where
 
 learn-ma-tree-in-place-requires : tie.Need-learn-ma-tree-in-place-requires
 learn-ma-tree-in-place-requires c κs =
-    let checked = c .before .before .before .before .before .before .before .before .before .before .before .before .before .before in
-    let passed = c .before .before .before .before .before .before .before .before .before .before .before .before .rows .given in
+    let checked = c .before .before .before .before .before .before .before .before .before .before .before .before .before in
+    let passed = c .before .before .before .before .before .before .before .before .before .before .before .rows .given in
     let given = start checked .args in
     let y = x checked (some-nodes checked) (some-spans checked) in
     let e = sym (answer checked (some-nodes checked) (some-spans checked) (nodes-are checked) (spans-are checked)) ∙ passed .1 in
     learnable (given .s) (given .logs .now) y (learn-passed (given .s) (given .logs .now) (lentIn y) (passed .0 .0) e .1) (n checked) (arrays-room (start checked .pre))
 
 finished-requires : tie.Need-finished-requires
-finished-requires c κs = c .before .before .before .before .before .before .before .before .before .before .before .before .before .before .before .before .before .before .learn-ma-tree-in-place .ensures .0 .few
+finished-requires c κs = c .before .before .before .before .before .before .before .before .before .before .before .before .before .before .before .before .learn-ma-tree-in-place .ensures .0 .few
 
 same-length : tie.Need-same-length
 same-length c = search needs
@@ -98,6 +101,9 @@ same-length-5 c = search needs
 same-length-6 : tie.Need-same-length-6
 same-length-6 c = search needs
 
+same-length-7 : tie.Need-same-length-7
+same-length-7 c = search needs
+
 returns : tie.Need-returns
 returns c =
     let checked = c .before .before .before .before in
@@ -112,19 +118,16 @@ returns c =
     )
 
 abbrev after-learning : tie.After-finished → tie.After-learn-ma-tree-in-place
-after-learning c = c .before .before .before .before .before .before .before .before .before .before .before .before .before .before .before .before .before .before .before
-
-same-length-7 : tie.Need-same-length-7
-same-length-7 c = after-learning c .learn-ma-tree-in-place .kept .1 .1 .1 .0
+after-learning c = c .before .before .before .before .before .before .before .before .before .before .before .before .before .before .before .before .before
 
 same-length-8 : tie.Need-same-length-8
-same-length-8 c = after-learning c .learn-ma-tree-in-place .kept .1 .1 .1 .1 .0
+same-length-8 c = after-learning c .learn-ma-tree-in-place .kept .1 .1 .1 .0
 
 same-length-9 : tie.Need-same-length-9
-same-length-9 c = after-learning c .learn-ma-tree-in-place .kept .1 .1 .1 .1 .1 .0
+same-length-9 c = after-learning c .learn-ma-tree-in-place .kept .1 .1 .1 .1 .0
 
 same-length-10 : tie.Need-same-length-10
-same-length-10 c = after-learning c .learn-ma-tree-in-place .kept .1 .1 .1 .1 .1 .1 .0
+same-length-10 c = after-learning c .learn-ma-tree-in-place .kept .1 .1 .1 .1 .1 .0
 
 same-length-11 : tie.Need-same-length-11
 same-length-11 c = after-learning c .learn-ma-tree-in-place .kept .0
@@ -136,25 +139,25 @@ same-length-13 : tie.Need-same-length-13
 same-length-13 c = after-learning c .learn-ma-tree-in-place .kept .1 .1 .0
 
 same-length-14 : tie.Need-same-length-14
-same-length-14 c = after-learning c .learn-ma-tree-in-place .kept .1 .1 .1 .1 .1 .1 .1 .0
+same-length-14 c = after-learning c .learn-ma-tree-in-place .kept .1 .1 .1 .1 .1 .1 .0
 
 same-length-15 : tie.Need-same-length-15
-same-length-15 c = after-learning c .learn-ma-tree-in-place .kept .1 .1 .1 .1 .1 .1 .1 .1 .0
+same-length-15 c = after-learning c .learn-ma-tree-in-place .kept .1 .1 .1 .1 .1 .1 .1 .0
 
 same-length-16 : tie.Need-same-length-16
-same-length-16 c = after-learning c .learn-ma-tree-in-place .kept .1 .1 .1 .1 .1 .1 .1 .1 .1 .0
+same-length-16 c = after-learning c .learn-ma-tree-in-place .kept .1 .1 .1 .1 .1 .1 .1 .1 .0
 
 same-length-17 : tie.Need-same-length-17
-same-length-17 c = after-learning c .learn-ma-tree-in-place .kept .1 .1 .1 .1 .1 .1 .1 .1 .1 .1 .0
+same-length-17 c = after-learning c .learn-ma-tree-in-place .kept .1 .1 .1 .1 .1 .1 .1 .1 .1 .0
 
 returns-2 : tie.Need-returns-2
 returns-2 c =
-    let checked = c .before .before .before .before .before .before .before .before .before .before .before .before .before .before .before .before .before .before .before .before .before .before .before .before .before .before .before .before .before .before .before .before .before .before in
-    let passed = c .before .before .before .before .before .before .before .before .before .before .before .before .before .before .before .before .before .before .before .before .before .before .before .before .before .before .before .before .before .before .before .before .rows .given in
+    let checked = c .before .before .before .before .before .before .before .before .before .before .before .before .before .before .before .before .before .before .before .before .before .before .before .before .before .before .before .before .before .before .before in
+    let passed = c .before .before .before .before .before .before .before .before .before .before .before .before .before .before .before .before .before .before .before .before .before .before .before .before .before .before .before .before .before .rows .given in
     let made = after-learning c .learn-ma-tree-in-place in
     let given = start checked .args in
     let t = settingsOf (given .s) in
-    let left = (nodeLists (made .last .1 .1 .1 .0) (made .last .1 .1 .1 .1 .0) (made .last .1 .1 .1 .1 .1 .0) (made .last .1 .1 .1 .1 .1 .1 .0)) in (
+    let left = nodeLists (made .last .1 .1 .1 .0) (made .last .1 .1 .1 .1 .0) (made .last .1 .1 .1 .1 .1 .0) in (
       let y = x checked (some-nodes checked) (some-spans checked) in
           let e = sym (answer checked (some-nodes checked) (some-spans checked) (nodes-are checked) (spans-are checked)) ∙ passed .1 in
           let p = learn-passed (given .s) (given .logs .now) (lentIn y) (passed .0 .0) e in
@@ -171,7 +174,7 @@ pub learn-on-spec : {M : Type 1} → statement M
 learn-on-spec =
     tie.close
     (tie.spec
-    queue-room-requires
+    rooms-of-requires
     check-learn-requires
     enum-known-number
     refused-requires
@@ -184,8 +187,8 @@ learn-on-spec =
     same-length-4
     same-length-5
     same-length-6
-    returns
     same-length-7
+    returns
     same-length-8
     same-length-9
     same-length-10
