@@ -1,11 +1,15 @@
 // Learning on rows with known answers: document 01's rows about limits and refusals, and the smallest job on which equal gains matter.
 // It prints how many cases of each kind were tried, how many came out wrong, and the first of these.
 ghost use Prim.Native.Nat.{_≤_};
+ghost use lib.ListN.{length};
+ghost use Rattle.layout.specs.Layout.{HasWords};
+ghost use Rattle.numbers.specs.Numbers.{Arrays};
 
 mod rooms;
 
 use answers::LearnedTree;
 use checks::Settings;
+use layout::NodeNumber;
 use tally::Tally;
 use tally::report;
 
@@ -40,17 +44,16 @@ fn learn_one_leaf(
     props: &mut [i32],
     tok: &mut [u8],
     res: &mut [i32],
+    counts: &mut [u32],
     logs: &[f32],
     s: Settings,
 ) -> LearnedTree {
     let mut words = rooms::words();
     let mut values = rooms::values();
     let mut costs = rooms::costs();
-    let mut spans = rooms::spans();
     let mut queue_words = [0u32; 3];
     let mut queue_values = [0i32; 1];
     let mut queue_gains = [0.0f32; 1];
-    let mut counts = rooms::counts();
     let work = numbers::learn_on(
         1,
         1,
@@ -59,14 +62,13 @@ fn learn_one_leaf(
         &mut words,
         &mut values,
         &mut costs,
-        &mut spans,
         props,
         tok,
         res,
         &mut queue_words,
         &mut queue_values,
         &mut queue_gains,
-        &mut counts,
+        counts,
     );
     work.tree
 }
@@ -79,11 +81,13 @@ fn zeros(cells: usize, tokens: usize) -> LearnedTree
     let mut props = rooms::many_properties();
     let mut tok = rooms::many_tokens();
     let mut res = [0i32; 0];
+    let mut counts = rooms::few_counts();
     let logs = rooms::many_logs();
     learn_one_leaf(
         &mut props[..cells],
         &mut tok[..tokens],
         &mut res,
+        &mut counts,
         &logs,
         settings(1, 1, 65535, false),
     )
@@ -97,34 +101,44 @@ fn row_limit() -> Tally {
 }
 
 // Nodes 2 and 3 offered two bits each: node 2 is split, and node 3 stays a leaf over rows 0 and 1.
-fn lower_is_split(words: &[u32; layout::MAX_WORDS], spans: &[u32; layout::MAX_SPAN_ROWS]) -> bool {
-    let split = (words[10] == 1) & (words[12] == 7) & (words[13] == 8);
-    split & (words[15] == 0) & (spans[6] == 0) & (spans[7] == 2)
+fn lower_is_split(words: &[u32]) -> bool
+    requires { ⌜ HasWords (now words) 4 ⌝ }
+{
+    let split = layout::is_split(words, NodeNumber(2));
+    let gt = layout::gt_of(words, NodeNumber(2));
+    let le = layout::le_of(words, NodeNumber(2));
+    let leaf = !layout::is_split(words, NodeNumber(3));
+    let span = layout::span_at(words, 3);
+    split & (gt == 7) & (le == 8) & leaf & (span.first == 0) & (span.end == 2)
 }
 
 // The smallest job on which equal gains matter, at the fifth leaf: whether learning grows so far.
-fn six_rows(max_leaves: u32, nodes: u32, bits: f64) -> bool {
+fn six_rows(
+    words: &mut [u32],
+    values: &mut [i32],
+    costs: &mut [f32],
+    max_leaves: u32,
+    nodes: u32,
+    bits: f64,
+) -> bool
+    requires { ⌜ Arrays (now words) (now values) (now costs) ⌝ }
+{
     let mut props = rooms::tied_properties();
     let mut tok = rooms::tied_tokens();
     let mut res = [0i32; 0];
-    let mut words = rooms::words();
-    let mut values = rooms::values();
-    let mut costs = rooms::costs();
-    let mut spans = rooms::spans();
     let mut queue_words = rooms::queue_words();
     let mut queue_values = rooms::queue_values();
     let mut queue_gains = rooms::queue_gains();
-    let mut counts = rooms::counts();
+    let mut counts = rooms::few_counts();
     let logs = rooms::true_logs();
     let work = numbers::learn_on(
         9,
         9,
         settings(17, max_leaves, 3, false),
         &logs,
-        &mut words,
-        &mut values,
-        &mut costs,
-        &mut spans,
+        words,
+        values,
+        costs,
         &mut props,
         &mut tok,
         &mut res,
@@ -133,17 +147,33 @@ fn six_rows(max_leaves: u32, nodes: u32, bits: f64) -> bool {
         &mut queue_gains,
         &mut counts,
     );
-    let tied = (max_leaves < 5) | lower_is_split(&words, &spans);
+    let tied = (max_leaves < 5) | lower_is_split(words);
     tied & is_grown(work.tree, nodes, max_leaves, bits, 6.754887580871582)
 }
 
+// The number lists are lent to one case after the other.
 fn growth() -> Tally {
+    let mut words = rooms::words();
+    let mut values = rooms::values();
+    let mut costs = rooms::costs();
     let t = Tally::none();
-    let t = t.with(six_rows(1, 1, 12.754888534545898), 1);
-    let t = t.with(six_rows(2, 3, 10.0), 2);
-    let t = t.with(six_rows(3, 5, 8.0), 3);
-    let t = t.with(six_rows(4, 7, 4.0), 4);
-    t.with(six_rows(5, 9, 2.0), 5)
+    let is = six_rows(
+        &mut words,
+        &mut values,
+        &mut costs,
+        1,
+        1,
+        12.754888534545898,
+    );
+    let t = t.with(is, 1);
+    let is = six_rows(&mut words, &mut values, &mut costs, 2, 3, 10.0);
+    let t = t.with(is, 2);
+    let is = six_rows(&mut words, &mut values, &mut costs, 3, 5, 8.0);
+    let t = t.with(is, 3);
+    let is = six_rows(&mut words, &mut values, &mut costs, 4, 7, 4.0);
+    let t = t.with(is, 4);
+    let is = six_rows(&mut words, &mut values, &mut costs, 5, 9, 2.0);
+    t.with(is, 5)
 }
 
 // One row, with its residual.
@@ -151,18 +181,21 @@ fn one_row(s: Settings) -> LearnedTree {
     let mut props = [0i32; 24];
     let mut tok = [0u8; 14];
     let mut res = [0i32; 1];
+    let mut counts = rooms::counts();
     let logs = [0.0f32; 2];
-    learn_one_leaf(&mut props, &mut tok, &mut res, &logs, s)
+    learn_one_leaf(&mut props, &mut tok, &mut res, &mut counts, &logs, s)
 }
 
 // Six rows of zeros over these tokens and logarithms.
 fn six(tok: &mut [u8], logs: &[f32]) -> LearnedTree {
     let mut props = rooms::properties();
     let mut res = [0i32; 0];
+    let mut counts = rooms::few_counts();
     learn_one_leaf(
         &mut props,
         tok,
         &mut res,
+        &mut counts,
         logs,
         settings(17, 1, 65535, false),
     )

@@ -1,4 +1,7 @@
 // The arrays. Functions make them, so that a proof sees their length and not their elements.
+ghost use Prim.Native.Nat.{_*_};
+ghost use Rattle.model.specs.Settings.{maxNodes};
+ghost use Rattle.layout.specs.Layout.{wordsPerNode, valuesPerNode};
 ghost use mathlib.Core.Path.{_≡_};
 ghost use lib.ListN.{length};
 
@@ -97,30 +100,24 @@ pub fn short_logs() -> [f32; 6]
 
 // The number lists of the nodes, for the largest tree.
 pub fn words() -> [u32; layout::MAX_WORDS]
-    ensures { λ r. ⌜ 40955 ≡ length r ⌝ }
+    ensures { λ r. ⌜ maxNodes * wordsPerNode ≡ length r ⌝ }
 {
     [0; layout::MAX_WORDS]
 }
 
 pub fn values() -> [i32; layout::MAX_VALUES]
-    ensures { λ r. ⌜ 16382 ≡ length r ⌝ }
+    ensures { λ r. ⌜ maxNodes * valuesPerNode ≡ length r ⌝ }
 {
     [0; layout::MAX_VALUES]
 }
 
 pub fn costs() -> [f32; layout::MAX_NODES]
-    ensures { λ r. ⌜ 8191 ≡ length r ⌝ }
+    ensures { λ r. ⌜ maxNodes ≡ length r ⌝ }
 {
     [0.0; layout::MAX_NODES]
 }
 
-pub fn spans() -> [u32; layout::MAX_SPAN_ROWS]
-    ensures { λ r. ⌜ 16382 ≡ length r ⌝ }
-{
-    [0; layout::MAX_SPAN_ROWS]
-}
-
-// Waiting leaves for five leaves, and count space for an alphabet of 128.
+// Waiting leaves for five leaves, and count space for alphabets of 17 and 128.
 pub fn queue_words() -> [u32; 15]
     ensures { λ r. ⌜ 15 ≡ length r ⌝ }
 {
@@ -143,4 +140,10 @@ pub fn counts() -> [u32; 16384]
     ensures { λ r. ⌜ 16384 ≡ length r ⌝ }
 {
     [0; 16384]
+}
+
+pub fn few_counts() -> [u32; 5504]
+    ensures { λ r. ⌜ 5504 ≡ length r ⌝ }
+{
+    [0; 5504]
 }

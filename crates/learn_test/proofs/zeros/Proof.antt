@@ -11,6 +11,9 @@ many-properties-requires c κs = search needs
 many-tokens-requires : tie.Need-many-tokens-requires
 many-tokens-requires c κs = search needs
 
+few-counts-requires : tie.Need-few-counts-requires
+few-counts-requires c κs = search needs
+
 many-logs-requires : tie.Need-many-logs-requires
 many-logs-requires c κs = search needs
 
@@ -32,6 +35,9 @@ slice-aggregate-learn-one-leaf-3 c = search needs
 slice-aggregate-learn-one-leaf-4 : tie.Need-slice-aggregate-learn-one-leaf-4
 slice-aggregate-learn-one-leaf-4 c = search needs
 
+slice-aggregate-learn-one-leaf-5 : tie.Need-slice-aggregate-learn-one-leaf-5
+slice-aggregate-learn-one-leaf-5 c = search needs
+
 settings-requires : tie.Need-settings-requires
 settings-requires c κs = search needs
 
@@ -47,6 +53,7 @@ zeros-spec =
     (tie.spec
     many-properties-requires
     many-tokens-requires
+    few-counts-requires
     many-logs-requires
     array-borrow-prefix-props
     slice-aggregate-learn-one-leaf
@@ -54,6 +61,7 @@ zeros-spec =
     slice-aggregate-learn-one-leaf-2
     slice-aggregate-learn-one-leaf-3
     slice-aggregate-learn-one-leaf-4
+    slice-aggregate-learn-one-leaf-5
     settings-requires
     learn-one-leaf-requires
     returns)

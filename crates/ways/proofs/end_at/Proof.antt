@@ -4,6 +4,9 @@ use borrow.Author.Tests.{le-ltb, lt-ltb}
 use Rattle.ways.proofs.end_at.Statement.{statement}
 use Rattle.ways.proofs.end_at.Tie as tie
 
+cast-if1 : tie.Need-cast-if1
+cast-if1 c = search needs
+
 refuse-requires : tie.Need-refuse-requires
 refuse-requires c κs = search needs
 
@@ -14,4 +17,4 @@ returns-2 : tie.Need-returns-2
 returns-2 c count ps = rw (c .before .before .before .pre, lt-ltb _ _ (c .if1 .left))
 
 pub end-at-spec : {M : Type 1} → statement M
-end-at-spec = tie.close (tie.spec refuse-requires returns returns-2)
+end-at-spec = tie.close (tie.spec cast-if1 refuse-requires returns returns-2)
