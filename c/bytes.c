@@ -65,7 +65,7 @@ static void lone_kind(struct call *c, uint32_t value) {
 static void seed(struct call *c, uint32_t value) {
     c->count = value;
     c->length[NODES] = value;
-    c->length[SPANS] = 2 * (size_t)value;
+    c->length[SPANS] = value;
     c->length[COUNTS] = ROWS + 2 * (size_t)value;
 }
 
@@ -212,16 +212,16 @@ static const struct job jobs[] = {
 
 /* ---- what is left of the lists */
 
-/* What acceptance does to a list: nothing; one or two entries for each that is written; all of it; zeros. */
-enum fate { KEPT, ONE_EACH, TWO_EACH, ALL, CLEARED };
+/* What acceptance does to a list: nothing; the entries that are written; all of it; zeros. */
+enum fate { KEPT, WRITTEN, ALL, CLEARED };
 
 static const enum fate grown[LISTS] = {
-    [NODES] = ONE_EACH,      [SPANS] = TWO_EACH,       [PROPS] = ALL,           [TOK] = ALL,        [RES] = ALL,
+    [NODES] = WRITTEN,       [SPANS] = WRITTEN,        [PROPS] = ALL,           [TOK] = ALL,        [RES] = ALL,
     [QUEUE_WORDS] = CLEARED, [QUEUE_VALUES] = CLEARED, [QUEUE_GAINS] = CLEARED, [COUNTS] = CLEARED,
 };
 static const enum fate looked_up[LISTS] = {KEPT};
-static const enum fate numbered[LISTS] = {[NUMBERS] = ONE_EACH, [QUEUE] = CLEARED};
-static const enum fate sampled[LISTS] = {[PICKED] = ONE_EACH};
+static const enum fate numbered[LISTS] = {[NUMBERS] = WRITTEN, [QUEUE] = CLEARED};
+static const enum fate sampled[LISTS] = {[PICKED] = WRITTEN};
 
 static const enum fate *const fates[OPERATIONS] = {grown, grown, looked_up, numbered, sampled};
 
@@ -249,8 +249,7 @@ static size_t written_bytes(const struct trial *t, enum list list) {
     if (t->job->number != 0) return 0;
     switch (fates[t->call->operation][list]) {
     case KEPT: return 0;
-    case ONE_EACH: return t->job->written * entry;
-    case TWO_EACH: return 2 * t->job->written * entry;
+    case WRITTEN: return t->job->written * entry;
     default: return list_bytes(t->call, list);
     }
 }

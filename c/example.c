@@ -20,7 +20,8 @@ struct rows {
 /* What learning is lent besides the rows. */
 struct room {
     ostrovuc_ma_node *nodes;
-    uint32_t *spans, *queue_words, *counts;
+    ostrovuc_span *spans;
+    uint32_t *queue_words, *counts;
     int32_t *queue_values;
     float *queue_gains, *logs;
 };
@@ -76,9 +77,10 @@ static void drop_room(struct room *room) {
 
 static ostrovuc_learned_tree learn(const ostrovuc_settings *s, struct rows *rows, struct room *room) {
     return ostrovuc_learn(
-        room->nodes, ostrovuc_nodes_length(s->max_leaves, 0), *s, room->logs, ostrovuc_logs_length(ROWS), rows->props, ROWS * OSTROVUC_PROPERTIES,
-        rows->tok, ROWS * OSTROVUC_PREDICTORS, rows->res, ROWS, room->spans, ostrovuc_spans_length(s->max_leaves, 0), room->queue_words,
-        ostrovuc_queue_words_length(s->max_leaves), room->queue_values, ostrovuc_queue_values_length(s->max_leaves), room->queue_gains,
+        room->nodes, ostrovuc_nodes_length(s->max_leaves, 0), room->spans, ostrovuc_spans_length(s->max_leaves, 0), *s,
+        room->logs, ostrovuc_logs_length(ROWS), rows->props, ROWS * OSTROVUC_PROPERTIES, rows->tok,
+        ROWS * OSTROVUC_PREDICTORS, rows->res, ROWS, room->queue_words, ostrovuc_queue_words_length(s->max_leaves),
+        room->queue_values, ostrovuc_queue_values_length(s->max_leaves), room->queue_gains,
         ostrovuc_queue_gains_length(s->max_leaves), room->counts, ostrovuc_counts_length(s, ROWS, 0));
 }
 
@@ -86,7 +88,7 @@ static void print_tree(ostrovuc_learned_tree tree, const struct room *room) {
     printf("%d rows: %u nodes, %u leaves, %.2f bits, flat %.2f\n", ROWS, tree.nodes, tree.leaves, tree.bits, tree.flat);
     for (uint32_t n = 0; n < tree.nodes; n++) {
         const ostrovuc_ma_node *node = &room->nodes[n];
-        printf("node %u, %u rows: ", n, room->spans[2 * n + 1] - room->spans[2 * n]);
+        printf("node %u, %u rows: ", n, room->spans[n].end - room->spans[n].first);
         if (node->kind == OSTROVUC_SPLIT)
             printf("property %u > %d leads to %u, else to %u\n", node->prop, node->val, node->gt, node->le);
         else

@@ -81,7 +81,8 @@ struct learning {
     int32_t *props, *res, *queue_values;
     uint8_t *tok;
     float *logs, *queue_gains;
-    uint32_t *spans, *queue_words, *counts;
+    ostrovuc_span *spans;
+    uint32_t *queue_words, *counts;
     size_t props_length, tok_length, res_length, logs_length, span_entries, queue_entries, counts_length;
     uint32_t seed_count, fill;
     struct nodes nodes;
@@ -122,12 +123,12 @@ static struct learning read_learning(struct reader *from) {
 /* Makes the lists that a job names by their length alone. */
 static void fill_lists(struct learning *job) {
     fill_nodes(&job->nodes, job->fill);
-    job->spans = new_list(2 * job->span_entries, sizeof *job->spans);
+    job->spans = new_list(job->span_entries, sizeof *job->spans);
     for (size_t i = 0; i < job->span_entries; i++) {
-        job->spans[2 * i] = job->fill + (uint32_t)i;
-        job->spans[2 * i + 1] = job->fill + (uint32_t)i + 1;
+        job->spans[i].first = job->fill + (uint32_t)i;
+        job->spans[i].end = job->fill + (uint32_t)i + 1;
     }
-    job->queue_words = filled(3 * job->queue_entries, job->fill);
+    job->queue_words = filled(OSTROVUC_QUEUE_WORDS * job->queue_entries, job->fill);
     job->queue_values = new_list(job->queue_entries, sizeof *job->queue_values);
     job->queue_gains = new_list(job->queue_entries, sizeof *job->queue_gains);
     for (size_t i = 0; i < job->queue_entries; i++) {
@@ -146,23 +147,26 @@ static ostrovuc_learned_tree run_learning(struct learning *job, bool deepens) {
     struct learning *j = job;
     if (deepens)
         return ostrovuc_deepen(
-            j->nodes.list, j->nodes.length, j->settings, j->seed_count, j->logs, j->logs_length, j->props, j->props_length, j->tok, j->tok_length,
-            j->res, j->res_length, j->spans, 2 * j->span_entries, j->queue_words, 3 * j->queue_entries, j->queue_values, j->queue_entries,
-            j->queue_gains, j->queue_entries, j->counts, j->counts_length);
+            j->nodes.list, j->nodes.length, j->spans, j->span_entries, j->settings, j->seed_count, j->logs,
+            j->logs_length, j->props, j->props_length, j->tok, j->tok_length, j->res, j->res_length, j->queue_words,
+            OSTROVUC_QUEUE_WORDS * j->queue_entries, j->queue_values, j->queue_entries, j->queue_gains,
+            j->queue_entries, j->counts, j->counts_length);
     return ostrovuc_learn(
-        j->nodes.list, j->nodes.length, j->settings, j->logs, j->logs_length, j->props, j->props_length, j->tok, j->tok_length, j->res, j->res_length,
-        j->spans, 2 * j->span_entries, j->queue_words, 3 * j->queue_entries, j->queue_values, j->queue_entries, j->queue_gains, j->queue_entries,
+        j->nodes.list, j->nodes.length, j->spans, j->span_entries, j->settings, j->logs, j->logs_length, j->props,
+        j->props_length, j->tok, j->tok_length, j->res, j->res_length, j->queue_words,
+        OSTROVUC_QUEUE_WORDS * j->queue_entries, j->queue_values, j->queue_entries, j->queue_gains, j->queue_entries,
         j->counts, j->counts_length);
 }
 
 /* A queue entry is 0 or untouched only if it is in all its parts. */
 static uint32_t printed_entry(const struct learning *job, size_t i) {
-    uint32_t parts[5];
-    memcpy(parts, &job->queue_words[3 * i], 3 * sizeof *parts);
-    memcpy(&parts[3], &job->queue_values[i], sizeof *parts);
-    memcpy(&parts[4], &job->queue_gains[i], sizeof *parts);
+    enum { WORDS = OSTROVUC_QUEUE_WORDS, PARTS = WORDS + 2 };
+    uint32_t parts[PARTS];
+    memcpy(parts, &job->queue_words[WORDS * i], WORDS * sizeof *parts);
+    memcpy(&parts[WORDS], &job->queue_values[i], sizeof *parts);
+    memcpy(&parts[WORDS + 1], &job->queue_gains[i], sizeof *parts);
     bool zero = true, untouched = true;
-    for (size_t k = 0; k < 5; k++) {
+    for (size_t k = 0; k < PARTS; k++) {
         zero = zero && parts[k] == 0;
         untouched = untouched && parts[k] == job->fill;
     }
@@ -172,7 +176,7 @@ static uint32_t printed_entry(const struct learning *job, size_t i) {
 static void write_lists(struct writer *to, const struct learning *job) {
     write_word(to, (uint32_t)job->nodes.length);
     for (size_t i = 0; i < job->nodes.length; i++) write_node(to, &job->nodes.list[i]);
-    write_list(to, job->spans, 2 * sizeof *job->spans, job->span_entries);
+    write_list(to, job->spans, sizeof *job->spans, job->span_entries);
     write_list(to, job->props, sizeof *job->props, job->props_length);
     write_list(to, job->tok, sizeof *job->tok, job->tok_length);
     write_list(to, job->res, sizeof *job->res, job->res_length);

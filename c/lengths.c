@@ -11,7 +11,7 @@
 enum { NODES, SPANS, QUEUE_WORDS, QUEUE_VALUES, QUEUE_GAINS, COUNTS, LOGS, LISTS };
 
 static const char *const names[LISTS] = {"nodes", "spans", "queue words", "queue values", "queue gains", "counts", "logarithms"};
-static const size_t entries[LISTS] = {sizeof(ostrovuc_ma_node), 4, 4, 4, 4, 4, 4};
+static const size_t entries[LISTS] = {sizeof(ostrovuc_ma_node), sizeof(ostrovuc_span), 4, 4, 4, 4, 4};
 
 /* A job whose rows are all alike: 0 in every property and token, no residuals. */
 struct job {
@@ -61,13 +61,13 @@ static uint32_t answer(const struct job *job, const size_t length[LISTS]) {
     ostrovuc_learned_tree tree;
     if (job->seed == 0)
         tree = ostrovuc_learn(
-            list[NODES], length[NODES], job->settings, list[LOGS], length[LOGS], props, props_length, tok, tok_length, NULL, 0, list[SPANS],
-            length[SPANS], list[QUEUE_WORDS], length[QUEUE_WORDS], list[QUEUE_VALUES], length[QUEUE_VALUES], list[QUEUE_GAINS],
+            list[NODES], length[NODES], list[SPANS], length[SPANS], job->settings, list[LOGS], length[LOGS], props,
+            props_length, tok, tok_length, NULL, 0, list[QUEUE_WORDS], length[QUEUE_WORDS], list[QUEUE_VALUES], length[QUEUE_VALUES], list[QUEUE_GAINS],
             length[QUEUE_GAINS], list[COUNTS], length[COUNTS]);
     else
         tree = ostrovuc_deepen(
-            list[NODES], length[NODES], job->settings, job->seed, list[LOGS], length[LOGS], props, props_length, tok, tok_length, NULL, 0,
-            list[SPANS], length[SPANS], list[QUEUE_WORDS], length[QUEUE_WORDS], list[QUEUE_VALUES], length[QUEUE_VALUES], list[QUEUE_GAINS],
+            list[NODES], length[NODES], list[SPANS], length[SPANS], job->settings, job->seed, list[LOGS], length[LOGS],
+            props, props_length, tok, tok_length, NULL, 0, list[QUEUE_WORDS], length[QUEUE_WORDS], list[QUEUE_VALUES], length[QUEUE_VALUES], list[QUEUE_GAINS],
             length[QUEUE_GAINS], list[COUNTS], length[COUNTS]);
     for (int i = 0; i < LISTS; i++) free(list[i]);
     free(props);

@@ -17,7 +17,7 @@ enum operation { LEARN, DEEPEN, LOOKUP, CONTEXTS, SAMPLE, OPERATIONS };
 
 /* The lists of learning and deepening, then those of contexts and of sampling. Lookup has some of the first. */
 enum list {
-    NODES, LOGS, PROPS, TOK, RES, SPANS, QUEUE_WORDS, QUEUE_VALUES, QUEUE_GAINS, COUNTS,
+    NODES, SPANS, LOGS, PROPS, TOK, RES, QUEUE_WORDS, QUEUE_VALUES, QUEUE_GAINS, COUNTS,
     NUMBERS, QUEUE,
     PICKED,
     LISTS
@@ -29,11 +29,11 @@ static const struct {
     size_t entry, spare;
 } lists[LISTS] = {
     [NODES] = {"nodes", sizeof(ostrovuc_ma_node), 5},
+    [SPANS] = {"spans", sizeof(ostrovuc_span), 7},
     [LOGS] = {"logs", sizeof(float), 2},
     [PROPS] = {"props", sizeof(int32_t), 0},
     [TOK] = {"tok", sizeof(uint8_t), 0},
     [RES] = {"res", sizeof(int32_t), 0},
-    [SPANS] = {"spans", sizeof(uint32_t), 7},
     [QUEUE_WORDS] = {"queue_words", sizeof(uint32_t), 2},
     [QUEUE_VALUES] = {"queue_values", sizeof(int32_t), 3},
     [QUEUE_GAINS] = {"queue_gains", sizeof(float), 1},
@@ -208,12 +208,12 @@ static ostrovuc_learned_tree grow(const struct call *c, void *const at[LISTS]) {
     const size_t *length = c->length;
     if (c->operation == LEARN)
         return ostrovuc_learn(
-            at[NODES], length[NODES], c->settings, at[LOGS], length[LOGS], at[PROPS], length[PROPS], at[TOK],
-            length[TOK], at[RES], length[RES], at[SPANS], length[SPANS], at[QUEUE_WORDS], length[QUEUE_WORDS],
+            at[NODES], length[NODES], at[SPANS], length[SPANS], c->settings, at[LOGS], length[LOGS], at[PROPS],
+            length[PROPS], at[TOK], length[TOK], at[RES], length[RES], at[QUEUE_WORDS], length[QUEUE_WORDS],
             at[QUEUE_VALUES], length[QUEUE_VALUES], at[QUEUE_GAINS], length[QUEUE_GAINS], at[COUNTS], length[COUNTS]);
     return ostrovuc_deepen(
-        at[NODES], length[NODES], c->settings, c->count, at[LOGS], length[LOGS], at[PROPS], length[PROPS], at[TOK],
-        length[TOK], at[RES], length[RES], at[SPANS], length[SPANS], at[QUEUE_WORDS], length[QUEUE_WORDS],
+        at[NODES], length[NODES], at[SPANS], length[SPANS], c->settings, c->count, at[LOGS], length[LOGS], at[PROPS],
+        length[PROPS], at[TOK], length[TOK], at[RES], length[RES], at[QUEUE_WORDS], length[QUEUE_WORDS],
         at[QUEUE_VALUES], length[QUEUE_VALUES], at[QUEUE_GAINS], length[QUEUE_GAINS], at[COUNTS], length[COUNTS]);
 }
 

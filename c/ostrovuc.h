@@ -79,6 +79,12 @@ typedef struct ostrovuc_ma_node {
     ostrovuc_node_info info;
 } ostrovuc_ma_node;
 
+/* The rows of a node: the first, and the one behind the last. */
+typedef struct ostrovuc_span {
+    uint32_t first;
+    uint32_t end;
+} ostrovuc_span;
+
 /* The settings of learning, with their ranges. */
 typedef struct ostrovuc_settings {
     uint32_t alphabet;       /* 1 to 256: every token is below it */
@@ -137,6 +143,7 @@ OSTROVUC_HOLDS(sizeof(bool) == 1, "a bool is one byte");
 OSTROVUC_HOLDS(sizeof(size_t) == 8, "a length is eight bytes");
 OSTROVUC_HOLDS(sizeof(ostrovuc_node_info) == 12, "three words");
 OSTROVUC_HOLDS(sizeof(ostrovuc_ma_node) == 32, "eight words");
+OSTROVUC_HOLDS(sizeof(ostrovuc_span) == 8, "two words");
 OSTROVUC_HOLDS(sizeof(ostrovuc_settings) == 36, "nine words");
 OSTROVUC_HOLDS(sizeof(ostrovuc_learned_tree) == 32, "four words and two doubles");
 OSTROVUC_HOLDS(sizeof(ostrovuc_leaf) == 16, "four words");
@@ -156,14 +163,16 @@ static inline size_t ostrovuc_nodes_length(uint32_t leaves, uint32_t seed) {
     return grown < seed ? seed : grown;
 }
 
-/* Spans: two numbers a node, its first row and its end row. */
+/* Spans: one for each node. */
 static inline size_t ostrovuc_spans_length(uint32_t leaves, uint32_t seed) {
-    return 2 * ostrovuc_nodes_length(leaves, seed);
+    return ostrovuc_nodes_length(leaves, seed);
 }
 
-/* The queue of waiting leaves: three words, one value and one gain each. */
+/* The queue of waiting leaves: so many words, one value and one gain each. */
+enum { OSTROVUC_QUEUE_WORDS = 3 };
+
 static inline size_t ostrovuc_queue_words_length(uint32_t leaves) {
-    return 3 * (size_t)leaves;
+    return OSTROVUC_QUEUE_WORDS * (size_t)leaves;
 }
 
 static inline size_t ostrovuc_queue_values_length(uint32_t leaves) {
@@ -197,12 +206,12 @@ static inline size_t ostrovuc_logs_length(size_t rows) {
  * Learns a tree from the rows. Refusals 1 to 7, in this order.
  *
  *   nodes     ostrovuc_nodes_length(max_leaves, 0): the tree, node 0 its root
+ *   spans     ostrovuc_spans_length(max_leaves, 0): the rows of each node
  *   logs      ostrovuc_logs_length(rows)
  *   props     24 a row; rows are moved so that each node's stand together
  *   tok       14 a row, moved with it; with residuals and modal offsets, column 0 is made anew from the residual and its leaf's mode (but pruning leaves it
  *             stale unless `settle` is on)
  *   res       one a row, moved with it; or none at all (length 0)
- *   spans     ostrovuc_spans_length(max_leaves, 0): first row and end row of each node
  *   queue_*   ostrovuc_queue_*_length(max_leaves): zeros after
  *   counts    ostrovuc_counts_length(&s, rows, 0): zeros after
  *
@@ -211,10 +220,10 @@ static inline size_t ostrovuc_logs_length(size_t rows) {
  * predictor 0 and the span (0, 0).
  */
 ostrovuc_learned_tree ostrovuc_learn(
-    ostrovuc_ma_node *nodes, size_t nodes_length, ostrovuc_settings s, const float *logs, size_t logs_length, int32_t *props, size_t props_length,
-    uint8_t *tok, size_t tok_length, int32_t *res, size_t res_length, uint32_t *spans, size_t spans_length, uint32_t *queue_words,
-    size_t queue_words_length, int32_t *queue_values, size_t queue_values_length, float *queue_gains, size_t queue_gains_length, uint32_t *counts,
-    size_t counts_length);
+    ostrovuc_ma_node *nodes, size_t nodes_length, ostrovuc_span *spans, size_t spans_length, ostrovuc_settings s,
+    const float *logs, size_t logs_length, int32_t *props, size_t props_length, uint8_t *tok, size_t tok_length,
+    int32_t *res, size_t res_length, uint32_t *queue_words, size_t queue_words_length, int32_t *queue_values,
+    size_t queue_values_length, float *queue_gains, size_t queue_gains_length, uint32_t *counts, size_t counts_length);
 
 /*
  * Deepens the seed, the tree of the first `count` nodes. Refusals 1 to 8, in this order. Lists as for learning, at the
@@ -223,10 +232,11 @@ ostrovuc_learned_tree ostrovuc_learn(
  * predictor and offset, with cost 0 and the span (0, 0).
  */
 ostrovuc_learned_tree ostrovuc_deepen(
-    ostrovuc_ma_node *nodes, size_t nodes_length, ostrovuc_settings s, uint32_t count, const float *logs, size_t logs_length, int32_t *props,
-    size_t props_length, uint8_t *tok, size_t tok_length, int32_t *res, size_t res_length, uint32_t *spans, size_t spans_length,
-    uint32_t *queue_words, size_t queue_words_length, int32_t *queue_values, size_t queue_values_length, float *queue_gains,
-    size_t queue_gains_length, uint32_t *counts, size_t counts_length);
+    ostrovuc_ma_node *nodes, size_t nodes_length, ostrovuc_span *spans, size_t spans_length, ostrovuc_settings s,
+    uint32_t count, const float *logs, size_t logs_length, int32_t *props, size_t props_length, uint8_t *tok,
+    size_t tok_length, int32_t *res, size_t res_length, uint32_t *queue_words, size_t queue_words_length,
+    int32_t *queue_values, size_t queue_values_length, float *queue_gains, size_t queue_gains_length, uint32_t *counts,
+    size_t counts_length);
 
 /*
  * The leaf that a row of 24 properties reaches in the tree of `count` nodes. Refusals 9, then 8: the count is 0 or beyond the list, or a node met on the way is

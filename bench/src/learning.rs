@@ -12,7 +12,7 @@ use stream::{PREDICTORS, Record, Settings, Span};
 struct Outcome {
     bits: [u64; 2],
     nodes: Vec<Record>,
-    spans: Vec<[u32; 2]>,
+    spans: Vec<Span>,
     tok: Vec<[u8; PREDICTORS]>,
     res: Vec<i32>,
 }
@@ -44,11 +44,10 @@ pub fn learning(sheet: &Sheet, settings: &Settings) {
 
 fn original(samples: MaSamples, settings: &Settings, scratch: &mut CoderScratch) -> Run<Outcome> {
     let (time, samples, tree) = timed(samples, |s| hooks::learn(s, settings, scratch));
-    let span = |&Span { first, end }| [first, end];
     let outcome = Outcome {
         bits: [tree.estimated_bits.to_bits(), tree.flat_bits.to_bits()],
         nodes: tree.nodes,
-        spans: tree.spans.iter().map(span).collect(),
+        spans: tree.spans,
         tok: samples.tok,
         res: samples.val,
     };
@@ -65,7 +64,7 @@ fn port(sheet: &Sheet, settings: &Settings, room: &mut Room) -> Run<Outcome> {
     let outcome = Outcome {
         bits: [tree.bits.to_bits(), tree.flat.to_bits()],
         nodes: jobs::records(&room.nodes[..nodes]),
-        spans: room.node_spans()[..nodes].to_vec(),
+        spans: jobs::spans(&room.spans[..nodes]),
         tok: rows.tok.as_chunks().0.to_vec(),
         res: rows.res,
     };

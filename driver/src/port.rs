@@ -75,8 +75,6 @@ mod c {
             values_length: usize,
             costs: *mut f32,
             costs_length: usize,
-            spans: *mut u32,
-            spans_length: usize,
             count: usize,
             price: f32,
         ) -> PrunedTree;
@@ -175,13 +173,12 @@ impl Rows {
     }
 }
 
-/// A tree in number lists. A node has five words (kind, property, gt, le, predictor), two values (threshold, offset), a
-/// cost and a span of two rows.
+/// A tree in number lists. A node has seven words (kind, property, gt, le, predictor, first row, end row), two values
+/// (threshold, offset) and a cost.
 pub struct Tree {
     pub words: Vec<u32>,
     pub values: Vec<i32>,
     pub costs: Vec<f32>,
-    pub spans: Vec<u32>,
 }
 
 impl Tree {
@@ -201,8 +198,6 @@ impl Tree {
                 self.values.len(),
                 self.costs.as_mut_ptr(),
                 self.costs.len(),
-                self.spans.as_mut_ptr(),
-                self.spans.len(),
                 self.costs.len(),
                 price,
             )

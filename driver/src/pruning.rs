@@ -1,19 +1,18 @@
 //! Pruning alone: a tree laid out in number lists, pruned, and read back whole.
 
 use driver::port::Tree;
-use stream::{PruneJob, Pruned, Record};
+use stream::{PruneJob, Pruned, Record, Span};
 
 /// Words of a node in number lists.
-const NODE_WORDS: usize = 5;
+const NODE_WORDS: usize = 7;
 
 pub fn prune(job: &PruneJob) -> Pruned {
     assert!(is_prunable(job), "no tree to prune");
-    let words = |r: &Record| [r.kind, r.prop, r.gt, r.le, r.pred];
+    let words = |(r, s): (&Record, &Span)| [r.kind, r.prop, r.gt, r.le, r.pred, s.first, s.end];
     let mut tree = Tree {
-        words: job.nodes.iter().flat_map(words).collect(),
+        words: job.nodes.iter().zip(&job.spans).flat_map(words).collect(),
         values: job.nodes.iter().flat_map(|r| [r.val, r.offset]).collect(),
         costs: job.nodes.iter().map(|r| f32::from_bits(r.cost)).collect(),
-        spans: jobs::flat_spans(&job.spans),
     };
     // SAFETY: asserted.
     let pruned = unsafe { tree.prune(job.price) };
@@ -21,7 +20,7 @@ pub fn prune(job: &PruneJob) -> Pruned {
         estimated_bits: pruned.bits,
         node_count: pruned.nodes as u32,
         nodes: records_of(&tree),
-        spans: jobs::spans(&tree.spans),
+        spans: spans_of(&tree),
     }
 }
 
@@ -43,7 +42,7 @@ fn records_of(tree: &Tree) -> Vec<Record> {
     let words = tree.words.as_chunks::<NODE_WORDS>().0;
     let values = tree.values.as_chunks::<2>().0;
     let record = |((words, values), cost): ((&[u32; NODE_WORDS], &[i32; 2]), &f32)| {
-        let (&[kind, prop, gt, le, pred], &[val, offset]) = (words, values);
+        let (&[kind, prop, gt, le, pred, _, _], &[val, offset]) = (words, values);
         Record {
             kind,
             prop,
@@ -57,4 +56,9 @@ fn records_of(tree: &Tree) -> Vec<Record> {
     };
     let both = words.iter().zip(values);
     both.zip(&tree.costs).map(record).collect()
+}
+
+fn spans_of(tree: &Tree) -> Vec<Span> {
+    let span = |&[.., first, end]: &[u32; NODE_WORDS]| Span { first, end };
+    tree.words.as_chunks().0.iter().map(span).collect()
 }

@@ -77,7 +77,7 @@ fn room_for(job: &Learning) -> Room {
     let fill = job.fill;
     let mut room = Room {
         nodes: records::nodes(&job.nodes.whole(fill)),
-        spans: records::flat_spans(&Span::list(job.span_entries, fill)),
+        spans: records::span_records(&Span::list(job.span_entries, fill)),
         ..Room::of_entries(Entries {
             nodes: 0,
             spans: 0,

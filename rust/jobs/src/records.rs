@@ -1,7 +1,7 @@
 //! The stream's settings, nodes and spans, to and from the port's.
 
-use ostrovuc::{MaNode, NodeInfo, Settings};
-use stream::{Record, Span};
+use ostrovuc::{MaNode, NodeInfo, Settings, Span};
+use stream::Record;
 
 pub fn settings(s: &stream::Settings) -> Settings {
     Settings {
@@ -56,15 +56,16 @@ fn record(node: &MaNode) -> Record {
     }
 }
 
-/// Spans from a list of numbers.
-pub fn spans(flat: &[u32]) -> Vec<Span> {
-    let span = |&[first, end]: &[u32; 2]| Span { first, end };
-    flat.as_chunks().0.iter().map(span).collect()
+/// The stream's spans.
+pub fn spans(spans: &[Span]) -> Vec<stream::Span> {
+    let span = |&Span { first, end }: &Span| stream::Span { first, end };
+    spans.iter().map(span).collect()
 }
 
-/// Spans as a list of numbers.
-pub fn flat_spans(spans: &[Span]) -> Vec<u32> {
-    spans.iter().flat_map(|s| [s.first, s.end]).collect()
+/// The port's spans.
+pub fn span_records(spans: &[stream::Span]) -> Vec<Span> {
+    let span = |&stream::Span { first, end }: &stream::Span| Span { first, end };
+    spans.iter().map(span).collect()
 }
 
 #[cfg(test)]
@@ -85,8 +86,9 @@ mod tests {
 
     #[test]
     fn spans_come_back() {
-        let pattern = Span::list(3, u32::MAX);
-        assert_eq!(flat_spans(&pattern), [u32::MAX, 0, 0, 1, 1, 2]);
-        assert_eq!(spans(&flat_spans(&pattern)), pattern);
+        let pattern = stream::Span::list(3, u32::MAX);
+        let given = [(u32::MAX, 0), (0, 1), (1, 2)].map(|(first, end)| Span { first, end });
+        assert_eq!(span_records(&pattern), given);
+        assert_eq!(spans(&span_records(&pattern)), pattern);
     }
 }

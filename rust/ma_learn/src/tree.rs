@@ -1,14 +1,14 @@
 //! A learnt tree, to be shown.
 
 use jobs::Run;
-use ostrovuc::{Learned, MaNode};
+use ostrovuc::{Learned, MaNode, Span};
 
 /// A tree with the rows of its nodes.
 pub struct Tree<'a> {
     pub learned: Learned,
     pub rows: usize,
     nodes: &'a [MaNode],
-    spans: &'a [[u32; 2]],
+    spans: &'a [Span],
 }
 
 /// How a node hangs from the one above it.
@@ -40,7 +40,7 @@ impl<'a> Tree<'a> {
             learned,
             rows: run.rows(),
             nodes: &run.room.nodes,
-            spans: run.room.node_spans(),
+            spans: &run.room.spans,
         })
     }
 
@@ -60,7 +60,7 @@ impl<'a> Tree<'a> {
                 waiting.push((node.le, depth + 1, Side::No));
                 waiting.push((node.gt, depth + 1, Side::Yes));
             }
-            let [first, end] = spans[number as usize];
+            let Span { first, end } = spans[number as usize];
             let rows = (first < end).then(|| end - first);
             Some(Place {
                 number,

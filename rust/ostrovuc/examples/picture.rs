@@ -54,10 +54,10 @@ fn print_tree(tree: &Learned, room: &Room) {
         "{ROWS} rows: {} nodes, {} leaves, {:.2} bits, flat {:.2}",
         tree.nodes, tree.leaves, tree.bits, tree.flat
     );
-    let nodes = room.nodes.iter().zip(room.node_spans());
+    let nodes = room.nodes.iter().zip(&room.spans);
     let nodes = nodes.take(tree.nodes as usize);
-    for (n, (node, [first, end])) in nodes.enumerate() {
-        println!("node {n}, {} rows: {}", end - first, in_words(node));
+    for (n, (node, span)) in nodes.enumerate() {
+        println!("node {n}, {} rows: {}", span.rows().len(), in_words(node));
     }
 }
 

@@ -1,7 +1,7 @@
 //! What crate `ma_tree` exports. A slice crosses over as two arguments, pointer and length; nothing more is asked of a caller.
 
 use crate::operations::Encoding;
-use crate::records::{MaNode, Settings};
+use crate::records::{MaNode, Settings, Span};
 
 /// A learned tree; number 0 says that there is one.
 #[repr(C)]
@@ -43,6 +43,8 @@ unsafe extern "C" {
     pub fn ostrovuc_learn(
         nodes: *mut MaNode,
         nodes_length: usize,
+        spans: *mut Span,
+        spans_length: usize,
         s: Settings,
         logs: *const f32,
         logs_length: usize,
@@ -52,8 +54,6 @@ unsafe extern "C" {
         tok_length: usize,
         res: *mut i32,
         res_length: usize,
-        spans: *mut u32,
-        spans_length: usize,
         queue_words: *mut u32,
         queue_words_length: usize,
         queue_values: *mut i32,
@@ -66,6 +66,8 @@ unsafe extern "C" {
     pub fn ostrovuc_deepen(
         nodes: *mut MaNode,
         nodes_length: usize,
+        spans: *mut Span,
+        spans_length: usize,
         s: Settings,
         count: u32,
         logs: *const f32,
@@ -76,8 +78,6 @@ unsafe extern "C" {
         tok_length: usize,
         res: *mut i32,
         res_length: usize,
-        spans: *mut u32,
-        spans_length: usize,
         queue_words: *mut u32,
         queue_words_length: usize,
         queue_values: *mut i32,

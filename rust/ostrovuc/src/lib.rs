@@ -32,6 +32,6 @@ pub use operations::{
     Encoding, Leaf, Learned, Lists, deepen, evenly_sampled_indices, leaf_contexts, learn, lookup,
     pack_signed, token_value, uint_encode,
 };
-pub use records::{MaNode, NodeInfo, Settings};
+pub use records::{MaNode, NodeInfo, Settings, Span};
 pub use refusal::Refusal;
 pub use room::{Entries, Room, logarithms};

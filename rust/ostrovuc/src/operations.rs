@@ -1,13 +1,15 @@
 //! The operations, over slices. Whatever they are handed, they answer or refuse, and a refusal changes no list.
 
 use crate::c;
-use crate::records::{MaNode, Settings};
+use crate::records::{MaNode, Settings, Span};
 use crate::refusal::Refusal;
 
 /// What learning and deepening are lent. `Room` has all but the rows, at the lengths that are due.
 pub struct Lists<'a> {
     /// The tree, node 0 its root.
     pub nodes: &'a mut [MaNode],
+    /// The rows of each node.
+    pub spans: &'a mut [Span],
     /// 24 a row; rows are moved so that each node's stand together.
     pub props: &'a mut [i32],
     /// 14 a row, moved with it; with residuals and modal offsets, column 0 is made anew from the residual and its leaf's mode, but pruning leaves it stale unless
@@ -15,8 +17,6 @@ pub struct Lists<'a> {
     pub tok: &'a mut [u8],
     /// One a row, moved with it; or none at all.
     pub res: &'a mut [i32],
-    /// Two a node: its first row and its end row.
-    pub spans: &'a mut [u32],
     /// Three a waiting leaf.
     pub queue_words: &'a mut [u32],
     /// One a waiting leaf.
@@ -60,6 +60,8 @@ macro_rules! call {
         unsafe { $export(
             $lists.nodes.as_mut_ptr(),
             $lists.nodes.len(),
+            $lists.spans.as_mut_ptr(),
+            $lists.spans.len(),
             *$settings,
             $($between,)?
             $logs.as_ptr(),
@@ -70,8 +72,6 @@ macro_rules! call {
             $lists.tok.len(),
             $lists.res.as_mut_ptr(),
             $lists.res.len(),
-            $lists.spans.as_mut_ptr(),
-            $lists.spans.len(),
             $lists.queue_words.as_mut_ptr(),
             $lists.queue_words.len(),
             $lists.queue_values.as_mut_ptr(),

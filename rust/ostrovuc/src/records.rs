@@ -1,4 +1,6 @@
-//! Nodes and settings, laid out as the library reads them.
+//! Nodes, spans and settings, laid out as the library reads them.
+
+use std::ops::Range;
 
 /// What stands beside a node: its cost in bits, its predictor and its offset.
 #[repr(C)]
@@ -62,6 +64,21 @@ impl MaNode {
     }
 }
 
+/// The rows of a node: the first, and the one behind the last.
+#[repr(C)]
+#[derive(Clone, Copy, Debug, Default, Eq, PartialEq)]
+pub struct Span {
+    pub first: u32,
+    pub end: u32,
+}
+
+impl Span {
+    /// The numbers of its rows.
+    pub const fn rows(&self) -> Range<usize> {
+        self.first as usize..self.end as usize
+    }
+}
+
 /// The settings of learning, in document 01's order; outside these ranges they are refused.
 #[repr(C)]
 #[derive(Clone, Copy, Debug, Default, PartialEq)]
@@ -93,4 +110,5 @@ pub struct Settings {
 // The sizes that crate `ma_tree` has for them.
 const _: () = assert!(size_of::<NodeInfo>() == 12);
 const _: () = assert!(size_of::<MaNode>() == 32);
+const _: () = assert!(size_of::<Span>() == 8);
 const _: () = assert!(size_of::<Settings>() == 36);

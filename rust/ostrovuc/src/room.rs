@@ -1,10 +1,8 @@
 //! Owned lists of the lengths that document 01 asks for, to be lent to learning and deepening.
 
 use crate::operations::Lists;
-use crate::records::{MaNode, Settings};
+use crate::records::{MaNode, Settings, Span};
 
-/// Numbers of a span: its first row and its end row.
-const SPAN_WORDS: usize = 2;
 /// Numbers of a waiting leaf in `queue_words`; `queue_values` and `queue_gains` have one more each.
 const QUEUE_WORDS: usize = 3;
 
@@ -12,7 +10,7 @@ const QUEUE_WORDS: usize = 3;
 #[derive(Clone, Debug, Default, PartialEq)]
 pub struct Room {
     pub nodes: Vec<MaNode>,
-    pub spans: Vec<u32>,
+    pub spans: Vec<Span>,
     pub queue_words: Vec<u32>,
     pub queue_values: Vec<i32>,
     pub queue_gains: Vec<f32>,
@@ -54,7 +52,7 @@ impl Room {
     pub fn of_entries(entries: Entries) -> Self {
         Self {
             nodes: vec![MaNode::default(); entries.nodes],
-            spans: vec![0; SPAN_WORDS * entries.spans],
+            spans: vec![Span::default(); entries.spans],
             queue_words: vec![0; QUEUE_WORDS * entries.queue],
             queue_values: vec![0; entries.queue],
             queue_gains: vec![0.0; entries.queue],
@@ -66,15 +64,10 @@ impl Room {
     pub fn entries(&self) -> Entries {
         Entries {
             nodes: self.nodes.len(),
-            spans: self.node_spans().len(),
+            spans: self.spans.len(),
             queue: self.queue_words.len() / QUEUE_WORDS,
             counts: self.counts.len(),
         }
-    }
-
-    /// Each node's span: its first row and its end row.
-    pub fn node_spans(&self) -> &[[u32; SPAN_WORDS]] {
-        self.spans.as_chunks().0
     }
 
     /// Each entry of the queue as the bits of all its numbers.
@@ -95,10 +88,10 @@ impl Room {
     ) -> Lists<'a> {
         Lists {
             nodes: &mut self.nodes,
+            spans: &mut self.spans,
             props,
             tok,
             res,
-            spans: &mut self.spans,
             queue_words: &mut self.queue_words,
             queue_values: &mut self.queue_values,
             queue_gains: &mut self.queue_gains,

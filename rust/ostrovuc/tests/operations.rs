@@ -3,8 +3,8 @@
 mod small;
 
 use ostrovuc::{
-    Entries, Leaf, MaNode, Room, Settings, deepen, evenly_sampled_indices, leaf_contexts, learn,
-    logarithms, lookup,
+    Entries, Leaf, MaNode, Room, Settings, Span, deepen, evenly_sampled_indices, leaf_contexts,
+    learn, logarithms, lookup,
 };
 use small::{Job, MARK, PREDICTORS, PROPERTIES, ROWS, properties, residual};
 use std::ops::Range;
@@ -31,9 +31,12 @@ fn rows_within(job: &Job, span: Range<usize>) -> Vec<([i32; PROPERTIES], i32)> {
     rows
 }
 
+fn spans<const N: usize>(rows: [(u32, u32); N]) -> [Span; N] {
+    rows.map(|(first, end)| Span { first, end })
+}
+
 fn span(job: &Job, node: usize) -> Range<usize> {
-    let [first, end] = job.room.node_spans()[node];
-    first as usize..end as usize
+    job.room.spans[node].rows()
 }
 
 #[test]
@@ -49,7 +52,7 @@ fn learning_splits_by_the_column() {
     assert_eq!((root.prop, root.val, root.gt, root.le), (3, 0, 1, 2));
     assert_eq!((above.info.pred, above.info.offset), (0, 20));
     assert_eq!((below.info.pred, below.info.offset), (0, 100));
-    assert_eq!(job.room.spans, [0, 12, 0, 6, 6, 12]);
+    assert_eq!(job.room.spans, spans([(0, 12), (0, 6), (6, 12)]));
 }
 
 #[test]
@@ -96,7 +99,7 @@ fn spaces_are_cleared_and_entries_past_the_tree_stay() {
         counts,
     } = job.room;
     assert_eq!(nodes[3..], before.nodes[3..]);
-    assert_eq!(spans[6..], before.spans[6..]);
+    assert_eq!(spans[3..], before.spans[3..]);
     assert!(queue_words.iter().chain(&counts).all(|&entry| entry == 0));
     assert!(queue_values.iter().all(|&entry| entry == 0));
     assert!(queue_gains.iter().all(|&entry| entry == 0.0));
@@ -110,7 +113,7 @@ fn pruning_vacates_what_growth_wrote() {
     let tree = job.learn().expect("a sound job");
     assert_eq!((tree.nodes, tree.leaves), (1, 1));
     assert_eq!(job.room.nodes[1..], [MaNode::leaf(0, 0); 6]);
-    assert_eq!(job.room.spans[2..], [0; 12]);
+    assert_eq!(job.room.spans[1..], [Span::default(); 6]);
 
     job.room = before.clone();
     job.settings.prune_leaf_bits = 0.0;
@@ -118,7 +121,7 @@ fn pruning_vacates_what_growth_wrote() {
     let tree = job.learn().expect("a sound job");
     assert_eq!((tree.nodes, tree.leaves), (1, 1));
     assert_eq!(job.room.nodes[1..], before.nodes[1..]);
-    assert_eq!(job.room.spans[2..], before.spans[2..]);
+    assert_eq!(job.room.spans[1..], before.spans[1..]);
 }
 
 #[test]
@@ -310,8 +313,6 @@ fn room_of_any_size_has_as_many_entries() {
     };
     let mut room = Room::of_entries(entries);
     assert_eq!(room.entries(), entries);
-    room.spans = vec![0, 9, 0, 4, 4, 9];
-    assert_eq!(room.node_spans(), [[0, 9], [0, 4], [4, 9]]);
     room.queue_words = vec![1, 2, 3, 4, 5, 6];
     room.queue_values[1] = -1;
     room.queue_gains[0] = 1.0;
@@ -329,6 +330,6 @@ fn room_is_bounded_whatever_the_settings() {
         ..Settings::default()
     };
     let room = Room::for_learning(&settings, 1);
-    assert_eq!((room.nodes.len(), room.spans.len()), (8_191, 16_382));
+    assert_eq!((room.nodes.len(), room.spans.len()), (8_191, 8_191));
     assert_eq!(room.counts.len(), 4_096 + 14 * 256 + 14 * 256 * 34);
 }

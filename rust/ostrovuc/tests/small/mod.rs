@@ -1,6 +1,6 @@
 //! A small job: the rows of a picture of two columns, which property 3 tells apart, and every list that learning is lent, filled with marks.
 
-use ostrovuc::{Learned, MaNode, Refusal, Room, Settings, deepen, learn, logarithms};
+use ostrovuc::{Learned, MaNode, Refusal, Room, Settings, Span, deepen, learn, logarithms};
 
 pub const PROPERTIES: usize = 24;
 pub const PREDICTORS: usize = 14;
@@ -99,7 +99,10 @@ fn marked(mut room: Room) -> Room {
         ..MaNode::split(MARK, 1, MARK, MARK)
     };
     room.nodes.fill(node);
-    room.spans.fill(MARK);
+    room.spans.fill(Span {
+        first: MARK,
+        end: MARK,
+    });
     room.queue_words.fill(MARK);
     room.queue_values.fill(7);
     room.queue_gains.fill(7.0);
