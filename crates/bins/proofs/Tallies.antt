@@ -158,7 +158,7 @@ summed-at stride (suc n) c b y room h l = go b (ℕ-discrete (b * stride + y) (s
 
 -- the next cell of a row is there, and not full
 pub tally-turn : (f : ℕ → ℕ) (lanes n : ℕ) (c cells : List ℕ) → ((j : ℕ) → j < lanes → f j < length c) → Low 920000 c → lanes ≤ toksPerRow → n < lanes → cells ≡ tallied f n c
-    → (f n < length cells) × (getD cells (f n) 0 ≤ 1000000)
+    → (f n < length cells) × (getD cells (f n) 0 < 4294967295)
 tally-turn f lanes n c cells h low few lt e =
     let long : length cells ≡ length c = ap length e ∙ tallied-length f n c in
     let held : getD cells (f n) 0 ≡ getD (tallied f n c) (f n) 0 = ap (λ (d : List ℕ). getD d (f n) 0) e in

@@ -66,7 +66,7 @@ pub record TokenFits (tok : List ℕ) (row : ℕ) (lane : Lane) (base : ℕ) (ce
   pub pred : lane .pred < toksPerRow
   pub from : lane .first ≤ getD tok (row * toksPerRow + lane .pred) 0
   pub room : placeIn lane tok base row < length cells
-  pub low : getD cells (placeIn lane tok base row) 0 ≤ 1000000
+  pub low : getD cells (placeIn lane tok base row) 0 < 4294967295
 
 -- a row's tokens lie in the windows, and their cells are there
 pub record InLanes (tok preds firsts offs : List ℕ) (base row size : ℕ) : Type 0 where

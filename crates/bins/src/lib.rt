@@ -1,5 +1,5 @@
-// Rows counted by the interval between two candidates that they fall into, and by token, in one pass; then summed from the lowest interval up
-// (document 01, "Scoring": values ≤ candidate and above; the Rust's `scan_split_plans`).
+// Rows counted by the interval between two candidates that they fall into, and by token, in one pass; then summed from
+// the lowest interval up (document 01, "Scoring": values ≤ candidate and above; the Rust's `scan_split_plans`).
 ghost use mathlib.Core.Path.{_≡_};
 ghost use mathlib.Core.Bool.{cond};
 ghost use Prim.Native.Nat.{_+_, _-_, _*_, _≤_, _<_};
@@ -7,17 +7,10 @@ ghost use lib.Signed.{ltZ};
 ghost use lib.ListN.{length, getD};
 ghost use Rattle.model.specs.Settings.{propsPerRow};
 ghost use Rattle.cost.specs.Histograms.{bumped, tallied};
-ghost use Rattle.bins.specs.Bins.{talliedRows, summed, binOf, laneCell, laneOf, placeIn, binCell, Low, RowsThere, TokenFits, InLanes, Lanes, SumsLow};
+ghost use Rattle.bins.specs.Bins.{talliedRows, summed, binOf, laneCell, laneOf, placeIn, binCell};
+ghost use Rattle.bins.specs.Bins.{Low, RowsThere, TokenFits, InLanes, Lanes, SumsLow};
 
-// One more in a cell.
-fn bump(cells: &mut [u32], at: usize)
-    requires { ⌜ (at < length (now cells)) × (getD (now cells) at 0 ≤ 1000000) ⌝ }
-    ensures { λ _. ⌜ now (cells .exit) ≡ bumped at (now (cells .entry)) ⌝ }
-{
-    cells[at] = cells[at] + 1;
-}
-
-// One more if the candidate lies below the value.
+// The bin so far, and one more if the candidate lies below the value.
 fn next_bin(bin: u32, candidate: i32, v: i32) -> u32
     requires { ⌜ bin ≤ 32 ⌝ }
     ensures { λ r. ⌜ r ≡ bin + cond (ltZ candidate v) 1 0 ⌝ }
@@ -25,7 +18,8 @@ fn next_bin(bin: u32, candidate: i32, v: i32) -> u32
     if candidate < v { bin + 1 } else { bin }
 }
 
-// How many candidates lie below the value: a plain count, which is faster than a search, since its turns do not depend on the value.
+// How many candidates lie below the value: a plain count, which is faster than a search, since its turns do not depend
+// on the value.
 fn bin_for(cands: &[i32], v: i32) -> u32
     requires { ⌜ length (now cands) ≤ 32 ⌝ }
     ensures { λ r. ⌜ r ≡ binOf (now (cands .entry)) v ⌝ }
@@ -49,11 +43,13 @@ fn scan_row(
 )
     requires { ⌜ InLanes (now tok) (now preds) (now firsts) (now offs) base row (length (now cells)) ⌝ }
     requires { ⌜ Low 920000 (now cells) ⌝ }
-    ensures { λ _. ⌜ now (cells .exit) ≡ tallied (laneCell (now (tok .entry)) (now (preds .entry)) (now (firsts .entry)) (now (offs .entry)) base row) (length (now (preds .entry))) (now (cells .entry)) ⌝ }
+    ensures { λ _. ⌜ now (cells .exit) ≡ tallied
+        (laneCell (now (tok .entry)) (now (preds .entry)) (now (firsts .entry)) (now (offs .entry)) base row)
+        (length (now (preds .entry))) (now (cells .entry)) ⌝ }
 {
     for j in 0..preds.len() {
-        let token = tok[row * 14 + preds[j] as usize] as usize;
-        bump(
+        let token = tok[row * model::NUM_MA_PREDS + preds[j] as usize] as usize;
+        cost::bump(
             cells,
             base + offs[j] as usize + (token - firsts[j] as usize),
         );
@@ -75,14 +71,18 @@ fn scan_any(
     cells: &mut [u32],
 )
     requires { ⌜ RowsThere (now props) (now tok) first rows ⌝ }
-    requires { ⌜ (prop < propsPerRow) × (length (now cands) ≤ 32) × ((length (now cands) + 1) * stride ≤ length (now cells)) ⌝ }
+    requires { ⌜ (prop < propsPerRow) × (length (now cands) ≤ 32)
+        × ((length (now cands) + 1) * stride ≤ length (now cells)) ⌝ }
     requires { ⌜ Lanes (now tok) first rows (now preds) (now firsts) (now offs) stride ⌝ }
     requires { ⌜ Low 0 (now cells) ⌝ }
-    ensures { λ _. ⌜ now (cells .exit) ≡ talliedRows (binCell (now (props .entry)) (now (tok .entry)) first prop (now (cands .entry)) (now (preds .entry)) (now (firsts .entry)) (now (offs .entry)) stride) (length (now (preds .entry))) rows (now (cells .entry)) ⌝ }
+    ensures { λ _. ⌜ now (cells .exit) ≡ talliedRows
+        (binCell (now (props .entry)) (now (tok .entry)) first prop (now (cands .entry))
+        (now (preds .entry)) (now (firsts .entry)) (now (offs .entry)) stride)
+        (length (now (preds .entry))) rows (now (cells .entry)) ⌝ }
 {
     for k in 0..rows {
         let row = first + k;
-        let bin = bin_for(cands, props[row * 24 + prop]) as usize;
+        let bin = bin_for(cands, props[row * model::NUM_MA_PROPS + prop]) as usize;
         scan_row(tok, row, preds, firsts, offs, bin * stride, cells);
     }
 }
@@ -94,7 +94,7 @@ pub struct Lane {
     pub off: usize,
 }
 
-// Side predictor j.
+// Side predictor j with its window.
 fn lane_at(preds: &[u32], firsts: &[u32], offs: &[u32], j: usize) -> Lane
     requires { ⌜ (j < length (now preds)) × (j < length (now firsts)) × (j < length (now offs)) ⌝ }
     ensures { λ r. ⌜ r ≡ laneOf (now (preds .entry)) (now (firsts .entry)) (now (offs .entry)) j ⌝ }
@@ -112,11 +112,12 @@ fn count_token(tok: &[u8], row: usize, lane: Lane, base: usize, cells: &mut [u32
     ensures { λ _. ⌜ now (cells .exit) ≡ bumped (placeIn lane (now (tok .entry)) base row) (now (cells .entry)) ⌝ }
 {
     let pred = lane.pred;
-    let token = tok[row * 14 + pred] as usize;
-    bump(cells, base + lane.off + (token - lane.first));
+    let token = tok[row * model::NUM_MA_PREDS + pred] as usize;
+    cost::bump(cells, base + lane.off + (token - lane.first));
 }
 
-// The same for four side predictors, which is the usual number: what is known of them is read once, before the rows.
+// Counts the span's rows by the property's bins for four side predictors, which is the usual number: what is known of
+// them is read once, before the rows.
 fn scan_four(
     props: &[i32],
     tok: &[u8],
@@ -131,11 +132,15 @@ fn scan_four(
     cells: &mut [u32],
 )
     requires { ⌜ RowsThere (now props) (now tok) first rows ⌝ }
-    requires { ⌜ (prop < propsPerRow) × (length (now cands) ≤ 32) × ((length (now cands) + 1) * stride ≤ length (now cells)) ⌝ }
+    requires { ⌜ (prop < propsPerRow) × (length (now cands) ≤ 32)
+        × ((length (now cands) + 1) * stride ≤ length (now cells)) ⌝ }
     requires { ⌜ Lanes (now tok) first rows (now preds) (now firsts) (now offs) stride ⌝ }
     requires { ⌜ Low 0 (now cells) ⌝ }
     requires { ⌜ length (now preds) ≡ 4 ⌝ }
-    ensures { λ _. ⌜ now (cells .exit) ≡ talliedRows (binCell (now (props .entry)) (now (tok .entry)) first prop (now (cands .entry)) (now (preds .entry)) (now (firsts .entry)) (now (offs .entry)) stride) (length (now (preds .entry))) rows (now (cells .entry)) ⌝ }
+    ensures { λ _. ⌜ now (cells .exit) ≡ talliedRows
+        (binCell (now (props .entry)) (now (tok .entry)) first prop (now (cands .entry))
+        (now (preds .entry)) (now (firsts .entry)) (now (offs .entry)) stride)
+        (length (now (preds .entry))) rows (now (cells .entry)) ⌝ }
 {
     let a = lane_at(preds, firsts, offs, 0);
     let b = lane_at(preds, firsts, offs, 1);
@@ -143,7 +148,7 @@ fn scan_four(
     let d = lane_at(preds, firsts, offs, 3);
     for k in 0..rows {
         let row = first + k;
-        let bin = bin_for(cands, props[row * 24 + prop]) as usize;
+        let bin = bin_for(cands, props[row * model::NUM_MA_PROPS + prop]) as usize;
         let base = bin * stride;
         count_token(tok, row, a, base, cells);
         count_token(tok, row, b, base, cells);
@@ -167,10 +172,14 @@ pub fn scan_split_plan(
     cells: &mut [u32],
 )
     requires { ⌜ RowsThere (now props) (now tok) first rows ⌝ }
-    requires { ⌜ (prop < propsPerRow) × (length (now cands) ≤ 32) × ((length (now cands) + 1) * stride ≤ length (now cells)) ⌝ }
+    requires { ⌜ (prop < propsPerRow) × (length (now cands) ≤ 32)
+        × ((length (now cands) + 1) * stride ≤ length (now cells)) ⌝ }
     requires { ⌜ Lanes (now tok) first rows (now preds) (now firsts) (now offs) stride ⌝ }
     requires { ⌜ Low 0 (now cells) ⌝ }
-    ensures { λ _. ⌜ now (cells .exit) ≡ talliedRows (binCell (now (props .entry)) (now (tok .entry)) first prop (now (cands .entry)) (now (preds .entry)) (now (firsts .entry)) (now (offs .entry)) stride) (length (now (preds .entry))) rows (now (cells .entry)) ⌝ }
+    ensures { λ _. ⌜ now (cells .exit) ≡ talliedRows
+        (binCell (now (props .entry)) (now (tok .entry)) first prop (now (cands .entry))
+        (now (preds .entry)) (now (firsts .entry)) (now (offs .entry)) stride)
+        (length (now (preds .entry))) rows (now (cells .entry)) ⌝ }
 {
     if preds.len() == 4 {
         scan_four(

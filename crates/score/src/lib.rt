@@ -1,4 +1,5 @@
-// The score of one property at a node: its best threshold, and what both sides of it cost (document 01, "Scoring"; the Rust's `score_split_plan`).
+// The score of one property at a node: its best threshold, and what both sides of it cost
+// (document 01, "Scoring"; the Rust's `score_split_plan`).
 ghost use mathlib.Core.Path.{_≡_};
 ghost use mathlib.Core.List.{List};
 ghost use Prim.Native.Nat.{ℕ, _+_, _-_, _*_, _≤_, _<_};
@@ -59,9 +60,11 @@ fn score_at(
     logs: &[f32],
     k: usize,
 ) -> Score
-    requires { ⌜ Binned (now cells) (now node) alphabet (now preds) (now firsts) (now offs) (now extras) stride total (length (now cands)) (now logs) ⌝ }
+    requires { ⌜ Binned (now cells) (now node) alphabet (now preds) (now firsts) (now offs) (now extras)
+        stride total (length (now cands)) (now logs) ⌝ }
     requires { ⌜ k < length (now cands) ⌝ }
-    ensures { λ r. ⌜ scoreIs r ≡ scoredAt (now (cells .entry)) (now (node .entry)) alphabet (now (preds .entry)) (now (firsts .entry)) (now (offs .entry)) stride total (now (cands .entry)) (now (logs .entry)) k ⌝ }
+    ensures { λ r. ⌜ scoreIs r ≡ scoredAt (now (cells .entry)) (now (node .entry)) alphabet (now (preds .entry))
+        (now (firsts .entry)) (now (offs .entry)) stride total (now (cands .entry)) (now (logs .entry)) k ⌝ }
 {
     // every row has one token in the first window
     let base = k * stride;
@@ -105,8 +108,11 @@ fn score_split_plan(
     cands: &[i32],
     logs: &[f32],
 ) -> Score
-    requires { ⌜ Binned (now cells) (now node) alphabet (now preds) (now firsts) (now offs) (now extras) stride total (length (now cands)) (now logs) ⌝ }
-    ensures { λ r. ⌜ scoreIs r ≡ scoredTo (scoredAt (now (cells .entry)) (now (node .entry)) alphabet (now (preds .entry)) (now (firsts .entry)) (now (offs .entry)) stride total (now (cands .entry)) (now (logs .entry))) (length (now (cands .entry))) ⌝ }
+    requires { ⌜ Binned (now cells) (now node) alphabet (now preds) (now firsts) (now offs) (now extras)
+        stride total (length (now cands)) (now logs) ⌝ }
+    ensures { λ r. ⌜ scoreIs r ≡ scoredTo
+        (scoredAt (now (cells .entry)) (now (node .entry)) alphabet (now (preds .entry)) (now (firsts .entry))
+        (now (offs .entry)) stride total (now (cands .entry)) (now (logs .entry))) (length (now (cands .entry))) ⌝ }
 {
     let mut best = Score::Nothing;
     for k in 0..cands.len() {
@@ -132,7 +138,8 @@ fn score_split_plan(
 // The extra bits of the node's rows under each side predictor.
 fn set_extras(node: &[u32], alphabet: usize, preds: &[u32], extras: &mut [u32])
     requires { ⌜ ExtrasFit (now node) alphabet (now preds) (now extras) ⌝ }
-    ensures { λ _. ⌜ Extras (now (node .entry)) alphabet (now (preds .entry)) (now (extras .exit)) (length (now (preds .entry))) ⌝ }
+    ensures { λ _. ⌜ Extras (now (node .entry)) alphabet (now (preds .entry)) (now (extras .exit))
+        (length (now (preds .entry))) ⌝ }
 {
     for j in 0..preds.len() {
         let start = preds[j] as usize * alphabet;
@@ -141,7 +148,7 @@ fn set_extras(node: &[u32], alphabet: usize, preds: &[u32], extras: &mut [u32])
     }
 }
 
-// The score in room of just the bins' length, which is all zeros before and after.
+// The score of one property in room of just the bins' length, which is all zeros before and after.
 fn score_in(
     props: &[i32],
     tok: &[u8],
@@ -158,12 +165,15 @@ fn score_in(
     logs: &[f32],
     room: &mut [u32],
 ) -> Score
-    requires { ⌜ Scorable (now props) (now tok) first end prop (now cands) (now preds) alphabet (now node) (now logs) ⌝ }
+    requires { ⌜ Scorable (now props) (now tok) first end prop (now cands) (now preds) alphabet (now node)
+        (now logs) ⌝ }
     requires { ⌜ Windows (now node) alphabet (now preds) (now firsts) (now offs) ⌝ }
     requires { ⌜ stride ≡ getD (now offs) (length (now preds)) 0 ⌝ }
     requires { ⌜ now room ≡ replicate ((length (now cands) + 1) * stride) 0 ⌝ }
-    ensures { λ r. ⌜ ((t : Settings singles) (rows : ℕ) (rs : List ℤ) → t .alphabet ≡ alphabet → end ≤ rows → scoreIs r ≡ scoreOf t (now (logs .entry)) (now (preds .entry)) prop (within (spanOf first end) (rowsOf rows (now (props .entry)) (now (tok .entry)) rs)) (now (cands .entry))) ⌝ }
-    ensures { λ _. ⌜ now (room .exit) ≡ now (room .entry) ⌝ }
+    ensures answer { λ r. ⌜ ((t : Settings singles) (rows : ℕ) (rs : List ℤ) → t .alphabet ≡ alphabet → end ≤ rows
+        → scoreIs r ≡ scoreOf t (now (logs .entry)) (now (preds .entry)) prop
+        (within (spanOf first end) (rowsOf rows (now (props .entry)) (now (tok .entry)) rs)) (now (cands .entry))) ⌝ }
+    ensures zeros { λ _. ⌜ now (room .exit) ≡ now (room .entry) ⌝ }
 {
     let rows = end - first;
     bins::scan_split_plan(
@@ -180,7 +190,7 @@ fn score_in(
         room,
     );
     bins::accumulate(room, stride, cands.len() * stride);
-    let mut extras = [0u32; 14];
+    let mut extras = [0u32; model::NUM_MA_PREDS];
     set_extras(node, alphabet, preds, &mut extras);
     let score = score_split_plan(
         room,
@@ -199,8 +209,8 @@ fn score_in(
     score
 }
 
-// The score of one property over the span's rows: the candidates ascend, `node` has the span's histograms, and the windows are the side predictors'.
-// The room is all zeros, before and after; only the bins' part of it is touched.
+// The score of one property over the span's rows: the candidates ascend, `node` has the span's histograms, and the
+// windows are the side predictors'. The room is all zeros, before and after; only the bins' part of it is touched.
 pub fn score_property(
     props: &[i32],
     tok: &[u8],
@@ -216,11 +226,14 @@ pub fn score_property(
     logs: &[f32],
     room: &mut [u32],
 ) -> Score
-    requires { ⌜ Scorable (now props) (now tok) first end prop (now cands) (now preds) alphabet (now node) (now logs) ⌝ }
+    requires { ⌜ Scorable (now props) (now tok) first end prop (now cands) (now preds) alphabet (now node)
+        (now logs) ⌝ }
     requires { ⌜ Windows (now node) alphabet (now preds) (now firsts) (now offs) ⌝ }
     requires { ⌜ Spare (length (now preds)) alphabet (length (now cands)) (now room) ⌝ }
-    ensures { λ r. ⌜ ((t : Settings singles) (rows : ℕ) (rs : List ℤ) → t .alphabet ≡ alphabet → end ≤ rows → scoreIs r ≡ scoreOf t (now (logs .entry)) (now (preds .entry)) prop (within (spanOf first end) (rowsOf rows (now (props .entry)) (now (tok .entry)) rs)) (now (cands .entry))) ⌝ }
-    ensures { λ _. ⌜ now (room .exit) ≡ now (room .entry) ⌝ }
+    ensures answer { λ r. ⌜ ((t : Settings singles) (rows : ℕ) (rs : List ℤ) → t .alphabet ≡ alphabet → end ≤ rows
+        → scoreIs r ≡ scoreOf t (now (logs .entry)) (now (preds .entry)) prop
+        (within (spanOf first end) (rowsOf rows (now (props .entry)) (now (tok .entry)) rs)) (now (cands .entry))) ⌝ }
+    ensures zeros { λ _. ⌜ now (room .exit) ≡ now (room .entry) ⌝ }
 {
     let last = preds.len();
     let stride = offs[last] as usize;

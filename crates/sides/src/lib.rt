@@ -1,4 +1,5 @@
-// What both sides of a threshold cost under each side predictor, in one sweep over a window, and the lowest of each (document 01, "Scoring": a side's cost).
+// What both sides of a threshold cost under each side predictor, in one sweep over a window, and the lowest of each
+// (document 01, "Scoring": a side's cost).
 ghost use mathlib.Core.Path.{_≡_};
 ghost use Prim.Native.Nat.{_+_, _-_, _*_, _≤_, _<_};
 ghost use lib.ListN.{length};
@@ -48,7 +49,7 @@ pub fn window_extra(counts: &[u32], first: usize) -> u32
     extra
 }
 
-// Both sides' costs: the entropies, then the extra bits, of which the node has `extra`.
+// Both sides' costs under one predictor: the entropies, then the extra bits, of which the node has `extra`.
 fn window_costs(
     left: &[u32],
     node: &[u32],
@@ -77,7 +78,7 @@ fn lower_cost(best: f32, next: f32) -> f32
     if next < best { next } else { best }
 }
 
-// The same for each side.
+// The lower of two costs, for each side.
 fn lower_sides(best: Sides, next: Sides) -> Sides
     ensures { λ r. ⌜ r ≡ lowerSides best next ⌝ }
 {
@@ -103,9 +104,12 @@ fn try_predictor(
     logs: &[f32],
     j: usize,
 ) -> Sides
-    requires { ⌜ Ready (now cells) (now node) alphabet (now preds) (now firsts) (now offs) (now extras) base (now logs) ⌝ }
+    requires { ⌜ Ready (now cells) (now node) alphabet (now preds) (now firsts) (now offs) (now extras)
+        base (now logs) ⌝ }
     requires { ⌜ j < length (now preds) ⌝ }
-    ensures { λ r. ⌜ r ≡ lowerSides best (laneAt (now (cells .entry)) (now (node .entry)) alphabet (now (preds .entry)) (now (firsts .entry)) (now (offs .entry)) base «log_le» «log_gt» (now (logs .entry)) j) ⌝ }
+    ensures { λ r. ⌜ r ≡ lowerSides best
+        (laneAt (now (cells .entry)) (now (node .entry)) alphabet (now (preds .entry)) (now (firsts .entry))
+        (now (offs .entry)) base «log_le» «log_gt» (now (logs .entry)) j) ⌝ }
 {
     let first = firsts[j] as usize;
     let from = preds[j] as usize * alphabet + first;
@@ -138,8 +142,11 @@ pub fn lowest_sides(
     log_gt: f32,
     logs: &[f32],
 ) -> Sides
-    requires { ⌜ Ready (now cells) (now node) alphabet (now preds) (now firsts) (now offs) (now extras) base (now logs) ⌝ }
-    ensures { λ r. ⌜ r ≡ lowestTo (laneAt (now (cells .entry)) (now (node .entry)) alphabet (now (preds .entry)) (now (firsts .entry)) (now (offs .entry)) base «log_le» «log_gt» (now (logs .entry))) (length (now (preds .entry))) ⌝ }
+    requires { ⌜ Ready (now cells) (now node) alphabet (now preds) (now firsts) (now offs) (now extras)
+        base (now logs) ⌝ }
+    ensures { λ r. ⌜ r ≡ lowestTo
+        (laneAt (now (cells .entry)) (now (node .entry)) alphabet (now (preds .entry)) (now (firsts .entry))
+        (now (offs .entry)) base «log_le» «log_gt» (now (logs .entry))) (length (now (preds .entry))) ⌝ }
 {
     let mut best = Sides {
         le: ieee::infinity(),

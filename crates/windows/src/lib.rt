@@ -1,4 +1,5 @@
-// The window of each side predictor: the tokens that it has at a node (document 01, "Scoring"; the Rust's `SymbolWindow`).
+// The window of each side predictor: the tokens that it has at a node
+// (document 01, "Scoring"; the Rust's `SymbolWindow`).
 ghost use mathlib.Core.Path.{_≡_};
 ghost use Prim.Native.Nat.{_+_, _-_, _*_, _≤_, _<_};
 ghost use lib.ListN.{length};
@@ -12,7 +13,7 @@ pub struct Window {
 
 // A window with one token more, if it is counted.
 fn widen(w: Window, token: usize, count: u32) -> Window
-    requires { ⌜ token < 65536 ⌝ }
+    requires { ⌜ token < 256 ⌝ }
     ensures { λ r. ⌜ r ≡ widened w token count ⌝ }
 {
     if count == 0 {
@@ -42,8 +43,8 @@ fn window_of(hist: &[u32]) -> Window
     w
 }
 
-// The windows of the side predictors in the node's histograms, packed one after the other: the first token of each, and where it starts. After the
-// last start stands the length of a bin.
+// The windows of the side predictors in the node's histograms, packed one after the other: the first token of each, and
+// where it starts. After the last start stands the length of a bin.
 pub fn set_windows(
     node: &[u32],
     alphabet: usize,
@@ -52,7 +53,8 @@ pub fn set_windows(
     offs: &mut [u32],
 )
     requires { ⌜ Windowable (now node) alphabet (now preds) (now firsts) (now offs) ⌝ }
-    ensures { λ _. ⌜ Windows (now (node .entry)) alphabet (now (preds .entry)) (now (firsts .exit)) (now (offs .exit)) ⌝ }
+    ensures { λ _. ⌜ Windows (now (node .entry)) alphabet (now (preds .entry))
+        (now (firsts .exit)) (now (offs .exit)) ⌝ }
 {
     offs[0] = 0;
     for j in 0..preds.len() {
