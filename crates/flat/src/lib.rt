@@ -1,4 +1,5 @@
-// Flat bits (document 01, "Flat bits"; the Rust's `flat_cost`): the rows grouped by property 0, and the groups' lowest costs added in double precision.
+// Flat bits (document 01, "Flat bits"; the Rust's `flat_cost`): the rows grouped by property 0, and the groups' lowest
+// costs added in double precision.
 ghost use mathlib.Core.Path.{_≡_};
 ghost use mathlib.Core.List.{List};
 ghost use Prim.Native.Nat.{_*_, _<_};
@@ -9,9 +10,10 @@ ghost use Rattle.model.specs.Settings.{Settings};
 ghost use Rattle.model.specs.Flat.{clamped, flatBits};
 ghost use Rattle.model.specs.Rows.{rowsOf};
 ghost use Rattle.cost.specs.Predictors.{Uses};
-ghost use Rattle.flat.specs.Flat.{RowsFit, GroupsEmpty, CountsGroups, withGroupBits, groupsBits, GroupsCounted, FlatFits};
+ghost use Rattle.flat.specs.Flat.{RowsFit, GroupsEmpty, CountsGroups, withGroupBits, groupsBits};
+ghost use Rattle.flat.specs.Flat.{GroupsCounted, FlatFits};
 
-// Property 0 held to 0 to 3.
+// The flat group of a row: its property 0, held to 0 to 3.
 fn group_of(v: i32) -> usize
     ensures { λ r. ⌜ r ≡ clamped v ⌝ }
 {
@@ -35,12 +37,19 @@ fn count_groups(
 )
     requires { ⌜ RowsFit (now props) (now tok) rows alphabet ⌝ }
     requires { ⌜ GroupsEmpty alphabet (now hist) (now sizes) ⌝ }
-    ensures { λ _. ⌜ CountsGroups (now (props .entry)) (now (tok .entry)) rows alphabet (now (hist .exit)) (now (sizes .exit)) ⌝ }
+    ensures { λ _. ⌜ CountsGroups (now (props .entry)) (now (tok .entry)) rows alphabet
+        (now (hist .exit)) (now (sizes .exit)) ⌝ }
 {
     for row in 0..rows {
-        let group = group_of(props[row * 24]);
+        let group = group_of(props[row * model::NUM_MA_PROPS]);
         cost::bump(sizes, group);
-        cost::count_row(tok, row, group * (14 * alphabet), alphabet, hist);
+        cost::count_row(
+            tok,
+            row,
+            group * (model::NUM_MA_PREDS * alphabet),
+            alphabet,
+            hist,
+        );
     }
 }
 
@@ -57,14 +66,15 @@ fn add_group(
 ) -> f64
     requires { ⌜ GroupsCounted (now hist) (now sizes) alphabet weighted allowed (now logs) ⌝ }
     requires { ⌜ group < 4 ⌝ }
-    ensures { λ r. ⌜ r ≡ withGroupBits (now (hist .entry)) (now (sizes .entry)) alphabet weighted allowed (now (logs .entry)) total group ⌝ }
+    ensures { λ r. ⌜ r ≡ withGroupBits (now (hist .entry)) (now (sizes .entry)) alphabet weighted allowed
+        (now (logs .entry)) total group ⌝ }
 {
     let size = sizes[group];
     if size == 0 {
         return total;
     }
-    let mut costs = [0.0f32; 14];
-    let width = 14 * alphabet;
+    let mut costs = [0.0f32; model::NUM_MA_PREDS];
+    let width = model::NUM_MA_PREDS * alphabet;
     let first = group * width;
     let best = cost::predictor_costs(
         &hist[first..first + width],
@@ -88,7 +98,8 @@ fn groups_cost(
     logs: &[f32],
 ) -> f64
     requires { ⌜ GroupsCounted (now hist) (now sizes) alphabet weighted allowed (now logs) ⌝ }
-    ensures { λ r. ⌜ r ≡ groupsBits (now (hist .entry)) (now (sizes .entry)) alphabet weighted allowed (now (logs .entry)) 4 ⌝ }
+    ensures { λ r. ⌜ r ≡ groupsBits (now (hist .entry)) (now (sizes .entry)) alphabet weighted allowed
+        (now (logs .entry)) 4 ⌝ }
 {
     let mut total = 0.0f64;
     for group in 0..4 {
@@ -109,8 +120,9 @@ pub fn flat_cost(
     hist: &mut [u32],
 ) -> f64
     requires { ⌜ FlatFits (now props) (now tok) rows alphabet weighted allowed (now logs) (now hist) ⌝ }
-    ensures { λ r. ⌜ ((t : Settings singles) (rs : List ℤ) → Uses t alphabet weighted allowed → r ≡ flatBits t (now (logs .entry)) (rowsOf rows (now (props .entry)) (now (tok .entry)) rs)) ⌝ }
-    ensures { λ _. ⌜ now (hist .exit) ≡ replicate (56 * alphabet) 0 ⌝ }
+    ensures answer { λ r. ⌜ ((t : Settings singles) (rs : List ℤ) → Uses t alphabet weighted allowed
+        → r ≡ flatBits t (now (logs .entry)) (rowsOf rows (now (props .entry)) (now (tok .entry)) rs)) ⌝ }
+    ensures zeros { λ _. ⌜ now (hist .exit) ≡ replicate (56 * alphabet) 0 ⌝ }
 {
     let mut sizes = [0u32; 4];
     count_groups(props, tok, rows, alphabet, hist, &mut sizes);
