@@ -56,13 +56,13 @@ fn plant_root(
         props,
         tok,
         res,
+        counts,
+        logs,
+        s,
         0,
         rows,
         0,
         1 < s.max_leaves,
-        s,
-        logs,
-        counts,
     );
     let info = root.info;
     layout::put_leaf(words, values, costs, 0, info, 0, rows);

@@ -56,8 +56,8 @@ fn split_rows(
     ensures { λ _. ⌜ now (counts .exit) ≡ now (counts .entry) ⌝ }
 {
     let at = rows::partition(props, tok, res, first, end, prop, val);
-    let gt = leaf::make_leaf(props, tok, res, first, at, depth, scored, s, logs, counts);
-    let le = leaf::make_leaf(props, tok, res, at, end, depth, scored, s, logs, counts);
+    let gt = leaf::make_leaf(props, tok, res, counts, logs, s, first, at, depth, scored);
+    let le = leaf::make_leaf(props, tok, res, counts, logs, s, at, end, depth, scored);
     Sides { at, gt, le }
 }
 

@@ -7,37 +7,38 @@ ghost use Rattle.leaf.specs.Made.{MadeLeaf};
 use checks::Settings;
 use layout::Leaf;
 
-// The mode step on the rows from first to end, and then their evaluation at the depth. Splits are scored only if asked for: after the last split nothing reads them.
+// The mode step on the rows from first to end, and then their evaluation at the depth. Splits are scored only if asked
+// for: after the last split nothing reads them.
 pub fn make_leaf(
     props: &[i32],
     tok: &mut [u8],
     res: &[i32],
+    counts: &mut [u32],
+    logs: &[f32],
+    s: Settings,
     first: usize,
     end: usize,
     depth: u32,
     score_split: bool,
-    s: Settings,
-    logs: &[f32],
-    counts: &mut [u32],
 ) -> Leaf
     requires { ⌜ LeafFits (flat (now props) (now tok) (now res)) first end s (now logs) (now counts) ⌝ }
-    ensures { λ r. ⌜ MadeLeaf «score_split» s (now (logs .entry)) depth (span first end)
+    ensures answer { λ r. ⌜ MadeLeaf «score_split» s (now (logs .entry)) depth (span first end)
         (flat (now (props .entry)) (now (tok .entry)) (now (res .entry)))
         (flat (now (props .entry)) (now (tok .exit)) (now (res .entry))) r ⌝ }
-    ensures { λ _. ⌜ now (counts .exit) ≡ now (counts .entry) ⌝ }
+    ensures zeros { λ _. ⌜ now (counts .exit) ≡ now (counts .entry) ⌝ }
 {
     let uses = s.modal_offsets & (0 < res.len());
     let offset = mode::mode_step(uses, tok, res, first, end, counts);
     node::evaluate_rows(
         props,
         tok,
+        counts,
+        logs,
+        s,
         first,
         end,
         depth,
         offset,
         score_split,
-        s,
-        logs,
-        counts,
     )
 }

@@ -1,9 +1,11 @@
-// A node: its cost, predictor and offset, and the split that it offers (document 01, "A node"; the Rust's `evaluate_rows_typed`).
+// A node: its cost, predictor and offset, and the split that it offers
+// (document 01, "A node"; the Rust's `evaluate_rows_typed`).
 ghost use mathlib.Core.Path.{_≡_};
 ghost use mathlib.Core.List.{List};
 ghost use Prim.Native.Nat.{ℕ, _-_, _*_, _≤_, _<_};
 ghost use lib.ListN.{length};
 ghost use lib.IntN.{ℤ};
+ghost use Rattle.model.specs.Settings.{propsPerRow};
 ghost use Rattle.model.specs.Evaluate.{propertyOrder, twin, nowhere, better, bestFrom, bestSplit, offerOf};
 ghost use Rattle.checks.specs.Given.{settingsOf};
 ghost use Rattle.cost.specs.Histograms.{CountsSpan};
@@ -37,12 +39,16 @@ enum Best {
 fn property_count(weighted: bool) -> usize
     ensures { λ r. ⌜ r ≡ orderCount weighted ⌝ }
 {
-    if weighted { 24 } else { 23 }
+    if weighted {
+        model::NUM_MA_PROPS
+    } else {
+        model::NUM_MA_PROPS - 1
+    }
 }
 
 // The property at place k of their order: 0 to 14, 16 to 23, then 15.
 fn property_at(k: usize) -> usize
-    requires { ⌜ k < 24 ⌝ }
+    requires { ⌜ k < propsPerRow ⌝ }
     ensures { λ r. ⌜ r ≡ orderAt k ⌝ }
 {
     if k < 15 {
@@ -54,7 +60,7 @@ fn property_at(k: usize) -> usize
     15
 }
 
-// An absolute value's signed counterpart may be the same throughout a node.
+// The twin of a signed property: its absolute value, which may be the same throughout a node.
 fn twin_of(prop: usize) -> Twin
     ensures { λ r. ⌜ twinIs r ≡ twin prop ⌝ }
 {
@@ -67,12 +73,12 @@ fn twin_of(prop: usize) -> Twin
 
 // Whether two properties are equal in each row of the span.
 fn columns_equal(props: &[i32], first: usize, end: usize, a: usize, b: usize) -> bool
-    requires { ⌜ (first ≤ end) × (end * 24 ≤ length (now props)) × (a < 24) × (b < 24) ⌝ }
+    requires { ⌜ (first ≤ end) × (end * propsPerRow ≤ length (now props)) × (a < propsPerRow) × (b < propsPerRow) ⌝ }
     ensures { λ r. ⌜ r ≡ equalColumns (now (props .entry)) first end a b ⌝ }
 {
     for row in first..end {
-        let x = props[row * 24 + a];
-        let y = props[row * 24 + b];
+        let x = props[row * model::NUM_MA_PROPS + a];
+        let y = props[row * model::NUM_MA_PROPS + b];
         if x != y {
             return false;
         }
@@ -80,9 +86,11 @@ fn columns_equal(props: &[i32], first: usize, end: usize, a: usize, b: usize) ->
     true
 }
 
-// Whether a property repeats its twin, which was planned. Its candidates and costs would be the twin's, and the earlier property wins ties.
+// Whether a property repeats its twin, which was planned. Its candidates and costs would be the twin's, and the earlier
+// property wins ties.
 fn is_repeated(props: &[i32], first: usize, end: usize, prop: usize, planned: &[bool]) -> bool
-    requires { ⌜ (first ≤ end) × (end * 24 ≤ length (now props)) × (prop < 24) × (length (now planned) ≡ 24) ⌝ }
+    requires { ⌜ (first ≤ end) × (end * propsPerRow ≤ length (now props)) × (prop < propsPerRow)
+        × (length (now planned) ≡ propsPerRow) ⌝ }
     ensures { λ r. ⌜ r ≡ repeatsIn (now (planned .entry)) (now (props .entry)) first end prop (twin prop) ⌝ }
 {
     let twin = twin_of(prop);
@@ -111,7 +119,8 @@ fn better_of(best: Best, prop: u32, score: Score) -> Best
     best
 }
 
-// The first of the lowest scores over the properties. A property that repeats another or yields no candidate is passed over at once.
+// The first of the lowest scores over the properties. A property that repeats another or yields no candidate is passed
+// over at once.
 fn best_split(
     props: &[i32],
     tok: &[u8],
@@ -125,14 +134,18 @@ fn best_split(
     logs: &[f32],
     counts: &mut [u32],
 ) -> Best
-    requires { ⌜ Splittable (now props) (now tok) first end s (now preds) (now firsts) (now offs) (now hist) (now logs) (now counts) ⌝ }
-    ensures { λ r. ⌜ ((rows : ℕ) (rs : List ℤ) → end ≤ rows → bestIs r ≡ bestFrom (settingsOf s) (now (logs .entry)) (now (preds .entry)) (spanRows first end (now (props .entry)) (now (tok .entry)) rows rs) nowhere (propertyOrder (s .«allow_wp»))) ⌝ }
-    ensures { λ _. ⌜ now (counts .exit) ≡ now (counts .entry) ⌝ }
+    requires { ⌜ Splittable (now props) (now tok) first end s (now preds) (now firsts) (now offs) (now hist)
+        (now logs) (now counts) ⌝ }
+    ensures answer { λ r. ⌜ ((rows : ℕ) (rs : List ℤ) → end ≤ rows
+        → bestIs r ≡ bestFrom (settingsOf s) (now (logs .entry)) (now (preds .entry))
+        (spanRows first end (now (props .entry)) (now (tok .entry)) rows rs)
+        nowhere (propertyOrder (s .«allow_wp»))) ⌝ }
+    ensures zeros { λ _. ⌜ now (counts .exit) ≡ now (counts .entry) ⌝ }
 {
     let alphabet = s.alphabet as usize;
     let most = s.max_candidates as usize;
-    let room = 4096 + 14 * alphabet;
-    let mut planned = [false; 24];
+    let room = distinct::PROBE_FLAGS + model::NUM_MA_PREDS * alphabet;
+    let mut planned = [false; model::NUM_MA_PROPS];
     let mut cands = [0i32; 32];
     let mut best = Best::Nowhere;
     for k in 0..property_count(s.allow_wp) {
@@ -146,7 +159,7 @@ fn best_split(
             end,
             prop,
             most,
-            &mut counts[..4096],
+            &mut counts[..distinct::PROBE_FLAGS],
             &mut cands,
         );
         let Plan::Candidates(n) = plan else {
@@ -173,7 +186,7 @@ fn best_split(
     best
 }
 
-// The gain over the node's cost, offered if above 0.
+// The split that a node offers: its best one, if that gains more than 0 over the node's cost.
 fn offer_of(best: Best, cost: f32, s: Settings) -> Offer
     ensures { λ r. ⌜ offerIs r ≡ offerOf (settingsOf s) cost (bestIs best) ⌝ }
 {
@@ -187,7 +200,8 @@ fn offer_of(best: Best, cost: f32, s: Settings) -> Offer
     Offer::Nothing
 }
 
-// Scores the properties with the windows of the cheapest predictors.
+// The split that a node offers, from its histograms: the properties are scored with the windows of the cheapest
+// predictors.
 fn offer_split(
     props: &[i32],
     tok: &[u8],
@@ -202,14 +216,17 @@ fn offer_split(
 ) -> Offer
     requires { ⌜ Evaluable (now props) (now tok) first end s (now logs) (now counts) ⌝ }
     requires { ⌜ CountsSpan (now tok) first end (now hist) (s .alphabet) ⌝ }
-    requires { ⌜ now costs ≡ nodeCosts (now hist) (end - first) (s .alphabet) (s .«allow_wp») (s .«allowed_preds») (now logs) ⌝ }
-    ensures { λ r. ⌜ ((rows : ℕ) (rs : List ℤ) → end ≤ rows → offerIs r ≡ offerOf (settingsOf s) cost (bestSplit (settingsOf s) (now (logs .entry)) (spanRows first end (now (props .entry)) (now (tok .entry)) rows rs))) ⌝ }
-    ensures { λ _. ⌜ now (counts .exit) ≡ now (counts .entry) ⌝ }
+    requires { ⌜ now costs ≡ nodeCosts (now hist) (end - first) (s .alphabet) (s .«allow_wp») (s .«allowed_preds»)
+        (now logs) ⌝ }
+    ensures answer { λ r. ⌜ ((rows : ℕ) (rs : List ℤ) → end ≤ rows
+        → offerIs r ≡ offerOf (settingsOf s) cost (bestSplit (settingsOf s) (now (logs .entry))
+        (spanRows first end (now (props .entry)) (now (tok .entry)) rows rs))) ⌝ }
+    ensures zeros { λ _. ⌜ now (counts .exit) ≡ now (counts .entry) ⌝ }
 {
     let alphabet = s.alphabet as usize;
-    let mut preds = [0u32; 14];
-    let mut firsts = [0u32; 14];
-    let mut offs = [0u32; 15];
+    let mut preds = [0u32; model::NUM_MA_PREDS];
+    let mut firsts = [0u32; model::NUM_MA_PREDS];
+    let mut offs = [0u32; model::NUM_MA_PREDS + 1];
     let sides = cost::cheapest_predictors(
         costs,
         s.allow_wp,
@@ -234,8 +251,8 @@ fn offer_split(
     offer_of(best, cost, s)
 }
 
-// Whether the properties are scored: enough rows, not too deep, and a cost above the split cost. The last is document 01's rule and no shortcut: with lent
-// logarithms that fall a split may gain more than the node costs.
+// Whether the properties are scored: enough rows, not too deep, and a cost above the split cost. The last is document
+// 01's rule and no shortcut: with lent logarithms that fall a split may gain more than the node costs.
 fn is_scored(rows: usize, depth: u32, cost: f32, s: Settings) -> bool
     ensures { λ r. ⌜ r ≡ scoredAt (settingsOf s) depth cost rows ⌝ }
 {
@@ -258,23 +275,25 @@ fn info_of(best: Cheapest, mode: i32) -> NodeInfo
 pub fn evaluate_counts(
     props: &[i32],
     tok: &[u8],
+    hist: &[u32],
+    counts: &mut [u32],
+    logs: &[f32],
+    s: Settings,
     first: usize,
     end: usize,
-    hist: &[u32],
     depth: u32,
     mode: i32,
     score_split: bool,
-    s: Settings,
-    logs: &[f32],
-    counts: &mut [u32],
 ) -> Leaf
     requires { ⌜ Evaluable (now props) (now tok) first end s (now logs) (now counts) ⌝ }
     requires { ⌜ CountsSpan (now tok) first end (now hist) (s .alphabet) ⌝ }
-    ensures { λ r. ⌜ ((rows : ℕ) (rs : List ℤ) → end ≤ rows → Evaluated r «score_split» (settingsOf s) (now (logs .entry)) mode depth (spanRows first end (now (props .entry)) (now (tok .entry)) rows rs)) ⌝ }
-    ensures { λ _. ⌜ now (counts .exit) ≡ now (counts .entry) ⌝ }
+    ensures answer { λ r. ⌜ ((rows : ℕ) (rs : List ℤ) → end ≤ rows
+        → Evaluated r «score_split» (settingsOf s) (now (logs .entry)) mode depth
+        (spanRows first end (now (props .entry)) (now (tok .entry)) rows rs)) ⌝ }
+    ensures zeros { λ _. ⌜ now (counts .exit) ≡ now (counts .entry) ⌝ }
 {
     let alphabet = s.alphabet as usize;
-    let mut costs = [0.0f32; 14];
+    let mut costs = [0.0f32; model::NUM_MA_PREDS];
     let best = cost::predictor_costs(
         hist,
         (end - first) as u32,
@@ -310,34 +329,36 @@ pub fn evaluate_counts(
 pub fn evaluate_rows(
     props: &[i32],
     tok: &[u8],
+    counts: &mut [u32],
+    logs: &[f32],
+    s: Settings,
     first: usize,
     end: usize,
     depth: u32,
     mode: i32,
     score_split: bool,
-    s: Settings,
-    logs: &[f32],
-    counts: &mut [u32],
 ) -> Leaf
     requires { ⌜ Evaluable (now props) (now tok) first end s (now logs) (now counts) ⌝ }
-    ensures { λ r. ⌜ ((rows : ℕ) (rs : List ℤ) → end ≤ rows → Evaluated r «score_split» (settingsOf s) (now (logs .entry)) mode depth (spanRows first end (now (props .entry)) (now (tok .entry)) rows rs)) ⌝ }
-    ensures { λ _. ⌜ now (counts .exit) ≡ now (counts .entry) ⌝ }
+    ensures answer { λ r. ⌜ ((rows : ℕ) (rs : List ℤ) → end ≤ rows
+        → Evaluated r «score_split» (settingsOf s) (now (logs .entry)) mode depth
+        (spanRows first end (now (props .entry)) (now (tok .entry)) rows rs)) ⌝ }
+    ensures zeros { λ _. ⌜ now (counts .exit) ≡ now (counts .entry) ⌝ }
 {
     let alphabet = s.alphabet as usize;
-    let cells = 14 * alphabet;
-    let mut hist = [0u32; 3584];
+    let cells = model::NUM_MA_PREDS * alphabet;
+    let mut hist = [0u32; model::NUM_MA_PREDS * 256];
     cost::count_tokens(tok, first, end, alphabet, &mut hist[..cells]);
     evaluate_counts(
         props,
         tok,
+        &hist[..cells],
+        counts,
+        logs,
+        s,
         first,
         end,
-        &hist[..cells],
         depth,
         mode,
         score_split,
-        s,
-        logs,
-        counts,
     )
 }

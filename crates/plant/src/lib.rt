@@ -48,13 +48,13 @@ fn plant_leaf(
         props,
         tok,
         res,
+        counts,
+        logs,
+        s,
         first,
         end,
         depth,
         score_split,
-        s,
-        logs,
-        counts,
     );
     let info = leaf.info;
     let offer = leaf.offer;

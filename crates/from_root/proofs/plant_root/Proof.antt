@@ -69,7 +69,7 @@ same-length-7 : tie.Need-same-length-7
 same-length-7 c = after-enqueue c .enqueue .kept .1 .1 .0
 
 same-length-8 : tie.Need-same-length-8
-same-length-8 c = after-make-leaf c .make-leaf .kept .1 .1 .1 .1 .1 .1 .1 .1 .1 .0
+same-length-8 c = after-make-leaf c .make-leaf .kept .1 .1 .1 .0
 
 returns : tie.Need-returns
 returns c =
@@ -82,7 +82,7 @@ returns c =
     let n : NodeLists = nodeLists (given .words .now) (given .values .now) (given .costs .now) in
     let q : QueueLists = queueLists (given .queue-words .now) (given .queue-values .now) (given .queue-gains .now) in
     let q' : QueueLists = queueLists (put-in .last .0) (put-in .last .1 .0) (put-in .last .1 .1 .0) in
-    let counts : List ℕ = made .make-leaf .last .1 .1 .1 .1 .1 .1 .1 .1 .1 .0 in (
+    let counts : List ℕ = made .make-leaf .last .1 .1 .1 .0 in (
       subst
           (λ (m : NodeLists). Grows (given .s) (given .logs .now) counts y m q' (record { nodes = 1; waiting = put-in .result; bits = c .as-total .result }) (given .s .«max_leaves» - 1) n
           (rootState (jobIn (given .s) (given .logs .now) x) (heldIn x)) noSeeds (heldIn x))

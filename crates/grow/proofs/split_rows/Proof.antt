@@ -81,7 +81,7 @@ abbrev after-make-leaf : tie.After-slice-known7 → tie.After-make-leaf
 after-make-leaf c = c .before .before .before .before .before .before .before .before .before .before .before .before .before
 
 same-length-4 : tie.Need-same-length-4
-same-length-4 c = after-make-leaf2 c .make-leaf2 .kept .1 .1 .1 .1 .1 .1 .1 .1 .1 .0 ∙ after-make-leaf c .make-leaf .kept .1 .1 .1 .1 .1 .1 .1 .1 .1 .0
+same-length-4 c = after-make-leaf2 c .make-leaf2 .kept .1 .1 .1 .0 ∙ after-make-leaf c .make-leaf .kept .1 .1 .1 .0
 
 returns : tie.Need-returns
 returns c =

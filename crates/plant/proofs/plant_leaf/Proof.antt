@@ -66,7 +66,7 @@ same-length-7 : tie.Need-same-length-7
 same-length-7 c = after-enqueue c .enqueue .kept .1 .1 .0
 
 same-length-8 : tie.Need-same-length-8
-same-length-8 c = after-make-leaf c .make-leaf .kept .1 .1 .1 .1 .1 .1 .1 .1 .1 .0
+same-length-8 c = after-make-leaf c .make-leaf .kept .1 .1 .1 .0
 
 returns : tie.Need-returns
 returns c =
