@@ -27,7 +27,7 @@ summed stride (suc n) cells = let d = summed stride n cells in set d (stride + n
 unfoldable pub binOf : List ℤ → ℤ → ℕ
 binOf cands v = countIf (λ (c : ℤ). ltZ c v) cands
 
--- of a row
+-- the bin of a row, by its property `prop`
 unfoldable pub binAt : List ℤ → ℕ → List ℤ → ℕ → ℕ
 binAt cands prop ps row = binOf cands (getD ps (row * propsPerRow + prop) (pos 0))
 
@@ -35,14 +35,15 @@ binAt cands prop ps row = binOf cands (getD ps (row * propsPerRow + prop) (pos 0
 abbrev pub laneCell : List ℕ → List ℕ → List ℕ → List ℕ → ℕ → ℕ → ℕ → ℕ
 laneCell tok preds firsts offs base row j = base + getD offs j 0 + (getD tok (row * toksPerRow + getD preds j 0) 0 - getD firsts j 0)
 
--- side predictor j with its window, and the cell of a row's token in it
+-- side predictor j with its window
 abbrev pub laneOf : List ℕ → List ℕ → List ℕ → ℕ → Lane
 laneOf preds firsts offs j = record { pred = getD preds j 0; first = getD firsts j 0; off = getD offs j 0 }
 
+-- the cell of a row's token in a window, in the bin that starts at `base`
 abbrev pub placeIn : Lane → List ℕ → ℕ → ℕ → ℕ
 placeIn lane tok base row = base + lane .off + (getD tok (row * toksPerRow + lane .pred) 0 - lane .first)
 
--- of the span's row k, in its own bin
+-- the cell of the span's row k in the window of side predictor j, in the row's own bin
 abbrev pub binCell : List ℤ → List ℕ → ℕ → ℕ → List ℤ → List ℕ → List ℕ → List ℕ → ℕ → ℕ → ℕ → ℕ
 binCell ps tok first prop cands preds firsts offs stride k j = laneCell tok preds firsts offs (binAt cands prop ps (first + k) * stride) (first + k) j
 

@@ -42,11 +42,11 @@ module _ (hist sizes : List ℕ) (alphabet : ℕ) (weighted : Bool) (allowed : �
   unfoldable pub groupBits : ℕ → Float
   groupBits g = cheapestOf (costAt (part (toksPerRow * alphabet) g hist) (getD sizes g 0) alphabet logs) (usablePredictors weighted allowed) .bits
 
-  -- an empty group is passed over
+  -- the total with the lowest cost of group g; an empty group is passed over
   unfoldable pub withGroupBits : Float → ℕ → Float
   withGroupBits bits g = cond (eqb (getD sizes g 0) 0) bits (singles .add bits (groupBits g))
 
-  -- the groups 0 to n - 1
+  -- the lowest costs of the groups 0 to n - 1, added up
   unfoldable pub groupsBits : ℕ → Float
   groupsBits zero = singles .noTotal
   groupsBits (suc n) = withGroupBits (groupsBits n) n

@@ -57,14 +57,14 @@ scoredSides size total val sides = cond (eqb size 0) model.nothing (cond (eqb si
 abbrev pub sizeAt : List ℕ → List ℕ → ℕ → ℕ
 sizeAt cells offs base = rowsIn (run cells base (getD offs 1 0))
 
--- candidate k
+-- the score of candidate k
 unfoldable pub scoredAt : List ℕ → List ℕ → ℕ → List ℕ → List ℕ → List ℕ → ℕ → ℕ → List ℤ → List Float → ℕ → model.Score singles
 scoredAt cells node alphabet preds firsts offs stride total cands logs k =
     let size = sizeAt cells offs (k * stride) in
     scoredSides size total (getD cands k (pos 0))
     (lowestTo (laneAt cells node alphabet preds firsts offs (k * stride) (logOf singles logs size) (logOf singles logs (total - size)) logs) (length preds))
 
--- the first of the lowest of the first n candidates
+-- the first of the lowest scores of the first n candidates
 unfoldable pub scoredTo : (ℕ → model.Score singles) → ℕ → model.Score singles
 scoredTo f zero = model.nothing
 scoredTo f (suc n) = model.lower (scoredTo f n) (f n)
@@ -77,7 +77,7 @@ pub record ExtrasFit (node : List ℕ) (alphabet : ℕ) (preds extras : List ℕ
   pub rows : (p : ℕ) → p < toksPerRow → rowsIn (part alphabet p node) ≤ maxRows
   pub long : length preds ≤ length extras
 
--- and what it leaves: the extra bits of the first n side predictors
+-- what `set_extras` leaves: the extra bits of the first n side predictors
 pub record Extras (node : List ℕ) (alphabet : ℕ) (preds extras : List ℕ) (n : ℕ) : Type 0 where
   pub each : (j : ℕ) → j < n → getD extras j 0 ≡ extraFrom 0 (part alphabet (getD preds j 0) node)
 

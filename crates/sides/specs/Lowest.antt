@@ -19,7 +19,7 @@ unfoldable pub laneAt : List ℕ → List ℕ → ℕ → List ℕ → List ℕ 
 laneAt cells node alphabet preds firsts offs base logLe logGt logs j =
     costsOf (run cells (base + getD offs j 0) (widthOf offs j)) (run node (getD preds j 0 * alphabet + getD firsts j 0) (widthOf offs j)) (getD firsts j 0) logLe logGt logs
 
--- on each side the lowest of the first n
+-- on each side the lowest cost over the first n side predictors
 unfoldable pub lowestTo : (ℕ → Sides) → ℕ → Sides
 lowestTo f zero = noSides
 lowestTo f (suc n) = lowerSides (lowestTo f n) (f n)

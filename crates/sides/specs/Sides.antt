@@ -18,12 +18,12 @@ rest [] ls = []
 rest (n ∷ ns) [] = []
 rest (n ∷ ns) (l ∷ ls) = (n - l) ∷ rest ns ls
 
--- count × (log of side − log of count), in ascending token order
+-- both sides' entropies: count × (log of side − log of count), in ascending token order
 unfoldable pub entropiesOf : List ℕ → List ℕ → Float → Float → List Float → Sides
 entropiesOf left node logLe logGt logs =
     record { le = entropyFrom singles logs logLe (singles .nought) left; gt = entropyFrom singles logs logGt (singles .nought) (rest node left) }
 
--- the entropy, then the extra bits
+-- both sides' costs: the entropy, then the extra bits
 unfoldable pub costsOf : List ℕ → List ℕ → ℕ → Float → Float → List Float → Sides
 costsOf left node first logLe logGt logs =
     record {

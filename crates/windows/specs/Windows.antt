@@ -10,20 +10,20 @@ use Rattle.model.specs.Settings.{toksPerRow}
 use Rattle.cost.specs.Histograms.{part}
 use Rattle.windows.specs.declared.Window.{Window}
 
--- with one token more, if it is counted
+-- a window with one token more, if it is counted
 unfoldable pub widened : Window → ℕ → ℕ → Window
 widened w t c = cond (eqb c 0) w (cond (eqb (w .end) 0) (record { first = t; end = t + 1 }) (record { first = w .first; end = t + 1 }))
 
--- of the first n counts
+-- the window of the first n counts
 unfoldable pub windowOf : List ℕ → ℕ → Window
 windowOf hist zero = record { first = 0; end = 0 }
 windowOf hist (suc n) = widened (windowOf hist n) n (getD hist n 0)
 
--- of side predictor j
+-- the window of side predictor j
 abbrev pub windowAt : List ℕ → ℕ → List ℕ → ℕ → Window
 windowAt node alphabet preds j = windowOf (part alphabet (getD preds j 0) node) alphabet
 
--- where its window starts among the packed ones
+-- where side predictor j's window starts among the packed ones
 unfoldable pub packed : List ℕ → ℕ → List ℕ → ℕ → ℕ
 packed node alphabet preds zero = 0
 packed node alphabet preds (suc j) = packed node alphabet preds j + (windowAt node alphabet preds j .end - windowAt node alphabet preds j .first)
@@ -46,7 +46,7 @@ pub record Windowable (node : List ℕ) (alphabet : ℕ) (preds firsts offs : Li
   pub firsts-room : length preds ≤ length firsts
   pub offs-room : length preds < length offs
 
--- and what it leaves: the first entries are the windows of all side predictors
+-- what `set_windows` leaves: the first entries are the windows of all side predictors
 pub record Windows (node : List ℕ) (alphabet : ℕ) (preds firsts offs : List ℕ) : Type 0 where
   pub windows : Packed node alphabet preds firsts offs (length preds)
   pub firsts-room : length preds ≤ length firsts
