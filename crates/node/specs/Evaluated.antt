@@ -32,7 +32,7 @@ pub record Evaluable (ps : List ℤ) (tok : List ℕ) (first end : ℕ) (s : Set
   pub settings : InRange single (settingsOf s)
   pub some : isEmpty (usable (settingsOf s)) ≡ false
   pub tokens : SpanFits tok first end (s .alphabet)
-  pub props : end * 24 ≤ length ps
+  pub props : end * model.propsPerRow ≤ length ps
   pub logs : LogsReach (end - first) ls
   pub room : countsWanted (settingsOf s) ≤ length counts
   pub zeros : counts ≡ replicate (length counts) 0
@@ -51,9 +51,9 @@ pub record Splittable (props : List ℤ) (tok : List ℕ) (first end : ℕ) (s :
     (counts : List ℕ) : Type 0 where
   pub node : Evaluable props tok first end s logs counts
   pub counted : CountsSpan tok first end hist (s .alphabet)
-  pub below : (i : ℕ) → i < length preds → getD preds i 0 < 14
+  pub below : (i : ℕ) → i < length preds → getD preds i 0 < model.toksPerRow
   pub some : 1 ≤ length preds
-  pub few : length preds ≤ 14
+  pub few : length preds ≤ model.toksPerRow
   pub sides : length preds ≤ max (s .«side_preds») 1
   pub windows : Windows hist (s .alphabet) preds firsts offs
 
@@ -61,6 +61,6 @@ pub record Splittable (props : List ℤ) (tok : List ℕ) (first end : ℕ) (s :
 abbrev pub scoredAt : model.Settings singles → ℕ → Float → ℕ → Bool
 scoredAt t depth cost rows = (leb (t .smallest) rows && ltb depth model.maxDepth) && singles .less (t .splitCost) cost
 
--- "offset = mode if predictor 0 wins, else 0"
+-- a node's cost, predictor and offset: "offset = mode if predictor 0 wins, else 0"
 abbrev pub infoWith : Cheapest → ℤ → NodeInfo
 infoWith best mode = record { cost = best .bits; pred = best .pred; offset = cond (eqb (best .pred) 0) mode (pos 0) }
