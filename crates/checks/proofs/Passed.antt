@@ -1,43 +1,32 @@
 -- What the checks' answers say of learning and deepening: a refusal is the model's, and after a pass the facts that the work on the rows goes by hold.
 -- Assumes nothing.
 use mathlib.Core.Path.{_≡_, refl, sym, _∙_}
-use mathlib.Core.Logic.{_⊎_, inl, inr}
+use mathlib.Core.Logic.{inl, inr}
 use mathlib.Core.Bool.{Bool, true, false}
 use mathlib.Core.List.{List}
 use mathlib.Core.Option.{Option, none, some, orElse}
-use Prim.Native.Nat.{ℕ, _*_, _≤_, _<_}
+use Prim.Native.Nat.{ℕ}
 use native.Mathlib.Omega.{arith}
-use lib.ListN.{length, getD}
-use lib.Dec.{T, ltb, ltb→lt}
-use lib.Ieee.{Float, nan}
+use lib.Dec.{ltb, ltb→lt}
+use lib.Ieee.{Float}
 use Rattle.model.specs.Settings as model
 use Rattle.model.specs.Single.{singles}
 use Rattle.model.specs.Profile.{Profile, single}
 use Rattle.model.specs.Tree.{faultOf}
 use Rattle.model.specs.Lent.{Lent, rowCount, treeIn, lentAfter}
-use Rattle.model.specs.Refuse.{Refusal, refuseIf, refuseAt, isShortOfSeedRoom, refusedBefore, learnRefusal, deepenRefusal}
+use Rattle.model.specs.Refuse.{Refusal, refuseIf, refuseAt, refuseWith, isShortOfSeedRoom, Besides, roomBesides, refusedBefore, learnRefusal, seedBesides, deepenRefusal}
 use Rattle.model.specs.Operations.{learn, treeOf}
-use Rattle.model.proofs.Accepted.{Passed, SeedRooms, seed-rooms-in, learnedFrom, learn-accepted}
-use Rattle.model.proofs.Bounded.{LogsWithin, logs-within}
+use Rattle.model.specs.Accepting.{SeedRooms, Passed}
+use Rattle.model.proofs.Accepted.{seed-rooms-in, learnedFrom, learn-accepted}
+use Rattle.model.proofs.Bounded.{logs-within}
 use Rattle.model.proofs.Tests.{neither, passed, named}
 use Rattle.model.proofs.Keeping.{all-at}
 use Rattle.checks.specs.declared.Settings.{Settings}
 use Rattle.checks.specs.declared.Check.the-variants.{Pass, Refused}
 use Rattle.checks.specs.Given.{settingsOf, checkOf}
-use Rattle.checks.proofs.Scan.{logFits, logs-at}
+use Rattle.checks.specs.Accepted.{Accepted}
+use Rattle.checks.proofs.Scan.{logs-at}
 use Rattle.checks.proofs.Answers.{pass-is, refused-is}
-
--- A job of so many rows, of which none of conditions 1 to 7 holds: what the model says of it, and the same by rows and entries of the flat lists
-pub record Accepted (s : Settings) (logs : List Float) (x : Lent singles) (rows : ℕ) : Type 0 where
-  pub row-count : rows ≡ rowCount x
-  pub few : rows ≤ 65536
-  pub props : length (x .props) ≡ rows * 24
-  pub toks : length (x .toks) ≡ rows * 14
-  pub res : (length (x .res) ≡ 0) ⊎ (length (x .res) ≡ rows)
-  pub tokens : (k : ℕ) → k < length (x .toks) → getD (x .toks) k 0 < s .alphabet
-  pub log-fits : (k : ℕ) → 0 < k → k ≤ rows → T (logFits (getD logs k nan))
-  pub logs-small : LogsWithin rows logs
-  pub model : Passed single (settingsOf s) logs x
 
 -- ---- the end of the model's chain
 if-then : (b : Bool) (n : ℕ) (next last : Option Refusal) → orElse (refuseIf b n next) last ≡ refuseIf b n (orElse next last)
@@ -50,14 +39,23 @@ unfolding orElse
 at-then none n next last = refl
 at-then (some p) n next last = refl
 
+with-then : (o next last : Option Refusal) → orElse (refuseWith o next) last ≡ refuseWith o (orElse next last)
+unfolding orElse
+with-then none next last = refl
+with-then (some r) next last = refl
+
+-- what is asked besides, but for what follows condition 7
+abbrev pub upTo7 : Besides → Besides
+upTo7 b = record { after3 = b .after3; short = b .short; after7 = none }
+
 module _ (P : Profile) (t : model.Settings (P .meter)) (logs : List (P .meter .Cost)) (x : Lent (P .meter)) where
-  -- conditions 1 to 7, and then `last`
-  pub before-last : (short : Bool) (last : Option Refusal) → refusedBefore P t logs x short last ≡ orElse (refusedBefore P t logs x short none) last
+  -- conditions 1 to 7, and then the last refusal
+  pub before-last : (b : Besides) → refusedBefore P t logs x b ≡ orElse (refusedBefore P t logs x (upTo7 b)) (b .after7)
   unfolding refusedBefore orElse
-  before-last short last = simp (if-then, at-then)
+  before-last b = simp (if-then, at-then, with-then)
 
   -- an operation's own rooms apart, the conditions are those of learning
-  before-none : (short : Bool) → refusedBefore P t logs x short none ≡ none → (learnRefusal P t logs x ≡ none) × (short ≡ false)
+  before-none : (short : Bool) → refusedBefore P t logs x (roomBesides short) ≡ none → (learnRefusal P t logs x ≡ none) × (short ≡ false)
   unfolding refusedBefore learnRefusal
   before-none short e = let roomy : short ≡ false = (simp (passed, named, neither) at e) .1 .1 .1 .1 .1 .1 .0 .1 in (rw roomy at e, roomy)
 
@@ -97,7 +95,7 @@ module _ (s : Settings) (logs : List Float) (x : Lent singles) where
   module _ (count : ℕ) where
     -- conditions 1 to 7
     abbrev pub deepening : Option Refusal
-    deepening = refusedBefore single (settingsOf s) logs x (isShortOfSeedRoom count x) none
+    deepening = refusedBefore single (settingsOf s) logs x (roomBesides (isShortOfSeedRoom count x))
 
     -- condition 8
     abbrev pub fault : Option Refusal
@@ -105,7 +103,7 @@ module _ (s : Settings) (logs : List Float) (x : Lent singles) where
 
     pub deepen-then : deepenRefusal single (settingsOf s) logs count x ≡ orElse deepening fault
     unfolding deepenRefusal
-    deepen-then = before-last single (settingsOf s) logs x (isShortOfSeedRoom count x) fault
+    deepen-then = before-last single (settingsOf s) logs x (seedBesides count x)
 
     pub deepen-passed : (rows : ℕ) → checkOf (rowCount x) deepening ≡ Pass rows
         → (deepenRefusal single (settingsOf s) logs count x ≡ fault) × Accepted s logs x rows × SeedRooms count x

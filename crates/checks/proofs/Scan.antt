@@ -11,16 +11,16 @@ use borrow.Author.Tests.{lt-ltb, le-ltb}
 use lib.ListN.{length, getD, take, drop, length-take, length-drop}
 use lib.Seq.{getD-take, getD-drop}
 use lib.Dec.{T, ltb}
-use lib.IntN.{pos}
-use lib.Ieee.{Float, nan, fin}
+use lib.Ieee.{Float, nan}
 use Rattle.model.specs.Lists.{range, keep, all, isEmpty}
 use Rattle.model.specs.Settings.{Settings}
 use Rattle.model.specs.Cost.{isUsable, usable}
 use Rattle.model.specs.Meter.{Meter}
 use Rattle.model.specs.Single.{singles}
-use Rattle.model.specs.Profile.{isBetween, single}
+use Rattle.model.specs.Profile.{single}
 use Rattle.model.specs.Lent.{Lent, rowCount}
 use Rattle.model.specs.Refuse.{hasNoPredictor, badRowFrom, isBadLogs}
+use Rattle.checks.specs.Accepted.{logFits}
 use Rattle.model.proofs.Keeping.{all-at}
 
 -- ---- every element passes a test
@@ -101,8 +101,6 @@ bad-none a (suc n) i toks good =
     (bad-none a n (suc i) (drop 14 toks) (λ j h. let d = length-drop 14 toks in rw (getD-drop 14 toks j 0) (good (14 + j) (omega arith))))
 
 -- ---- 6: the logarithms
-abbrev pub logFits : Float → Bool
-logFits = isBetween (fin false 0 (pos 0)) (fin false 1 (pos 5))
 
 module _ (logs : List Float) (x : Lent singles) where
   pub logs-short : length logs ≤ rowCount x → isBadLogs single logs x ≡ true

@@ -10,8 +10,8 @@ ghost use Rattle.model.specs.Cost.{isUsable};
 ghost use Rattle.model.specs.Single.{singles};
 ghost use Rattle.model.specs.Profile.{isBetween, single};
 ghost use Rattle.model.specs.Lent.{Lent, rowCount};
-ghost use Rattle.model.specs.Refuse.{isOutside, hasNoPredictor, isUneven, badRowFrom, isShortAlphabet, isBadLogs, countsWanted, isShortOfRoom, isShortOfSeedRoom, refusedBefore, learnRefusal};
-ghost use Rattle.model.proofs.Accepted.{InRange};
+ghost use Rattle.model.specs.Refuse.{isOutside, hasNoPredictor, isUneven, badRowFrom, isShortAlphabet, isBadLogs, countsWanted, isShortOfRoom, isShortOfSeedRoom, roomBesides, refusedBefore, learnRefusal};
+ghost use Rattle.model.specs.Accepting.{InRange};
 ghost use Rattle.checks.specs.Given.{settingsOf, Holds, HasRooms, Lends, WholeRows, foundOf, checkOf};
 
 // The properties of a row.
@@ -220,7 +220,7 @@ fn check_job(
     short: bool,
 ) -> Check
     ensures { λ r. ⌜ ((x : Lent singles) → Lends (now (props .entry)) (now (tok .entry)) (now (res .entry)) rooms x
-        → r ≡ checkOf (rowCount x) (refusedBefore single (settingsOf s) (now (logs .entry)) x short none)) ⌝ }
+        → r ≡ checkOf (rowCount x) (refusedBefore single (settingsOf s) (now (logs .entry)) x (roomBesides short))) ⌝ }
 {
     if !settings_fit(s) {
         return refused(1);
@@ -273,7 +273,8 @@ pub fn check_deepen(
     count: usize,
 ) -> Check
     ensures { λ r. ⌜ ((x : Lent singles) → Lends (now (props .entry)) (now (tok .entry)) (now (res .entry)) rooms x
-        → r ≡ checkOf (rowCount x) (refusedBefore single (settingsOf s) (now (logs .entry)) x (isShortOfSeedRoom count x) none)) ⌝ }
+        → r ≡ checkOf (rowCount x) (refusedBefore single (settingsOf s) (now (logs .entry)) x
+        (roomBesides (isShortOfSeedRoom count x)))) ⌝ }
 {
     let short = !seed_rooms_fit(rooms, props.len() / NUM_MA_PROPS, count);
     check_job(s, props, tok, res, logs, rooms, short)

@@ -5,7 +5,8 @@ use lib.Ieee.{Float}
 use Rattle.ieee.specs.Within.{Within}
 use Rattle.model.specs.Single.{singles}
 use Rattle.model.specs.Cost.{logOf, histogramCost}
-use Rattle.model.proofs.Bounded.{LogsWithin, between, counts-within}
+use Rattle.model.specs.Accepting.{LogsWithin}
+use Rattle.model.proofs.Bounded.{between, counts-within}
 use Rattle.cost.specs.Counted.{LogsReach, Counted}
 use Rattle.cost.proofs.Sums.{rows-are}
 

@@ -11,11 +11,9 @@ use Rattle.model.specs.Meter.{Meter}
 use Rattle.model.specs.Single.{singles}
 use Rattle.model.specs.Tree.{faultOf}
 use Rattle.model.specs.Lent.{Lent, treeIn}
-use Rattle.model.proofs.Accepted.{SeedRooms}
-use Rattle.model.proofs.Lawful.{JobFits}
-use Rattle.model.proofs.SingleLawful.{single-lawful}
+use Rattle.model.specs.Accepting.{SeedRooms, singleSmall, JobFits}
 use Rattle.checks.specs.declared.Settings.{Settings}
-use Rattle.checks.proofs.Passed.{Accepted}
+use Rattle.checks.specs.Accepted.{Accepted}
 use Rattle.layout.specs.Layout.{storedInOf}
 use Rattle.layout.specs.Tree.{NodeListsOf, NodeLists, HasRoom}
 use Rattle.layout.specs.Waiting.{QueueLists}
@@ -38,7 +36,7 @@ accepted-seedable {s} {logs} x a more few n q stands room sound =
     let limit = a .model .settings .limit in
     record {
       fitting = p .fitting;
-      lawful = subst (JobFits (single-lawful .bounds) (jobIn s logs (flat (x .props) (x .toks) (x .res)))) (sym (length-held (x .props) (x .toks) (x .res))) (p .lawful);
+      lawful = subst (JobFits singleSmall (jobIn s logs (flat (x .props) (x .toks) (x .res)))) (sym (length-held (x .props) (x .toks) (x .res))) (p .lawful);
       logs-small = p .logs-small;
       counted = p .counted;
       room = room-fewer room (omega arith);

@@ -18,13 +18,13 @@ use Rattle.model.specs.Profile.{jobOf, single}
 use Rattle.model.specs.Prune.{prunedTree, prunedBits}
 use Rattle.model.specs.Settle.{settled}
 use Rattle.model.specs.Learn.{Result, leafCount, resultOf, pruned, settledState, finished}
+use Rattle.model.specs.Accepting.{singleSmall, JobFits}
+use Rattle.model.specs.Kept.{Invariant, Healthy, Fine, Sized}
 use Rattle.model.proofs.Bounded.{price-within}
 use Rattle.model.proofs.Each.{each-getD}
 use Rattle.model.proofs.Finished.{Done, pruned-done}
-use Rattle.model.proofs.Growing.{Fine, Sized, steps-sized}
-use Rattle.model.proofs.Health.{Healthy, steps-healthy}
-use Rattle.model.proofs.Invariant.{Invariant}
-use Rattle.model.proofs.Lawful.{JobFits}
+use Rattle.model.proofs.Growing.{steps-sized}
+use Rattle.model.proofs.Health.{steps-healthy}
 use Rattle.model.proofs.Steps.{steps-keep}
 use Rattle.model.proofs.SingleLawful.{single-lawful}
 use Rattle.model.proofs.Sound.{Rooted}
@@ -302,8 +302,8 @@ module _ {s : Settings} {logs : List Float} {counts : List ℕ} {x : Flat} {n : 
   given-many : length given ≡ rowCount x
   given-many = sym (g .healthy .counted) ∙ ap length (sym (g .rows)) ∙ length-held (x .props) (x .toks) (x .res)
 
-  grown-healthy : Healthy (single-lawful .bounds) seeds given grownState × (length (grownState .tree) ≤ length (st .tree) + 2 * more)
-  grown-healthy = steps-healthy (single-lawful .bounds) (jobIn s logs x) given (subst (JobFits (single-lawful .bounds) (jobIn s logs x)) (sym given-many) (job-fits (g .fitting) (usesOf s x))) seeds more st (g .inv) (g .healthy)
+  grown-healthy : Healthy singleSmall seeds given grownState × (length (grownState .tree) ≤ length (st .tree) + 2 * more)
+  grown-healthy = steps-healthy (single-lawful .bounds) (jobIn s logs x) given (subst (JobFits singleSmall (jobIn s logs x)) (sym given-many) (job-fits (g .fitting) (usesOf s x))) seeds more st (g .inv) (g .healthy)
 
   module _ {y : Flat} {m : NodeLists} {r : Tree} (to : GrownTo s logs counts x y m r lent grownState) (counts' : List ℕ) (same : counts' ≡ counts) where
     pub grew-so : Grew s logs counts' y m r lent grownState seeds given

@@ -13,10 +13,8 @@ use Rattle.model.specs.Rows.{Row}
 use Rattle.model.specs.Grow.{Entry, State, noEntry}
 use Rattle.model.specs.Prune.{prunedTree, prunedBits}
 use Rattle.model.specs.Learn.{Result}
-use Rattle.model.proofs.Invariant.{Invariant}
-use Rattle.model.proofs.Health.{Healthy}
-use Rattle.model.proofs.Growing.{Sized}
-use Rattle.model.proofs.SingleLawful.{single-lawful}
+use Rattle.model.specs.Accepting.{singleSmall}
+use Rattle.model.specs.Kept.{Invariant, Healthy, Sized}
 use Rattle.checks.specs.declared.Settings.{Settings}
 use Rattle.layout.specs.declared.Tree.{Tree}
 use Rattle.layout.specs.Tree.{NodeLists, holding, HasRoom}
@@ -49,7 +47,7 @@ pub record Grew (s : Settings) (logs : List Float) (counts : List ℕ) (x : Flat
   pub room : HasRoom (length (st .tree)) lent
   pub few : length (st .tree) ≤ maxNodes
   pub inv : Invariant (usesOf s x) seeds given st
-  pub healthy : Healthy (single-lawful .bounds) seeds given st
+  pub healthy : Healthy singleSmall seeds given st
   pub sized : Sized Number (rowCount x) st
 
 -- there is such a state, whatever properties the rows have

@@ -19,11 +19,12 @@ use Rattle.model.specs.Job.{Offer, Job}
 use Rattle.model.specs.Evaluate.{infoOf, offered}
 use Rattle.model.specs.Grow.{Entry, State, noEntry, leafOver}
 use Rattle.model.specs.Learn.{rootState}
+use Rattle.model.specs.Accepting.{singleSmall, JobFits}
+use Rattle.model.specs.Kept.{noSeeds, Invariant}
 use Rattle.model.proofs.Fresh.{length-fresh}
-use Rattle.model.proofs.Root.{noSeeds, root-keeps}
+use Rattle.model.proofs.Root.{root-keeps}
 use Rattle.model.proofs.Health.{root-healthy}
 use Rattle.model.proofs.Growing.{root-sized}
-use Rattle.model.proofs.Lawful.{JobFits}
 use Rattle.model.proofs.SingleLawful.{single-lawful}
 use Rattle.checks.specs.Given.{settingsOf}
 use Rattle.checks.specs.declared.Settings.{Settings}
@@ -42,7 +43,6 @@ use Rattle.leaf.specs.Made.{MadeLeaf}
 use Rattle.state.proofs.Numbers.{nought-number, evaluated-number}
 use Rattle.state.specs.Grows.{jobIn, Number, Grows}
 use Rattle.start.specs.Starts.{Plantable}
-use Rattle.model.proofs.Invariant.{Invariant}
 use Rattle.leaf.proofs.Making.{uses-still, made-fitting}
 
 -- nothing waits yet
@@ -119,7 +119,7 @@ module _ {s : Settings} {logs : List Float} {counts : List ℕ} {x : Flat} {n : 
           counted = refl;
           summed = cost ∙ ap (λ (i : Info singles). i .cost) info-is;
           inv = subst (λ (u : Bool). Invariant u noSeeds given root) (uses-still s (m .changed .size)) (root-keeps j given);
-          healthy = root-healthy (single-lawful .bounds) j given (subst (JobFits (single-lawful .bounds) j) (sym (length-held (x .props) (x .toks) (x .res))) (p .lawful)) noSeeds;
+          healthy = root-healthy (single-lawful .bounds) j given (subst (JobFits singleSmall j) (sym (length-held (x .props) (x .toks) (x .res))) (p .lawful)) noSeeds;
           sized = root-sized Number (rowCount y) j nought-number (λ mode l h. evaluated-number (p .fitting) mode l (omega arith)) given (omega (arith, length-held (x .props) (x .toks) (x .res)));
           shallow = λ k h o e. elim k [ zero ↦ omega arith | suc i ↦ omega arith ];
         }

@@ -3,8 +3,8 @@
 ghost use mathlib.Core.Path.{_≡_};
 ghost use Prim.Native.Nat.{_-_};
 ghost use Rattle.model.specs.Learn.{rootState};
-ghost use Rattle.model.proofs.Root.{noSeeds};
 ghost use Rattle.model.specs.Flat.{flatBits};
+ghost use Rattle.model.specs.Kept.{noSeeds};
 ghost use Rattle.checks.specs.Given.{settingsOf};
 ghost use Rattle.layout.specs.Tree.{nodesNow};
 ghost use Rattle.layout.specs.Waiting.{queueNow};

@@ -14,8 +14,8 @@ use Rattle.model.specs.Single.{singles}
 use Rattle.model.specs.Tree.{isLeaf}
 use Rattle.model.specs.Lent.{Waiting, noWaiting}
 use Rattle.model.specs.Grow.{Entry, State, noEntry, splitAt, stepTo, step}
+use Rattle.model.specs.Kept.{Fine}
 use Rattle.model.proofs.Each.{each-getD}
-use Rattle.model.proofs.Growing.{Fine}
 use Rattle.checks.specs.declared.Settings.{Settings}
 use Rattle.layout.specs.declared.Tree.{Tree}
 use Rattle.layout.specs.Layout.{wordsPerNode, firstAt, endAt, HasWords}

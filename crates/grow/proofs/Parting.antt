@@ -10,9 +10,10 @@ use lib.Ieee.{Float}
 use Rattle.model.specs.Settings.{toksPerRow}
 use Rattle.model.specs.Rows.{Row, Span, tokOf, isAbove, within}
 use Rattle.model.specs.Partition.{second, lastFirst, inFront, atBack, parts, aboveRows, otherRows}
-use Rattle.model.proofs.Each.{Each, each-getD, each-append}
+use Rattle.model.proofs.Each.{each-getD, each-append}
 use Rattle.checks.specs.declared.Settings.{Settings}
 use Rattle.model.specs.Promise.{noRow}
+use Rattle.model.specs.Lists.{Each}
 use Rattle.rows.specs.Flat.{Flat, heldIn, rowCount}
 use Rattle.rows.specs.Parted.{Partitioned, parted}
 use Rattle.rows.proofs.Cells.{length-held, tok-held}

@@ -21,11 +21,12 @@ use Rattle.model.specs.Evaluate.{infoOf, offered}
 use Rattle.model.specs.Job.{Offer, Job}
 use Rattle.model.specs.Lent.{Waiting, noWaiting}
 use Rattle.model.specs.Grow.{Entry, State, noEntry, grownBits, leafOver, gtRows, leRows, gtSpan, leSpan, gtLeaf, leLeaf, splitRows, becomeSplit, splitAt, step, steps}
+use Rattle.model.specs.Accepting.{singleSmall, JobFits}
+use Rattle.model.specs.Kept.{Invariant, Healthy, Sized}
 use Rattle.model.proofs.Extended.{new-cases}
-use Rattle.model.proofs.Growing.{Sized, steps-sized, length-sides, length-within}
-use Rattle.model.proofs.Health.{Healthy, steps-healthy}
-use Rattle.model.proofs.Invariant.{Invariant, SplitOf, split-of, split-keeps, few-parted, none-is-no-some}
-use Rattle.model.proofs.Lawful.{JobFits}
+use Rattle.model.proofs.Growing.{steps-sized, length-sides, length-within}
+use Rattle.model.proofs.Health.{steps-healthy}
+use Rattle.model.proofs.Invariant.{SplitOf, split-of, split-keeps, few-parted, none-is-no-some}
 use Rattle.model.proofs.Paths.{T→true}
 use Rattle.model.proofs.SingleLawful.{single-lawful}
 use Rattle.checks.specs.Given.{settingsOf}
@@ -91,8 +92,8 @@ module _ {s : Settings} {logs : List Float} {counts : List ℕ} {x : Flat} {list
   many = choosing.rows-many g
 
   -- ---- the parts of the next state that the lists have no say in
-  fits-given : JobFits (single-lawful .bounds) job (length given)
-  fits-given = subst (λ (m : ℕ). JobFits (single-lawful .bounds) job m) (sym many ∙ g .healthy .counted) (job-fits (g .fitting) (usesOf s x))
+  fits-given : JobFits singleSmall job (length given)
+  fits-given = subst (λ (m : ℕ). JobFits singleSmall job m) (sym many ∙ g .healthy .counted) (job-fits (g .fitting) (usesOf s x))
 
   next-inv : Invariant (usesOf s x) seeds given next
   next-inv = split-keeps job seeds given st (g .inv) i (standing .within) (choosing.was-leaf g k one wait best) o
@@ -101,9 +102,9 @@ module _ {s : Settings} {logs : List Float} {counts : List ℕ} {x : Flat} {list
   unfolding steps
   one-step = choosing.step-splits g k one wait best
 
-  next-healthy : Healthy (single-lawful .bounds) seeds given next
+  next-healthy : Healthy singleSmall seeds given next
   next-healthy =
-      subst (λ (t : State singles). Healthy (single-lawful .bounds) seeds given t) one-step
+      subst (λ (t : State singles). Healthy singleSmall seeds given t) one-step
       (steps-healthy (single-lawful .bounds) job given fits-given seeds 1 st (g .inv) (g .healthy) .0)
 
   next-sized : Sized Number (rowCount x) next

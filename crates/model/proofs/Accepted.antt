@@ -11,62 +11,18 @@ use lib.Dec.{T, ltb, leb→le, lt→ltb, eqb→eq}
 use lib.IntN.{ℤ}
 use Rattle.model.specs.Lists.{all, isEmpty, writtenOver}
 use Rattle.model.specs.Meter.{Meter}
-use Rattle.model.specs.Settings.{Settings, propsPerRow, toksPerRow, maxRows, maxLeaves}
-use Rattle.model.specs.Cost.{usable}
+use Rattle.model.specs.Settings.{Settings, toksPerRow}
 use Rattle.model.specs.Profile.{Profile, jobOf}
 use Rattle.model.specs.Learn.{Result, leafCount, learned}
 use Rattle.model.specs.Deepen.{deepened}
 use Rattle.model.specs.Tree.{nodesOf, faultOf}
 use Rattle.model.specs.Contexts.{contextsOf}
 use Rattle.model.specs.Operations.{Outcome, refused, accepted, After, unless, Tree, treeOf, learn, deepen, ContextLists, leafContexts, sample}
-use Rattle.model.specs.Refuse.{Refusal, refuseAt, isOutside, hasNoPredictor, isUneven, badRowFrom, isShortAlphabet, isBadLogs, countsWanted, isShortOfRoom, isShortOfSeedRoom, refusedBefore, learnRefusal, deepenRefusal, contextsRefusal, sampleRefusal}
+use Rattle.model.specs.Refuse.{Refusal, Besides, nothingBesides, seedBesides, isOutside, hasNoPredictor, isUneven, badRowFrom, isShortAlphabet, isBadLogs, isShortOfRoom, isShortOfSeedRoom, refusedBefore, learnRefusal, deepenRefusal, contextsRefusal, sampleRefusal}
 use Rattle.model.specs.Lent.{Stored, Lent, rowCount, rowsIn, usesModes, treeIn, lentAfter}
-use Rattle.model.proofs.Tests.{and-both, or-either, neither, holds, not-below, passed, named, unnamed}
+use Rattle.model.specs.Accepting.{InRange, Even, Rooms, SeedRooms, Passed}
+use Rattle.model.proofs.Tests.{and-both, or-either, neither, holds, not-below, passed, named, unasked, unnamed}
 use Rattle.model.proofs.Paths.{T→true}
-
--- ---- what is so where none of conditions 1 to 7 holds
--- 1: each setting lies in its range
-pub record InRange (P : Profile) (t : Settings (P .meter)) : Type 0 where
-  pub alphabet : (1 ≤ t .alphabet) × (t .alphabet ≤ 256)
-  pub limit : (1 ≤ t .limit) × (t .limit ≤ maxLeaves)
-  pub split-cost : T (P .priceFits (t .splitCost))
-  pub price : T (P .priceFits (t .price))
-  pub smallest : t .smallest ≤ maxRows
-  pub sides : t .sides ≤ 14
-  pub candidates : t .candidates ≤ 32
-
--- 3: 24 properties and 14 tokens a row, none or one residual a row, and not too many rows
-pub record Even {M : Meter} (x : Lent M) : Type 0 where
-  pub props : length (x .props) ≡ propsPerRow * rowCount x
-  pub rows : rowCount x ≤ maxRows
-  pub toks : length (x .toks) ≡ toksPerRow * rowCount x
-  pub res : (length (x .res) ≡ 0) ⊎ (length (x .res) ≡ rowCount x)
-
--- 7: the rooms of every job, and those of a seed of `count` nodes
-pub record Rooms {M : Meter} (t : Settings M) (x : Lent M) : Type 0 where
-  pub nodes : 2 * t .limit - 1 ≤ length (x .nodes)
-  pub spans : 2 * t .limit - 1 ≤ length (x .spans)
-  pub queue : t .limit ≤ length (x .queue)
-  pub counts : countsWanted t ≤ length (x .counts)
-
-pub record SeedRooms {M : Meter} (count : ℕ) (x : Lent M) : Type 0 where
-  pub nodes : count ≤ length (x .nodes)
-  pub spans : count ≤ length (x .spans)
-  pub counts : rowCount x + 2 * count ≤ length (x .counts)
-
-pub record Passed (P : Profile) (t : Settings (P .meter)) (logs : List (P .meter .Cost)) (x : Lent (P .meter)) : Type 0 where
-  pub settings : InRange P t
-  -- 2: a predictor is left
-  pub predictor : isEmpty (usable t) ≡ false
-  pub lists : Even x
-  -- 4: every token is below the alphabet
-  pub tokens : T (all (λ (n : ℕ). ltb n (t .alphabet)) (x .toks))
-  -- 5: with residuals and modal offsets the alphabet has room for every zero token
-  pub modal : T (usesModes t x) → 128 ≤ t .alphabet
-  -- 6: the logarithms
-  pub logs-enough : rowCount x < length logs
-  pub logs-fit : T (P .logsFit (take (rowCount x) (drop 1 logs)))
-  pub rooms : Rooms t x
 
 -- ---- read off the checks
 pub in-range : (P : Profile) (t : Settings (P .meter)) → isOutside P t ≡ false → InRange P t
@@ -134,24 +90,26 @@ pub seed-rooms-in : {M : Meter} (count : ℕ) (x : Lent M) → isShortOfSeedRoom
 unfolding isShortOfSeedRoom
 seed-rooms-in count x e = let h = simp (neither, not-below) at e in omega arith
 
-pub passed-all : (P : Profile) (t : Settings (P .meter)) (logs : List (P .meter .Cost)) (x : Lent (P .meter)) (short : Bool) (last : Option Refusal)
-    → refusedBefore P t logs x short last ≡ none → Passed P t logs x × (short ≡ false) × (last ≡ none)
+pub passed-all : (P : Profile) (t : Settings (P .meter)) (logs : List (P .meter .Cost)) (x : Lent (P .meter)) (b : Besides)
+    → refusedBefore P t logs x b ≡ none → Passed P t logs x × (b .after3 ≡ none) × (b .short ≡ false) × (b .after7 ≡ none)
 unfolding refusedBefore hasNoPredictor isShortAlphabet
-passed-all P t logs x short last e =
-    let h = simp (passed, named, neither) at e in
+passed-all P t logs x b e =
+    let h = simp (passed, named, unasked, neither) at e in
     let lists = even x (h .1 .1 .0) in
-    let logs-good = logs-in P logs x (h .1 .1 .1 .1 .1 .0) in
-    let rooms = h .1 .1 .1 .1 .1 .1 in (
+    let further = h .1 .1 .1 .1 in
+    let logs-good = logs-in P logs x (further .1 .1 .0) in
+    let rooms = further .1 .1 .1 in (
       record {
         settings = in-range P t (h .0);
         predictor = h .1 .0;
         lists = lists;
-        tokens = tokens-below (t .alphabet) (rowCount x) 0 (x .toks) (lists .toks) (h .1 .1 .1 .0);
-        modal = λ u. wide-enough t x lists u (h .1 .1 .1 .1 .0);
+        tokens = tokens-below (t .alphabet) (rowCount x) 0 (x .toks) (lists .toks) (further .0);
+        modal = λ u. wide-enough t x lists u (further .1 .0);
         logs-enough = logs-good .0;
         logs-fit = logs-good .1;
         rooms = rooms-in t x (rooms .0 .0);
       },
+      h .1 .1 .1 .0,
       rooms .0 .1,
       rooms .1,
     )
@@ -184,7 +142,7 @@ module _ (P : Profile) (t : Settings (P .meter)) (logs : List (P .meter .Cost)) 
   learn-accepted a e =
       let r = learnedFrom P t logs x in
       let h = accepted-by x (treeOf r) (lentAfter r x) y (learnRefusal P t logs x) a e in
-      (passed-all P t logs x false none (h .0) .0, h .1, h .2)
+      (passed-all P t logs x nothingBesides (h .0) .0, h .1, h .2)
 
   -- a refusal is the first condition that holds, and each list reads as before
   pub learn-refused : (r : Refusal) → learn P t logs x ≡ record { outcome = refused r; lent = y } → (learnRefusal P t logs x ≡ some r) × (y ≡ x)
@@ -197,8 +155,8 @@ module _ (P : Profile) (t : Settings (P .meter)) (logs : List (P .meter .Cost)) 
   deepen-accepted count a e =
       let r = deepenedFrom P t logs count x in
       let h = accepted-by x (treeOf r) (lentAfter r x) y (deepenRefusal P t logs count x) a e in
-      let p = passed-all P t logs x (isShortOfSeedRoom count x) (refuseAt (faultOf (treeIn count (x .nodes))) 8 none) (h .0) in
-      (p .0, seed-rooms-in count x (p .1), named (faultOf (treeIn count (x .nodes))) 8 none .0 (p .2) .0, h .1, h .2)
+      let p = passed-all P t logs x (seedBesides count x) (h .0) in
+      (p .0, seed-rooms-in count x (p .2), named (faultOf (treeIn count (x .nodes))) 8 none .0 (p .3) .0, h .1, h .2)
 
   pub deepen-refused : (count : ℕ) (r : Refusal) → deepen P t logs count x ≡ record { outcome = refused r; lent = y } → (deepenRefusal P t logs count x ≡ some r) × (y ≡ x)
   unfolding deepen

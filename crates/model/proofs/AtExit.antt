@@ -16,9 +16,9 @@ use Rattle.model.specs.Learn.{Result}
 use Rattle.model.specs.Lent.{stored, Lent, noWaiting, rowsIn, treeIn, lentAfter}
 use Rattle.model.specs.Operations.{treeOf, lookup}
 use Rattle.model.specs.Promise.{reaches, spanAt, recordAt, IsLeafOf, SpansHold, TokensFresh}
+use Rattle.model.specs.Accepting.{Even}
 use Rattle.model.proofs.Results.{recordOfResult, spanOfResult, LeafOfResult, treeOfResult, ResultKept, ResultFresh}
 use Rattle.model.proofs.Tests.{and-both}
-use Rattle.model.proofs.Accepted.{Even}
 use Rattle.model.proofs.Listed.{hasProps, rowsIn-props, exit-rows, exit-props, exit-toks, exit-res}
 use Rattle.model.proofs.Written.{length-written, getD-written}
 use Rattle.model.proofs.NodeEntries.{tree-written, record-written}

@@ -19,14 +19,10 @@ use Rattle.model.specs.Rows.{Row}
 use Rattle.model.specs.Cost.{histogram, extraFrom, logOf, withCount, entropyFrom, histogramCost, costOf}
 use Rattle.model.specs.Single.{singles, single}
 use Rattle.model.specs.Profile.{isBetween, single as learner}
+use Rattle.model.specs.Accepting.{LogsWithin}
 use Rattle.model.proofs.LogZero.{log-read}
 use Rattle.model.proofs.Keeping.{all-at}
 use Rattle.model.proofs.Histogram.{sumOf, length-histogram, histogram-sum, extraFrom-le, histogram-extra}
-
--- ---- the logarithms
--- entries 1 to n are at most 32 in size
-abbrev pub LogsWithin : ℕ → List Float → Type 0
-LogsWithin n logs = (c : ℕ) → 0 < c → c ≤ n → Within 32 (logOf singles logs c)
 
 -- q × 2 ^ j, where q has at most 24 digits
 pub held : (q j : ℕ) → q < 2 ^ 24 → 24 + j ≤ 128 → Held binary32 (q * 2 ^ j)

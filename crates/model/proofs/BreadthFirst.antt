@@ -15,9 +15,10 @@ use Rattle.model.specs.Tree.{Node, split, leaf, isLeaf, below}
 use Rattle.model.specs.Prune.{placeOf}
 use Rattle.model.specs.Learn.{leafCount}
 use Rattle.model.specs.Contexts.{noContext, contextsFrom, contextsOf, breadthFrom, breadthOrder}
+use Rattle.model.specs.Family.{ChildOf, Child, Twins}
 use Rattle.model.proofs.Counting.{length-keep, count-at-most}
 use Rattle.model.proofs.Paths.{T→true, eqb-same, eqb-other}
-use Rattle.model.proofs.Family.{ChildOf, Child, Twins, child-forward}
+use Rattle.model.proofs.Family.{child-forward}
 use Rattle.model.proofs.Preorder.{NoRepeat, no-repeat-append, place-of}
 use Rattle.model.proofs.Sound.{Rooted, from-root}
 use Rattle.model.proofs.Tally.{short, tree-count}

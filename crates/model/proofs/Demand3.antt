@@ -17,9 +17,10 @@ use Rattle.model.specs.Profile.{Profile, jobOf}
 use Rattle.model.specs.Lent.{Lent, rowCount, rowsIn, usesModes, treeIn, lentAfter}
 use Rattle.model.specs.Operations.{treeOf}
 use Rattle.model.specs.Promise.{Unpruned, Kept, Demand3}
-use Rattle.model.proofs.Lawful.{Lawful, JobFits}
+use Rattle.model.specs.Accepting.{SeedRooms, Passed, JobFits}
+use Rattle.model.proofs.Lawful.{Lawful}
 use Rattle.model.proofs.Results.{ResultKept, ResultFresh, ResultLaws}
-use Rattle.model.proofs.Accepted.{Passed, SeedRooms, learnedFrom, deepenedFrom, learn-accepted, deepen-accepted}
+use Rattle.model.proofs.Accepted.{learnedFrom, deepenedFrom, learn-accepted, deepen-accepted}
 use Rattle.model.proofs.Listed.{length-rowsIn, rowsIn-tokens}
 use Rattle.model.proofs.NodeEntries.{length-tree}
 use Rattle.model.proofs.AtExit.{Fits, sound-at, rows-at, spans-hold, tokens-fresh}
@@ -34,7 +35,7 @@ module _ (P : Profile) (law : Lawful P) (laws : ResultLaws (law .bounds)) (t : S
   abbrev job : Job (P .meter)
   job = jobOf P t logs uses
 
-  pub job-fits : JobFits (law .bounds) job (length (rowsIn x))
+  pub job-fits : JobFits (law .bounds .Small) job (length (rowsIn x))
   job-fits = rw (length-rowsIn x) (law .fits t logs uses (rowCount x) (p .settings .price) (p .settings .alphabet .1) (p .lists .rows) (p .logs-enough) (p .logs-fit))
 
   pub learned-fits : Fits uses x (2 * t .limit - 1) (learnedFrom P t logs x)

@@ -11,30 +11,9 @@ use lib.ListN.{length, getD, List·getD-eq-default}
 use lib.IntN.{ℤ, pos}
 use lib.Dec.{T}
 use Rattle.model.specs.Tree.{Node, split, leaf, isLeaf, towards}
-use Rattle.model.proofs.Paths.{Forward, AllForward, grown}
+use Rattle.model.specs.Family.{Forward, AllForward, ChildOf, Child, Twins, Family, Anc, parent, under}
+use Rattle.model.proofs.Paths.{grown}
 use Rattle.model.proofs.Extended.{extended-at, extended-old, extended-gt, extended-le, length-extended}
-
-abbrev pub ChildOf : Node → ℕ → Type 0
-ChildOf (split prop val gt le) c = (c ≡ gt) ⊎ (c ≡ le)
-ChildOf leaf c = ⊥
-
-abbrev pub Child : List Node → ℕ → ℕ → Type 0
-Child nodes a c = ChildOf (getD nodes a leaf) c
-
-abbrev pub Twins : Node → Type 0
-Twins (split prop val gt le) = gt ≢ le
-Twins leaf = Unit {0}
-
--- a tree: children stand after their parent, a node has one parent, a split two children
-pub record Family (nodes : List Node) : Type 0 where
-  pub forward : AllForward nodes
-  pub one-parent : (a b c : ℕ) → Child nodes a c → Child nodes b c → a ≡ b
-  pub two-children : (a : ℕ) → Twins (getD nodes a leaf)
-
--- a above x
-pub data Anc (nodes : List Node) (a : ℕ) : ℕ → Type 0 where
-  parent : {c : ℕ} → Child nodes a c → Anc nodes a c
-  under : {b c : ℕ} → Anc nodes a b → Child nodes b c → Anc nodes a c
 
 pub leaf-no-child : (m : Node) (c : ℕ) → T (isLeaf m) → ChildOf m c → ⊥
 leaf-no-child leaf c t h = h

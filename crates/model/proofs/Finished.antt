@@ -23,14 +23,14 @@ use Rattle.model.specs.Prune.{renumbered, prunedNodes, prunedTree, prune
 use Rattle.model.specs.Settle.{settled}
 use Rattle.model.specs.Learn.{Result, resultOf, pruned, settledState}
 use Rattle.model.specs.Promise.{noRow}
+use Rattle.model.specs.Kept.{FieldsFit, entryAt, Invariant, Covered, Healthy}
 use Rattle.model.proofs.Lawful.{Bounds}
 use Rattle.model.proofs.Paths.{T→true}
 use Rattle.model.proofs.Keeping.{all-at}
 use Rattle.model.proofs.Slices.{getD-slice}
 use Rattle.model.proofs.Results.{hasTokens, LeafOfResult, ResultKept, ResultFresh, ResultFreshAt}
-use Rattle.model.proofs.Invariant.{Invariant, entryAt, node-at}
-use Rattle.model.proofs.Health.{Covered, Healthy}
-use Rattle.model.proofs.Sound.{FieldsFit, Sound, sound-faultless}
+use Rattle.model.proofs.Invariant.{node-at}
+use Rattle.model.proofs.Sound.{Sound, sound-faultless}
 use Rattle.model.proofs.Folding.{Folded, folds}
 use Rattle.model.proofs.Pruned as P
 use Rattle.model.proofs.Placed.{Placed, grown-placed, pruned-placed}
@@ -98,7 +98,7 @@ module _ {M : Meter} where
     pub rooted : 0 < length (f .tree)
     pub shorter : length (f .tree) ≤ written
 
-  module _ (B : Bounds M) (j : Job M) (seeds : ℕ → Bool) (given : List Row) (s : State M) (inv : Invariant (j .uses) seeds given s) (ok : Healthy B seeds given s)
+  module _ (B : Bounds M) (j : Job M) (seeds : ℕ → Bool) (given : List Row) (s : State M) (inv : Invariant (j .uses) seeds given s) (ok : Healthy (B .Small) seeds given s)
       (few : length (s .tree) ≤ maxNodes) (fair : B .Small 1 (M .total (j .price))) where
     abbrev tree : List (Entry M)
     tree = s .tree

@@ -16,12 +16,12 @@ use Rattle.model.specs.Rows.{Row}
 use Rattle.model.specs.Tree.{Node, split, leaf, isLeaf}
 use Rattle.model.specs.Grow.{Entry, State, treeNodes}
 use Rattle.model.specs.Prune.{preorder, Priced, noPriced, asLeaf, keptPrice, pricedBefore, pricedFrom, prunedNodes}
+use Rattle.model.specs.Family.{Forward}
+use Rattle.model.specs.Kept.{entryAt, Invariant, Healthy}
 use Rattle.model.proofs.Lawful.{Bounds}
-use Rattle.model.proofs.Paths.{Forward}
 use Rattle.model.proofs.Preorder.{pre-range, pre-no-repeat}
 use Rattle.model.proofs.Tally.{short}
-use Rattle.model.proofs.Invariant.{Invariant, entryAt, node-at}
-use Rattle.model.proofs.Health.{Healthy}
+use Rattle.model.proofs.Invariant.{node-at}
 
 -- m is n, or a leaf
 abbrev pub Folded : Node → Node → Type 0
@@ -70,7 +70,7 @@ module _ {M : Meter} where
   small-much B (suc n) m t s = let e : suc n + m ≡ suc (n + m) = omega arith in rw e (B .small-more t (small-much B n m t s))
 
   module _ (B : Bounds M) (price : M .Cost) (fair : B .Small 1 (M .total price)) (uses : Bool) (seeds : ℕ → Bool) (given : List Row) (s : State M)
-      (inv : Invariant uses seeds given s) (ok : Healthy B seeds given s) (few : length (s .tree) ≤ maxNodes) where
+      (inv : Invariant uses seeds given s) (ok : Healthy (B .Small) seeds given s) (few : length (s .tree) ≤ maxNodes) where
     abbrev nodes : List Node
     nodes = treeNodes (s .tree)
 

@@ -9,7 +9,7 @@ use mathlib.Core.List.{List, [], _∷_, _++_, map}
 use lib.ListN.{length, getD, take, drop, set, replicate, length-append, length-take, length-drop, List·getD-map}
 use lib.IntN.{ℤ}
 use lib.Dec.{eqb}
-use Rattle.model.specs.Lists.{range, countIf}
+use Rattle.model.specs.Lists.{range, countIf, Each}
 use Rattle.model.specs.Meter.{Meter}
 use Rattle.model.specs.Rows.{Row, isAbove, Span, within}
 use Rattle.model.specs.Mode.{spanMode, fresh}
@@ -21,7 +21,8 @@ use Rattle.model.specs.Prune.{preorder, moved, prunedNodes, prunedTree, 
 use Rattle.model.specs.Settle.{settled}
 use Rattle.model.specs.Learn.{leafCount, pruned, settledState, resultOf, finished, rootState, learned}
 use Rattle.model.specs.Deepen.{depthsOf, rowsAt, seedSplit, emptyLeaf, seedLeaf, withSeedNode, seedFrom, seedState, deepened}
-use Rattle.model.proofs.Each.{Each, each-getD, each-set, each-append, each-replicate, each-map}
+use Rattle.model.specs.Kept.{Fine, Sized}
+use Rattle.model.proofs.Each.{each-getD, each-set, each-append, each-replicate, each-map}
 use Rattle.model.proofs.Fresh.{length-fresh}
 use Rattle.model.proofs.Parts.{length-parts}
 use Rattle.model.proofs.Counting.{length-keep}
@@ -31,15 +32,6 @@ pub length-within : (s : Span) (rows : List Row) → length (within s rows) ≡ 
 length-within s rows = length-drop (s .first) (take (s .end) rows) ∙ ap (λ (k : ℕ). k - s .first) (length-take (s .end) rows)
 
 module _ {M : Meter} where
-  -- its span does not run backwards, and Q holds of its cost
-  abbrev pub Fine : (M .Cost → Type 0) → Entry M → Type 0
-  Fine Q e = (e .span .first ≤ e .span .end) × Q (e .info .cost)
-
-  -- of n rows at most
-  pub record Sized (Q : M .Cost → Type 0) (n : ℕ) (s : State M) : Type 0 where
-    pub rows : length (s .rows) ≤ n
-    pub entries : Each (Fine Q) (s .tree)
-
   module _ (j : Job M) (rows : List Row) (e : Entry M) (o : Offer M) where
     pub length-sides : length (gtRows j rows e o) + length (leRows j rows e o) ≡ length (within (e .span) rows)
     unfolding gtRows leRows

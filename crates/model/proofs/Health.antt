@@ -13,54 +13,29 @@ use lib.ListN.{length, length-map}
 use lib.IntN.{ℤ}
 use lib.Dec.{T, ltb}
 use Rattle.model.specs.Meter.{Meter}
-use Rattle.model.specs.Settings.{propsPerRow, toksPerRow}
+use Rattle.model.specs.Settings.{propsPerRow}
 use Rattle.model.specs.Rows.{Row, Span}
 use Rattle.model.specs.Mode.{fresh, spanMode}
 use Rattle.model.specs.Tree.{isLeaf}
 use Rattle.model.specs.Job.{Offer, Job}
 use Rattle.model.specs.Grow.{Entry, State, treeNodes, leafOver, gtRows, leRows, gtSpan, leSpan, gtLeaf, leLeaf, becomeSplit, splitAt, step, steps}
 use Rattle.model.specs.Learn.{rootState}
-use Rattle.model.proofs.Lawful.{Bounds, OfferFits, JobFits}
+use Rattle.model.specs.Accepting.{OfferFits, JobFits}
+use Rattle.model.specs.Family.{Child}
+use Rattle.model.specs.Kept.{entryAt, Invariant, OfferInRange, EntryFits, Covered, Nested, Healthy}
+use Rattle.model.proofs.Lawful.{Bounds}
 use Rattle.model.proofs.Extended.{new-cases}
 use Rattle.model.proofs.Fresh.{length-fresh}
-use Rattle.model.proofs.Family.{Child, child-forward}
-use Rattle.model.proofs.Invariant.{Invariant, SplitOf, split-of, few-parted, entryAt}
+use Rattle.model.proofs.Family.{child-forward}
+use Rattle.model.proofs.Invariant.{SplitOf, split-of, few-parted}
 use Rattle.model.proofs.Steps.{OneSplit, step-is, step-keeps, steps-keep}
-use Rattle.model.proofs.Sound.{FieldsFit}
 
 module _ {M : Meter} where
-  abbrev OfferInRange : Option (Offer M) → Type 0
-  OfferInRange none = Unit {0}
-  OfferInRange (some o) = T (ltb (o .prop) propsPerRow)
-
-  -- of one entry
-  pub record EntryFits (e : Entry M) : Type 0 where
-    pub node-fits : FieldsFit (e .node) (e .info .pred)
-    pub pred-fits : T (ltb (e .info .pred) toksPerRow)
-    pub offer-fits : OfferInRange (e .offer)
-
-  -- place p lies in the span of a leaf
-  abbrev pub Covered : List (Entry M) → ℕ → Type 0
-  Covered tree p = (k : ℕ) × (k < length tree) × T (isLeaf (entryAt tree k .node)) × (entryAt tree k .span .first ≤ p) × (p < entryAt tree k .span .end)
-
-  -- the span of entry c lies within that of entry a
-  abbrev pub Nested : List (Entry M) → ℕ → ℕ → Type 0
-  Nested tree a c = (entryAt tree a .span .first ≤ entryAt tree c .span .first) × (entryAt tree c .span .end ≤ entryAt tree a .span .end)
-
-  pub record Healthy (B : Bounds M) (seeds : ℕ → Bool) (given : List Row) (s : State M) : Type 0 where
-    pub entries : (k : ℕ) → k < length (s .tree) → EntryFits (entryAt (s .tree) k)
-    pub costs : (k : ℕ) → k < length (s .tree) → seeds k ≡ false → B .Small 1 (M .total (entryAt (s .tree) k .info .cost))
-    pub parents : (k : ℕ) → 0 < k → k < length (s .tree) → (a : ℕ) × Child (treeNodes (s .tree)) a k
-    pub counted : length (s .rows) ≡ length given
-    pub covered : (p : ℕ) → p < length (s .rows) → Covered (s .tree) p
-    pub nested : (a c : ℕ) → Child (treeNodes (s .tree)) a c → seeds a ≡ false → Nested (s .tree) a c
-    pub own-below : (a c : ℕ) → Child (treeNodes (s .tree)) a c → seeds a ≡ false → seeds c ≡ false
-
   offer-range : (rows : List Row) (x : Option (Offer M)) → OfferFits rows x → OfferInRange x
   offer-range rows none t = tt
   offer-range rows (some o) t = t .0
 
-  pub leafOver-fits : (B : Bounds M) (j : Job M) (most : ℕ) → JobFits B j most → (rows : List Row) (mode : ℤ) (s : Span) (depth : ℕ) → EntryFits (leafOver j rows mode s depth)
+  pub leafOver-fits : (B : Bounds M) (j : Job M) (most : ℕ) → JobFits (B .Small) j most → (rows : List Row) (mode : ℤ) (s : Span) (depth : ℕ) → EntryFits (leafOver j rows mode s depth)
   unfolding leafOver
   leafOver-fits B j most fit rows mode s depth = record {
     node-fits = fit .pred-fits mode rows;
@@ -68,12 +43,12 @@ module _ {M : Meter} where
     offer-fits = offer-range rows (j .offered depth (j .info mode rows .cost) rows) (fit .offer-fits depth (j .info mode rows .cost) rows);
   }
 
-  pub leafOver-small : (B : Bounds M) (j : Job M) (most : ℕ) → JobFits B j most → (rows : List Row) (mode : ℤ) (s : Span) (depth : ℕ) → length rows ≤ most → B .Small 1 (M .total (leafOver j rows mode s depth .info .cost))
+  pub leafOver-small : (B : Bounds M) (j : Job M) (most : ℕ) → JobFits (B .Small) j most → (rows : List Row) (mode : ℤ) (s : Span) (depth : ℕ) → length rows ≤ most → B .Small 1 (M .total (leafOver j rows mode s depth .info .cost))
   unfolding leafOver
   leafOver-small B j most fit rows mode s depth h = fit .cost-small mode rows h
 
   -- ---- one split
-  module _ (B : Bounds M) (seeds : ℕ → Bool) (given : List Row) (s t : State M) (i : ℕ) (o : Offer M) (gt le : Entry M) (uses : Bool) (f : SplitOf uses s t i o gt le) (ok : Healthy B seeds given s)
+  module _ (B : Bounds M) (seeds : ℕ → Bool) (given : List Row) (s t : State M) (i : ℕ) (o : Offer M) (gt le : Entry M) (uses : Bool) (f : SplitOf uses s t i o gt le) (ok : Healthy (B .Small) seeds given s)
       (inside : i < length (s .tree)) (own : T (isLeaf (entryAt (s .tree) i .node)) × (seeds i ≡ false)) (own-new : (seeds (length (s .tree)) ≡ false) × (seeds (suc (length (s .tree))) ≡ false))
       (prop : T (ltb (o .prop) propsPerRow)) (fits : EntryFits gt × EntryFits le) (small : B .Small 1 (M .total (gt .info .cost)) × B .Small 1 (M .total (le .info .cost))) (forward : (a c : ℕ) → Child (treeNodes (s .tree)) a c → (a < c) × (c < length (s .tree))) where
     abbrev n : ℕ
@@ -142,7 +117,7 @@ module _ {M : Meter} where
         go (inl (y, inr z)) = rw z (own-new .1)
         go (inr k) = ok .own-below a c k q
 
-    split-healthy : Healthy B seeds given t
+    split-healthy : Healthy (B .Small) seeds given t
     split-healthy = record {
       entries = λ k h. entries' k (rw (f .longer) at h);
       costs = λ k h. costs' k (rw (f .longer) at h);
@@ -154,11 +129,11 @@ module _ {M : Meter} where
     }
 
   -- ---- any number of steps
-  module _ (B : Bounds M) (j : Job M) (given : List Row) (fit : JobFits B j (length given)) (seeds : ℕ → Bool) where
+  module _ (B : Bounds M) (j : Job M) (given : List Row) (fit : JobFits (B .Small) j (length given)) (seeds : ℕ → Bool) where
     abbrev Inv : State M → Type 0
     Inv s = Invariant (j .uses) seeds given s
 
-    chosen-healthy : (s : State M) → Inv s → Healthy B seeds given s → (one : OneSplit j s (step j s)) → Inv (splitAt j s (one .number) (one .offer)) → Healthy B seeds given (splitAt j s (one .number) (one .offer))
+    chosen-healthy : (s : State M) → Inv s → Healthy (B .Small) seeds given s → (one : OneSplit j s (step j s)) → Inv (splitAt j s (one .number) (one .offer)) → Healthy (B .Small) seeds given (splitAt j s (one .number) (one .offer))
     unfolding gtLeaf leLeaf
     chosen-healthy s inv ok one inv' =
         split-healthy B seeds given s (splitAt j s i o) i o (gtLeaf j (s .rows) e o) (leLeaf j (s .rows) e o) (j .uses) f ok (one .inside) (was, inv .own i was)
@@ -198,7 +173,7 @@ module _ {M : Meter} where
         few = few-parted j seeds given s inv i (one .inside) was o (ok .counted)
 
     -- n steps keep it, and add at most 2 n nodes
-    pub steps-healthy : (n : ℕ) (s : State M) → Inv s → Healthy B seeds given s → Healthy B seeds given (steps j n s) × (length (steps j n s .tree) ≤ length (s .tree) + 2 * n)
+    pub steps-healthy : (n : ℕ) (s : State M) → Inv s → Healthy (B .Small) seeds given s → Healthy (B .Small) seeds given (steps j n s) × (length (steps j n s .tree) ≤ length (s .tree) + 2 * n)
     unfolding steps
     steps-healthy zero s inv ok = (ok, omega arith)
     steps-healthy (suc n) s inv ok = go (steps-healthy n s inv ok) (steps-keep j seeds given n s inv) (step-is j (steps j n s))
@@ -206,8 +181,8 @@ module _ {M : Meter} where
         before : State M
         before = steps j n s
 
-        go : Healthy B seeds given before × (length (before .tree) ≤ length (s .tree) + 2 * n) → Inv before → (step j before ≡ before) ⊎ OneSplit j before (step j before)
-            → Healthy B seeds given (step j before) × (length (step j before .tree) ≤ length (s .tree) + 2 * suc n)
+        go : Healthy (B .Small) seeds given before × (length (before .tree) ≤ length (s .tree) + 2 * n) → Inv before → (step j before ≡ before) ⊎ OneSplit j before (step j before)
+            → Healthy (B .Small) seeds given (step j before) × (length (step j before .tree) ≤ length (s .tree) + 2 * suc n)
         go (h, few) inv (inl e) = rw e (h, omega arith)
         go (h, few) inv (inr one) =
             let was = inv .offers (one .number) (one .inside) (one .offer) (one .waiting) in
@@ -216,7 +191,7 @@ module _ {M : Meter} where
             rw (one .result) (chosen-healthy before inv h one inv', omega (arith, few, f .longer))
 
     -- one leaf over all rows
-    pub root-healthy : Healthy B seeds given (rootState j given)
+    pub root-healthy : Healthy (B .Small) seeds given (rootState j given)
     unfolding rootState leafOver
     root-healthy = record {
       entries = elim [ zero ↦ λ h. leafOver-fits B j (length given) fit fr (spanMode (j .uses) given) whole 0 | suc k ↦ λ h. absurd (lt-irrefl 0 (omega arith)) ];

@@ -18,7 +18,7 @@ use Rattle.model.specs.Cost.{cheapest, firstCheapest, costOf, isUsable, 
 use Rattle.model.specs.Score.{Score, nothing, threshold, lower, sideCost, scoreSides, scoreAt, scoreFrom, scoreOf}
 use Rattle.model.specs.Evaluate.{Best, nowhere, at, better, propertyOrder, planOf, isRepeated, bestFrom, bestSplit, offerOf, isScored, infoOf, offered}
 use Rattle.model.specs.Job.{Offer}
-use Rattle.model.proofs.Lawful.{OfferFits}
+use Rattle.model.specs.Accepting.{OfferFits}
 use Rattle.model.proofs.Counting.{length-keep}
 use Rattle.model.proofs.Keeping.{count-not, all-keep, all-kept}
 

@@ -19,25 +19,15 @@ use Rattle.model.specs.Job.{Offer, Job}
 use Rattle.model.specs.Tree.{Node, split, leaf, isLeaf}
 use Rattle.model.specs.Grow.{Entry, State, noEntry, treeNodes, leafOver, gtRows, leRows, gtSpan, leSpan, gtLeaf, leLeaf, splitRows, becomeSplit, splitAt}
 use Rattle.model.specs.Promise.{Same, SameRows, key, noRow}
+use Rattle.model.specs.Family.{Child, Family, Anc, parent, under, passes}
+use Rattle.model.specs.Kept.{HoldsPassing, Laid, entryAt, Invariant}
 use Rattle.model.proofs.Counting.{count-ext, count-map, count-keep, count-split}
 use Rattle.model.proofs.Parts.{count-above, count-others, length-parts}
 use Rattle.model.proofs.Extended.{extended, length-extended, extended-at, extended-old, extended-gt, extended-le, new-cases, map-extended}
-use Rattle.model.proofs.Family.{Child, Family, Anc, parent, under, anc-no-leaf, grown-family, child-from, child-forward, child-kept, anc-kept, child-gt-new, child-le-new}
-use Rattle.model.proofs.Paths.{meets, grown, passes-old, passes-new, eqb-same, eqb-other}
+use Rattle.model.proofs.Family.{anc-no-leaf, grown-family, child-from, child-forward, child-kept, anc-kept, child-gt-new, child-le-new}
+use Rattle.model.proofs.Paths.{grown, passes-old, passes-new, eqb-same, eqb-other}
 use Rattle.model.proofs.Slices.{length-replaced, replaced-before, replaced-after, slice-gt, slice-le, slice-before, slice-after, count-around}
 use Rattle.model.proofs.Fresh.{fresh-key, fresh-twice, length-fresh}
-
--- the way of a row's lookup from the root meets node k
-abbrev pub passes : List Node → ℕ → Row → Bool
-passes nodes k r = meets (length nodes) nodes (r .props) k 0
-
--- the span holds exactly the rows handed in whose way meets node k, each as often
-abbrev pub HoldsPassing : Bool → List Node → List Row → List Row → Span → ℕ → Type 0
-HoldsPassing uses nodes given rows s k = SameRows uses (within s rows) (keep (passes nodes k) given)
-
--- two nodes' spans: one before the other, or inside it with its node below the other's
-abbrev pub Laid : List Node → ℕ → ℕ → Span → Span → Type 0
-Laid nodes i k s t = (s .end ≤ t .first) ⊎ ((t .end ≤ s .first) ⊎ ((Anc nodes k i × (t .first ≤ s .first) × (s .end ≤ t .end)) ⊎ (Anc nodes i k × (s .first ≤ t .first) × (t .end ≤ s .end))))
 
 laid-sym : (nodes : List Node) (i k : ℕ) (s t : Span) → Laid nodes i k s t → Laid nodes k i t s
 laid-sym nodes i k s t (inl c) = inr (inl c)
@@ -65,27 +55,12 @@ child-le true m = eqb-other m (suc m) (omega arith)
 child-le false m = eqb-same (suc m)
 
 module _ {M : Meter} where
-  abbrev pub entryAt : List (Entry M) → ℕ → Entry M
-  entryAt tree k = getD tree k noEntry
-
   pub node-at : (tree : List (Entry M)) (k : ℕ) → getD (treeNodes tree) k leaf ≡ entryAt tree k .node
   node-at tree k = List·getD-map (λ (e : Entry M). e .node) tree k noEntry
 
   -- a leaf's span lies before another node's, behind it, or inside it if that node is a split
   abbrev pub Clear : Span → Entry M → Type 0
   Clear s k = (s .end ≤ k .span .first) ⊎ ((k .span .end ≤ s .first) ⊎ (T (not (isLeaf (k .node))) × (k .span .first ≤ s .first) × (s .end ≤ k .span .end)))
-
-  -- `seeds` says which nodes are a seed's splits, of which no span is kept
-  pub record Invariant (uses : Bool) (seeds : ℕ → Bool) (given : List Row) (s : State M) : Type 0 where
-    pub family : Family (treeNodes (s .tree))
-    pub rooted : 0 < length (s .tree)
-    pub bounds : (k : ℕ) → k < length (s .tree) → (entryAt (s .tree) k .span .first ≤ entryAt (s .tree) k .span .end) × (entryAt (s .tree) k .span .end ≤ length (s .rows))
-    pub own : (k : ℕ) → T (isLeaf (entryAt (s .tree) k .node)) → seeds k ≡ false
-    pub endless : (k : ℕ) → seeds k ≡ true → entryAt (s .tree) k .info .cost ≡ M .endless
-    pub laid : (i k : ℕ) → i < length (s .tree) → k < length (s .tree) → i ≢ k → Laid (treeNodes (s .tree)) i k (entryAt (s .tree) i .span) (entryAt (s .tree) k .span)
-    pub holds : (k : ℕ) → k < length (s .tree) → seeds k ≡ false → HoldsPassing uses (treeNodes (s .tree)) given (s .rows) (entryAt (s .tree) k .span) k
-    pub fresh-tokens : (k : ℕ) → k < length (s .tree) → T (isLeaf (entryAt (s .tree) k .node)) → fresh uses (within (entryAt (s .tree) k .span) (s .rows)) ≡ within (entryAt (s .tree) k .span) (s .rows)
-    pub offers : (k : ℕ) → k < length (s .tree) → (o : Offer M) → entryAt (s .tree) k .offer ≡ some o → T (isLeaf (entryAt (s .tree) k .node))
 
   -- of a leaf
   pub clear-of : {uses : Bool} {seeds : ℕ → Bool} {given : List Row} (s : State M) → Invariant uses seeds given s → (i k : ℕ) → i < length (s .tree) → k < length (s .tree) → i ≢ k → T (isLeaf (entryAt (s .tree) i .node)) → Clear (entryAt (s .tree) i .span) (entryAt (s .tree) k)

@@ -18,14 +18,15 @@ use Rattle.model.specs.Job.{Job, prunes}
 use Rattle.model.specs.Grow.{State, steps}
 use Rattle.model.specs.Learn.{Result, leafCount, resultOf, finished, rootState, learned}
 use Rattle.model.specs.Deepen.{seedState, deepened}
-use Rattle.model.proofs.Lawful.{Bounds, JobFits}
+use Rattle.model.specs.Accepting.{JobFits}
+use Rattle.model.specs.Kept.{noSeeds, Invariant, Healthy}
+use Rattle.model.proofs.Lawful.{Bounds}
 use Rattle.model.proofs.Results.{hasTokens, ResultKept, ResultFresh, ResultOneMore, ResultLaws}
-use Rattle.model.proofs.Invariant.{Invariant}
 use Rattle.model.proofs.Steps.{steps-keep}
-use Rattle.model.proofs.Root.{noSeeds, root-keeps}
+use Rattle.model.proofs.Root.{root-keeps}
 use Rattle.model.proofs.Sound.{sound, sound-count}
 use Rattle.model.proofs.Tally.{tree-count}
-use Rattle.model.proofs.Health.{Healthy, steps-healthy, root-healthy}
+use Rattle.model.proofs.Health.{steps-healthy, root-healthy}
 use Rattle.model.proofs.Seeds.{seedSplits, seed-keeps, seed-healthy, seed-length}
 use Rattle.model.proofs.Formed.{learned-formed, deepened-formed}
 use Rattle.model.proofs.Finished.{finished-kept, finished-tokens}
@@ -37,14 +38,14 @@ tokens-blind z r = ap (λ (n : ℕ). ltb 0 n) (length-set (r .toks) 0 z)
 
 module _ {M : Meter} (B : Bounds M) where
   -- ---- learning: limit - 1 steps from one leaf
-  module _ (j : Job M) (limit : ℕ) (rows : List Row) (fit : JobFits B j (length rows)) (low : 1 ≤ limit) (high : limit ≤ maxLeaves) where
+  module _ (j : Job M) (limit : ℕ) (rows : List Row) (fit : JobFits (B .Small) j (length rows)) (low : 1 ≤ limit) (high : limit ≤ maxLeaves) where
     abbrev grown : State M
     grown = steps j (limit - 1) (rootState j rows)
 
     grown-keeps : Invariant (j .uses) noSeeds rows grown
     grown-keeps = steps-keep j noSeeds rows (limit - 1) (rootState j rows) (root-keeps j rows)
 
-    grown-healthy : Healthy B noSeeds rows grown × (length (grown .tree) ≤ length (rootState j rows .tree) + 2 * (limit - 1))
+    grown-healthy : Healthy (B .Small) noSeeds rows grown × (length (grown .tree) ≤ length (rootState j rows .tree) + 2 * (limit - 1))
     grown-healthy = steps-healthy B j rows fit noSeeds (limit - 1) (rootState j rows) (root-keeps j rows) (root-healthy B j rows fit noSeeds)
 
     one-leaf : length (rootState j rows .tree) ≡ 1
@@ -63,7 +64,7 @@ module _ {M : Meter} (B : Bounds M) where
     learned-fresh wide uses h = finished-tokens B j noSeeds rows grown grown-keeps (grown-healthy .0) (omega (arith, grown-few)) (fit .price-small) (j .flat rows) uses (learned-formed j hasTokens tokens-blind limit rows wide) h
 
   -- ---- deepening: from the seed's leaves
-  module _ (j : Job M) (limit : ℕ) (seed : List (Record M)) (rows : List Row) (fit : JobFits B j (length rows)) (faultless : faultOf seed ≡ none) where
+  module _ (j : Job M) (limit : ℕ) (seed : List (Record M)) (rows : List Row) (fit : JobFits (B .Small) j (length rows)) (faultless : faultOf seed ≡ none) where
     abbrev seeds : ℕ → Bool
     seeds = seedSplits B j seed rows fit faultless
 
@@ -79,7 +80,7 @@ module _ {M : Meter} (B : Bounds M) where
     pub deeper-keeps : Invariant (j .uses) seeds rows deeper
     deeper-keeps = steps-keep j seeds rows more (seedState j seed rows) seeded
 
-    pub deeper-healthy : Healthy B seeds rows deeper × (length (deeper .tree) ≤ length (seedState j seed rows .tree) + 2 * more)
+    pub deeper-healthy : Healthy (B .Small) seeds rows deeper × (length (deeper .tree) ≤ length (seedState j seed rows .tree) + 2 * more)
     deeper-healthy = steps-healthy B j rows fit seeds more (seedState j seed rows) seeded (seed-healthy B j seed rows fit faultless)
 
     -- nodes + 1 = 2 × leaves
@@ -109,7 +110,7 @@ module _ {M : Meter} (B : Bounds M) where
   unfolding learned
   learned-more j k rows unpruned h = let next : suc k - 1 ≡ suc (k - 1) = omega arith in rw next (steps-more j unpruned noSeeds rows (rootState j rows) (j .flat rows) (root-keeps j rows) (k - 1))
 
-  deepened-more : (j : Job M) (k : ℕ) (seed : List (Record M)) (rows : List Row) → JobFits B j (length rows) → prunes j ≡ false → faultOf seed ≡ none
+  deepened-more : (j : Job M) (k : ℕ) (seed : List (Record M)) (rows : List Row) → JobFits (B .Small) j (length rows) → prunes j ≡ false → faultOf seed ≡ none
       → (deepened j (suc k) seed rows ≡ deepened j k seed rows) ⊎ ResultOneMore (j .uses) (deepened j k seed rows) (deepened j (suc k) seed rows)
   unfolding deepened
   deepened-more j k seed rows fit unpruned faultless = elim (decLt k leaves) [ yes h ↦ few h | no h ↦ enough (omega arith) ]

@@ -16,10 +16,10 @@ use Rattle.model.specs.Settings.{propsPerRow, toksPerRow}
 use Rattle.model.specs.Rows.{Row, rowsOf, joined, propsOf, toksOf, resOf}
 use Rattle.model.specs.Learn.{Result}
 use Rattle.model.specs.Lent.{Lent, rowCount, rowsIn, hasResiduals, lentAfter}
+use Rattle.model.specs.Accepting.{Even}
 use Rattle.model.proofs.Results.{hasTokens, ResultKept}
 use Rattle.model.proofs.Places.{length-rowsOf}
 use Rattle.model.proofs.Tests.{eqZ-eq}
-use Rattle.model.proofs.Accepted.{Even}
 
 -- ---- tests of one row, none of which looks at the zero token
 abbrev pub hasProps : Row → Bool

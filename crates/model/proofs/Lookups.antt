@@ -15,7 +15,8 @@ use Rattle.model.specs.Tree.{Node, split, leaf, isLeaf, Record, blankRec
 use Rattle.model.specs.Lent.{Stored, treeIn}
 use Rattle.model.specs.Refuse.{Refusal, lookupRefusal}
 use Rattle.model.specs.Operations.{accepted, outcomeOf, Found, lookup}
-use Rattle.model.proofs.Paths.{Forward, T→true, eqb-other, towards-in}
+use Rattle.model.specs.Family.{Forward}
+use Rattle.model.proofs.Paths.{T→true, eqb-other, towards-in}
 use Rattle.model.proofs.Invariant.{none-is-no-some}
 use Rattle.model.proofs.Tests.{and-both, neither, unequal, not-below, passed, named, unnamed}
 use Rattle.model.proofs.NodeEntries.{length-tree}

@@ -10,13 +10,12 @@ use lib.Dec.{T}
 use lib.Ieee.{Float, lt}
 use lib.Ieee.Scale.{finite}
 use Rattle.ieee.specs.Order.{lt-irrefl as below-none, lt-asym, atMost-trans, lt-atMost, atMost-lt}
-use Rattle.model.specs.Lists.{range, keep}
+use Rattle.model.specs.Lists.{range, keep, Each}
 use Rattle.model.specs.Settings.{Settings, toksPerRow, maxRows}
 use Rattle.model.specs.Rows.{Row}
 use Rattle.model.specs.Cost.{cheapest, firstCheapest, costOf, isUsable, usable, bestPredictor}
 use Rattle.model.specs.Single.{singles}
-use Rattle.model.proofs.Each.{Each}
-use Rattle.model.proofs.Bounded.{LogsWithin}
+use Rattle.model.specs.Accepting.{LogsWithin}
 use Rattle.model.proofs.NeverMinusZero.{cost-finite}
 
 -- ---- ascending lists

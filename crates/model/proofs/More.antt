@@ -18,11 +18,12 @@ use Rattle.model.specs.Grow.{Entry, State, noEntry, treeNodes, recordOf,
 use Rattle.model.specs.Prune.{prunedTree, prunedBits}
 use Rattle.model.specs.Settle.{settled}
 use Rattle.model.specs.Learn.{Result, resultOf, leafCount, pruned, settledState, finished}
+use Rattle.model.specs.Kept.{entryAt, Invariant}
 use Rattle.model.proofs.Results.{ResultOneMore}
 use Rattle.model.proofs.Extended.{extended, length-extended, map-extended}
 use Rattle.model.proofs.Counting.{count-append, count-set-out}
 use Rattle.model.proofs.Paths.{T→true}
-use Rattle.model.proofs.Invariant.{Invariant, SplitOf, entryAt, node-at, split-of}
+use Rattle.model.proofs.Invariant.{SplitOf, node-at, split-of}
 use Rattle.model.proofs.Steps.{step-is, steps-keep}
 
 -- ---- settling changes nothing where the tokens are fresh

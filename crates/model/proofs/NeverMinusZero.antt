@@ -29,10 +29,11 @@ use Rattle.model.specs.Learn.{learned}
 use Rattle.model.specs.Deepen.{deepened}
 use Rattle.model.specs.Single.{singles, single}
 use Rattle.model.specs.Profile.{jobOf, single as learner}
+use Rattle.model.specs.Accepting.{LogsWithin}
 use Rattle.model.proofs.Keeping.{length-keep-le}
 use Rattle.model.proofs.InRange.{Offers, IsOffer, offered-is}
 use Rattle.model.proofs.Growing.{learned-costs, deepened-costs}
-use Rattle.model.proofs.Bounded.{LogsWithin, held, cost-within, price-within}
+use Rattle.model.proofs.Bounded.{held, cost-within, price-within}
 
 -- a finite single-precision number other than -0
 pub record Ordinary (x : Float) : Type 0 where

@@ -12,12 +12,8 @@ use lib.IntN.{ℤ, pos}
 use lib.Signed.{ltZ}
 use lib.Dec.{T, eqb, eqb-refl, eqb→eq}
 use Rattle.model.specs.Tree.{Node, split, leaf, isLeaf, towards, follow, reach, leafReached}
+use Rattle.model.specs.Family.{Forward, AllForward, meets}
 use Rattle.model.proofs.Extended.{extended, length-extended, extended-at, extended-old, extended-gt, extended-le, new-cases}
-
--- the way of a lookup from node i meets node k
-unfoldable pub meets : ℕ → List Node → List ℤ → ℕ → ℕ → Bool
-meets zero nodes ps k i = eqb i k
-meets (suc fuel) nodes ps k i = eqb i k || follow ps false (λ (c : ℕ). meets fuel nodes ps k c) (getD nodes i leaf)
 
 pub T→true : (b : Bool) → T b → b ≡ true
 T→true true t = refl
@@ -32,14 +28,6 @@ eqb-other m n h = go (eqb m n) (eqb→eq m n)
     go : (b : Bool) → (T b → m ≡ n) → b ≡ false
     go true e = absurd (h (e tt))
     go false e = refl
-
--- the children of node i of n stand after it
-abbrev pub Forward : ℕ → ℕ → Node → Type 0
-Forward n i (split prop val gt le) = (i < gt) × (i < le) × (gt < n) × (le < n)
-Forward n i leaf = Unit {0}
-
-abbrev pub AllForward : List Node → Type 0
-AllForward nodes = (i : ℕ) → i < length nodes → Forward (length nodes) i (getD nodes i leaf)
 
 pub towards-in : (ps : List ℤ) (n i prop : ℕ) (val : ℤ) (gt le : ℕ) → Forward n i (split prop val gt le) → (i < towards ps prop val gt le) × (towards ps prop val gt le < n)
 towards-in ps n i prop val gt le f = go (ltZ val (getD ps prop (pos 0)))

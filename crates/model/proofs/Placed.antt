@@ -17,13 +17,14 @@ use Rattle.model.specs.Tree.{Node, split, leaf, isLeaf, leafReached}
 use Rattle.model.specs.Grow.{Entry, State, treeNodes}
 use Rattle.model.specs.Prune.{placeOf, prunedNodes, prunedTree}
 use Rattle.model.specs.Promise.{SameRows, key}
+use Rattle.model.specs.Family.{ChildOf, Child, Anc, parent, under, passes}
+use Rattle.model.specs.Kept.{entryAt, Invariant, Covered, Nested, Healthy}
 use Rattle.model.proofs.Lawful.{Bounds}
 use Rattle.model.proofs.Counting.{count-map, count-keep, count-ext}
 use Rattle.model.proofs.Paths.{meets-leaf}
-use Rattle.model.proofs.Family.{ChildOf, Child, Anc, parent, under, child-forward}
+use Rattle.model.proofs.Family.{child-forward}
 use Rattle.model.proofs.Preorder.{place-at}
-use Rattle.model.proofs.Invariant.{Invariant, passes, entryAt, node-at, Clear, clear-of, T-not-both}
-use Rattle.model.proofs.Health.{Covered, Nested, Healthy}
+use Rattle.model.proofs.Invariant.{node-at, Clear, clear-of, T-not-both}
 use Rattle.model.proofs.Folding.{Folded, folds, seeds-unfolded}
 use Rattle.model.proofs.Pruned as P
 
@@ -45,7 +46,7 @@ module _ {M : Meter} where
     pub covered : (p : ℕ) → p < length rows → Covered es p
 
   -- ---- a grown tree, and that tree pruned
-  module _ (B : Bounds M) (uses : Bool) (seeds : ℕ → Bool) (given : List Row) (s : State M) (inv : Invariant uses seeds given s) (ok : Healthy B seeds given s) where
+  module _ (B : Bounds M) (uses : Bool) (seeds : ℕ → Bool) (given : List Row) (s : State M) (inv : Invariant uses seeds given s) (ok : Healthy (B .Small) seeds given s) where
     -- a node's span, by any test that says where its rows' ways lead
     holds-by : (k : ℕ) → k < length (s .tree) → seeds k ≡ false → (q : Row → Bool) → ((r : Row) → passes (treeNodes (s .tree)) k r ≡ q r)
         → (p : Row → Bool) → countIf p (map (key uses) (within (entryAt (s .tree) k .span) (s .rows))) ≡ countIf p (map (key uses) (keep q given))

@@ -10,8 +10,9 @@ use lib.ListN.{length, getD}
 use lib.IntN.{ℤ}
 use Rattle.model.specs.Tree.{Node, split, leaf, below}
 use Rattle.model.specs.Prune.{preorder, placeOf}
+use Rattle.model.specs.Family.{ChildOf, Child, Twins, Family}
 use Rattle.model.proofs.Paths.{eqb-same, eqb-other}
-use Rattle.model.proofs.Family.{ChildOf, Child, Twins, Family, child-forward}
+use Rattle.model.proofs.Family.{child-forward}
 
 -- ---- places in a list of numbers
 abbrev pub NoRepeat : List ℕ → Type 0

@@ -15,11 +15,12 @@ use Rattle.model.specs.Meter.{Meter}
 use Rattle.model.specs.Tree.{Node, split, leaf, isLeaf, towards, follow, reach, leafReached}
 use Rattle.model.specs.Grow.{Entry, noEntry, treeNodes}
 use Rattle.model.specs.Prune.{preorder, placeOf, renumbered, moved, prunedNodes, prunedTree}
+use Rattle.model.specs.Family.{Forward, AllForward, ChildOf, Child, Twins, Family, Anc, parent, under, meets}
+use Rattle.model.specs.Kept.{entryAt}
 use Rattle.model.proofs.Places.{getD-any}
-use Rattle.model.proofs.Paths.{meets, Forward, AllForward, eqb-same, eqb-other, towards-in}
-use Rattle.model.proofs.Family.{ChildOf, Child, Twins, Family, Anc, parent, under, leaf-no-child, child-forward, towards-child}
+use Rattle.model.proofs.Paths.{eqb-same, eqb-other, towards-in}
+use Rattle.model.proofs.Family.{leaf-no-child, child-forward, towards-child}
 use Rattle.model.proofs.Preorder.{place-at, place-of, mem-getD, pre-range, root-in, pre-closed, pre-parent, pre-no-repeat, place-forward}
-use Rattle.model.proofs.Invariant.{entryAt}
 use Rattle.model.proofs.Sound.{Rooted}
 use Rattle.model.proofs.Tally.{short}
 use Rattle.model.proofs.Folding.{Folded, folds, length-pruned}

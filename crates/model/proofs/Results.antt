@@ -19,7 +19,8 @@ use Rattle.model.specs.Grow.{grownBits}
 use Rattle.model.specs.Learn.{Result, learned}
 use Rattle.model.specs.Deepen.{deepened}
 use Rattle.model.specs.Promise.{SameRows, noRow}
-use Rattle.model.proofs.Lawful.{Bounds, JobFits}
+use Rattle.model.specs.Accepting.{JobFits}
+use Rattle.model.proofs.Lawful.{Bounds}
 
 -- a row that has tokens
 abbrev pub hasTokens : Row → Bool
@@ -86,14 +87,14 @@ module _ {M : Meter} where
 
   -- what is shown of every job whose evaluation fits
   pub record ResultLaws (B : Bounds M) : Type 0 where
-    pub learned-kept : (j : Job M) (limit : ℕ) (rows : List Row) → JobFits B j (length rows) → 1 ≤ limit → limit ≤ maxLeaves → ResultKept (j .uses) rows (2 * limit - 1) (learned j limit rows)
-    pub learned-fresh : (j : Job M) (limit : ℕ) (rows : List Row) → JobFits B j (length rows) → 1 ≤ limit → limit ≤ maxLeaves → T (all hasTokens rows)
+    pub learned-kept : (j : Job M) (limit : ℕ) (rows : List Row) → JobFits (B .Small) j (length rows) → 1 ≤ limit → limit ≤ maxLeaves → ResultKept (j .uses) rows (2 * limit - 1) (learned j limit rows)
+    pub learned-fresh : (j : Job M) (limit : ℕ) (rows : List Row) → JobFits (B .Small) j (length rows) → 1 ≤ limit → limit ≤ maxLeaves → T (all hasTokens rows)
         → T (j .uses) → T (j .settling) ⊎ (prunes j ≡ false) → ResultFresh (learned j limit rows)
     pub learned-more : (j : Job M) (k : ℕ) (rows : List Row) → prunes j ≡ false → 1 ≤ k
         → (learned j (suc k) rows ≡ learned j k rows) ⊎ ResultOneMore (j .uses) (learned j k rows) (learned j (suc k) rows)
-    pub deepened-kept : (j : Job M) (limit : ℕ) (seed : List (Record M)) (rows : List Row) → JobFits B j (length rows) → faultOf seed ≡ none → limit ≤ maxLeaves
+    pub deepened-kept : (j : Job M) (limit : ℕ) (seed : List (Record M)) (rows : List Row) → JobFits (B .Small) j (length rows) → faultOf seed ≡ none → limit ≤ maxLeaves
         → ResultKept (j .uses) rows (max (2 * limit - 1) (length seed)) (deepened j limit seed rows)
-    pub deepened-fresh : (j : Job M) (limit : ℕ) (seed : List (Record M)) (rows : List Row) → JobFits B j (length rows) → faultOf seed ≡ none → limit ≤ maxLeaves → T (all hasTokens rows)
+    pub deepened-fresh : (j : Job M) (limit : ℕ) (seed : List (Record M)) (rows : List Row) → JobFits (B .Small) j (length rows) → faultOf seed ≡ none → limit ≤ maxLeaves → T (all hasTokens rows)
         → T (j .uses) → T (j .settling) ⊎ (prunes j ≡ false) → ResultFresh (deepened j limit seed rows)
-    pub deepened-more : (j : Job M) (k : ℕ) (seed : List (Record M)) (rows : List Row) → JobFits B j (length rows) → prunes j ≡ false → faultOf seed ≡ none
+    pub deepened-more : (j : Job M) (k : ℕ) (seed : List (Record M)) (rows : List Row) → JobFits (B .Small) j (length rows) → prunes j ≡ false → faultOf seed ≡ none
         → (deepened j (suc k) seed rows ≡ deepened j k seed rows) ⊎ ResultOneMore (j .uses) (deepened j k seed rows) (deepened j (suc k) seed rows)

@@ -3,7 +3,7 @@ use mathlib.Core.Path.{_≡_, refl, sym, ap, _∙_}
 use Prim.Native.Nat.{ℕ, zero, suc, _<_}
 use native.Mathlib.Nat.{not-suc-le-zero}
 use native.Mathlib.Omega.{arith}
-use mathlib.Core.Bool.{Bool, true, false, false≢true}
+use mathlib.Core.Bool.{true, false, false≢true}
 use mathlib.Core.List.{List, map}
 use lib.ListN.{length, take}
 use lib.Seq.{take-all}
@@ -15,14 +15,10 @@ use Rattle.model.specs.Learn.{rootState}
 use Rattle.model.specs.Promise.{key}
 use Rattle.model.proofs.Counting.{count-map, count-keep}
 use Rattle.model.proofs.Fresh.{fresh-key, fresh-twice, length-fresh}
-use Rattle.model.proofs.Invariant.{Invariant}
-use Rattle.model.proofs.Paths.{meets}
 use Rattle.model.specs.Meter.{Meter}
 use Rattle.model.specs.Job.{Job}
-
--- no node is a seed's
-abbrev pub noSeeds : ℕ → Bool
-noSeeds k = false
+use Rattle.model.specs.Family.{meets}
+use Rattle.model.specs.Kept.{noSeeds, Invariant}
 
 none-inside : {A : Type 0} (k : ℕ) → suc k < 1 → A
 none-inside k h = absurd (not-suc-le-zero {n = k} (omega arith))

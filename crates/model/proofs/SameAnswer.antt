@@ -14,7 +14,7 @@ use borrow.Author.Tests.{le-ltb}
 use Rattle.model.specs.Meter.{Meter}
 use Rattle.model.specs.Rows.{Row, Span}
 use Rattle.model.specs.Mode.{spanMode, fresh}
-use Rattle.model.specs.Tree.{Node, split, leaf, Info, Record, nodesOf, leafReached, faultOf}
+use Rattle.model.specs.Tree.{Node, split, leaf, Info, Record, nodesOf, leafReached}
 use Rattle.model.specs.Job.{Offer, Job}
 use Rattle.model.specs.Grow.{Entry, State, Choice, noChoice, chosen, grownBits, noEntry, leafOver, greater, choiceFrom, gtRows, leRows, gtSpan, leSpan, gtLeaf, leLeaf, splitRows, becomeSplit, splitAt, stepTo, step, steps}
 use Rattle.model.specs.Learn.{leafCount, pruned, settledState, finished, rootState, learned}
@@ -24,13 +24,14 @@ use Rattle.model.specs.Evaluate.{infoOf, offered}
 use Rattle.model.specs.Flat.{flatBits}
 use Rattle.model.specs.Profile.{Profile, jobOf}
 use Rattle.model.specs.Lent.{Lent, rowCount, rowsIn, usesModes, treeIn, lentAfter}
-use Rattle.model.specs.Refuse.{Refusal, refuseAt, isBadLogs, isShortOfSeedRoom, refusedBefore, learnRefusal, deepenRefusal}
+use Rattle.model.specs.Refuse.{isBadLogs, Besides, nothingBesides, refusedBefore, learnRefusal, seedBesides, deepenRefusal}
 use Rattle.model.specs.Operations.{unless, treeOf, learn, deepen}
+use Rattle.model.specs.Kept.{Sized}
 use Rattle.model.proofs.LogZero.{Alike, read-alike, info-alike, offered-alike, flat-alike}
 use Rattle.model.proofs.Places.{length-rowsOf}
 use Rattle.model.proofs.Fresh.{length-fresh}
 use Rattle.model.proofs.Keeping.{length-keep-le}
-use Rattle.model.proofs.Growing.{Sized, steps-sized, root-sized, seed-sized, length-sides, length-within}
+use Rattle.model.proofs.Growing.{steps-sized, root-sized, seed-sized, length-sides, length-within}
 
 module _ {M : Meter} where
   -- the job with other evaluations, and settling on or off
@@ -166,9 +167,9 @@ module _ (P : Profile) (t : Settings (P .meter)) (logs logs' : List (P .meter .C
       let b : ltb (length logs') (n + 1) ≡ false = le-ltb (length logs') (n + 1) (omega arith) in
       λ i. (a ∙ sym b) i || not (P .logsFit (same i))
 
-  refusal-same : (short : Bool) (last : Option Refusal) → refusedBefore P t logs x short last ≡ refusedBefore P t logs' x short last
+  refusal-same : (b : Besides) → refusedBefore P t logs x b ≡ refusedBefore P t logs' x b
   unfolding refusedBefore
-  refusal-same short last = rw logs-same
+  refusal-same b = rw logs-same
 
   alike : Alike (P .meter) (length (rowsIn x)) logs logs'
   alike = rw (length-rowsOf (rowCount x) (x .props) (x .toks) (x .res)) (read-alike (P .meter) (rowCount x) logs logs' same)
@@ -177,11 +178,11 @@ module _ (P : Profile) (t : Settings (P .meter)) (logs logs' : List (P .meter .C
   unfolding learn learnRefusal
   learn-alike =
       let r = learned-alike P t logs logs' (usesModes t x) (t .limit) (rowsIn x) alike in
-      λ i. unless (refusal-same false none i) x (treeOf (r i)) (lentAfter (r i) x)
+      λ i. unless (refusal-same nothingBesides i) x (treeOf (r i)) (lentAfter (r i) x)
 
   pub deepen-alike : (count : ℕ) → deepen P t logs count x ≡ deepen P t logs' count x
   unfolding deepen deepenRefusal
   deepen-alike count =
       let seed = treeIn count (x .nodes) in
       let r = deepened-alike P t logs logs' (usesModes t x) (t .limit) seed (rowsIn x) alike in
-      λ i. unless (refusal-same (isShortOfSeedRoom count x) (refuseAt (faultOf seed) 8 none) i) x (treeOf (r i)) (lentAfter (r i) x)
+      λ i. unless (refusal-same (seedBesides count x) i) x (treeOf (r i)) (lentAfter (r i) x)

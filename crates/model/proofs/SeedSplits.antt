@@ -22,14 +22,16 @@ use Rattle.model.specs.Deepen.{seedState, deepened}
 use Rattle.model.specs.Profile.{Profile, jobOf}
 use Rattle.model.specs.Lent.{rowsIn, usesModes, treeIn}
 use Rattle.model.specs.SeedKept.{SeedsKept}
-use Rattle.model.proofs.Lawful.{Bounds, JobFits, Lawful}
+use Rattle.model.specs.Accepting.{JobFits}
+use Rattle.model.specs.Family.{ChildOf, Child}
+use Rattle.model.specs.Kept.{entryAt, Invariant, Healthy}
+use Rattle.model.proofs.Lawful.{Bounds, Lawful}
 use Rattle.model.proofs.Results.{recordOfResult, spanOfResult}
-use Rattle.model.proofs.Family.{ChildOf, Child, child-forward}
+use Rattle.model.proofs.Family.{child-forward}
 use Rattle.model.proofs.Preorder.{place-at}
-use Rattle.model.proofs.Invariant.{Invariant, entryAt, node-at, split-of}
+use Rattle.model.proofs.Invariant.{node-at, split-of}
 use Rattle.model.proofs.Steps.{step-is, steps-keep}
 use Rattle.model.proofs.Sound.{from-root, sound, same-length, node-at as node-of}
-use Rattle.model.proofs.Health.{Healthy}
 use Rattle.model.proofs.Seeds.{splitInfo, seedSplits, seed-nodes, seed-keeps, split-beside}
 use Rattle.model.proofs.Folding.{folds, seeds-unfolded}
 use Rattle.model.proofs.Pruned as P
@@ -89,7 +91,7 @@ abbrev TreeStands : {M : Meter} → List Node → List (Entry M) → (ℕ → �
 TreeStands nodes tree place = Stands nodes (length tree) (λ (m : ℕ). recordOf (entryAt tree m)) (λ (m : ℕ). entryAt tree m .span) place
 
 module _ {M : Meter} (B : Bounds M) (j : Job M) (limit : ℕ) (seed : List (Record M)) (rows : List Row)
-    (fit : JobFits B j (length rows)) (faultless : faultOf seed ≡ none) (high : limit ≤ maxLeaves) where
+    (fit : JobFits (B .Small) j (length rows)) (faultless : faultOf seed ≡ none) (high : limit ≤ maxLeaves) where
   abbrev nodes : List Node
   nodes = nodesOf seed
 
@@ -109,7 +111,7 @@ module _ {M : Meter} (B : Bounds M) (j : Job M) (limit : ℕ) (seed : List (Reco
   inv : Invariant (j .uses) seeds rows s
   inv = deeper-keeps B j limit seed rows fit faultless
 
-  ok : Healthy B seeds rows s
+  ok : Healthy (B .Small) seeds rows s
   ok = deeper-healthy B j limit seed rows fit faultless .0
 
   few : length tree ≤ maxNodes

@@ -21,14 +21,17 @@ use Rattle.model.specs.Job.{Offer, Job}
 use Rattle.model.specs.Grow.{Entry, State, noEntry, treeNodes, leafOver}
 use Rattle.model.specs.Deepen.{rowsAt, seedSplit, emptyLeaf, withLeafCost, withSeedNode, seedFrom, seedState, depthsOf}
 use Rattle.model.specs.Promise.{key}
-use Rattle.model.proofs.Lawful.{Bounds, JobFits}
+use Rattle.model.specs.Accepting.{JobFits}
+use Rattle.model.specs.Family.{Child, passes}
+use Rattle.model.specs.Kept.{FieldsFit, entryAt, Invariant, EntryFits, Covered, Healthy}
+use Rattle.model.proofs.Lawful.{Bounds}
 use Rattle.model.proofs.Counting.{count-map, count-keep, count-ext, count-none, count-all, count-below, length-keep, count-at-most}
 use Rattle.model.proofs.Paths.{T→true, meets-leaf, reached-leaf}
-use Rattle.model.proofs.Family.{Child, leaf-no-child}
+use Rattle.model.proofs.Family.{leaf-no-child}
 use Rattle.model.proofs.Fresh.{fresh-key, fresh-twice, fresh-none, length-fresh}
-use Rattle.model.proofs.Invariant.{Invariant, passes, entryAt, node-at, none-is-no-some}
-use Rattle.model.proofs.Sound.{FieldsFit, Sound, sound, sound-count, has-root}
-use Rattle.model.proofs.Health.{EntryFits, Covered, Healthy, leafOver-fits, leafOver-small}
+use Rattle.model.proofs.Invariant.{node-at, none-is-no-some}
+use Rattle.model.proofs.Sound.{Sound, sound, sound-count, has-root}
+use Rattle.model.proofs.Health.{leafOver-fits, leafOver-small}
 
 T→not-false : (b : Bool) → T b → not b ≡ false
 T→not-false true t = refl
@@ -45,7 +48,7 @@ splitInfo {M} = record { cost = M .endless; pred = 0; offset = pos 0 }
 abbrev pub BesideSplit : {M : Meter} → Entry M → Type 0
 BesideSplit e = (e .info ≡ splitInfo) × (e .span ≡ noSpan)
 
-module _ {M : Meter} (B : Bounds M) (j : Job M) (seed : List (Record M)) (rows : List Row) (fit : JobFits B j (length rows)) (faultless : faultOf seed ≡ none) where
+module _ {M : Meter} (B : Bounds M) (j : Job M) (seed : List (Record M)) (rows : List Row) (fit : JobFits (B .Small) j (length rows)) (faultless : faultOf seed ≡ none) where
   abbrev nodes : List Node
   nodes = nodesOf seed
 
@@ -324,7 +327,7 @@ module _ {M : Meter} (B : Bounds M) (j : Job M) (seed : List (Record M)) (rows :
     offers = λ k h. seeding .offers k (inside h);
   }
 
-  pub seed-healthy : Healthy B seedSplits rows s₀
+  pub seed-healthy : Healthy (B .Small) seedSplits rows s₀
   seed-healthy = record {
     entries = λ k h. seeding .fits k (inside h);
     costs = λ k h. seeding .small k (inside h);

@@ -16,9 +16,9 @@ use Rattle.model.specs.Tree.{isLeaf}
 use Rattle.model.specs.Grow.{Entry}
 use Rattle.model.specs.Settle.{settled}
 use Rattle.model.specs.Promise.{key, noRow}
+use Rattle.model.specs.Kept.{entryAt}
 use Rattle.model.proofs.Slices.{length-replaced, slice-gt, slice-before, slice-after}
 use Rattle.model.proofs.Fresh.{fresh-key, fresh-twice, length-fresh}
-use Rattle.model.proofs.Invariant.{entryAt}
 use Rattle.model.proofs.Placed.{Placed}
 
 -- the mode step on one span

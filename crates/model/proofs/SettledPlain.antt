@@ -22,10 +22,11 @@ use Rattle.model.specs.Refuse.{Refusal, refuseAt, isOutside, hasNoPredic
 use Rattle.model.specs.Operations.{unless, treeOf, learn, deepen}
 use Rattle.model.specs.Promise.{Unpruned}
 use Rattle.model.specs.SettledPlain.{SettledPlain}
-use Rattle.model.proofs.Lawful.{Bounds, JobFits, Lawful}
-use Rattle.model.proofs.Invariant.{Invariant}
+use Rattle.model.specs.Accepting.{JobFits}
+use Rattle.model.specs.Kept.{noSeeds, Invariant}
+use Rattle.model.proofs.Lawful.{Bounds, Lawful}
 use Rattle.model.proofs.Steps.{steps-keep}
-use Rattle.model.proofs.Root.{noSeeds, root-keeps}
+use Rattle.model.proofs.Root.{root-keeps}
 use Rattle.model.proofs.Seeds.{seedSplits, seed-keeps}
 use Rattle.model.proofs.More.{finished-plain}
 use Rattle.model.proofs.Learned.{result-laws}
@@ -51,7 +52,7 @@ module _ {M : Meter} (j : Job M) (unpruned : prunes j ≡ false) (b : Bool) wher
       ap (λ (s : State M). finished other s (j .flat rows)) (sym grown)
       ∙ finished-settling noSeeds rows (steps j (limit - 1) s) (j .flat rows) (steps-keep j noSeeds rows (limit - 1) s (root-keeps j rows))
 
-  deepened-settling : (B : Bounds M) (limit : ℕ) (seed : List (Record M)) (rows : List Row) → JobFits B j (length rows) → faultOf seed ≡ none
+  deepened-settling : (B : Bounds M) (limit : ℕ) (seed : List (Record M)) (rows : List Row) → JobFits (B .Small) j (length rows) → faultOf seed ≡ none
       → deepened other limit seed rows ≡ deepened j limit seed rows
   unfolding deepened
   deepened-settling B limit seed rows fit faultless =

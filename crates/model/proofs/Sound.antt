@@ -13,15 +13,13 @@ use lib.Dec.{T, T-not, not-T, eqb, ltb, lt→ltb, ltb→lt, eqb→eq}
 use lib.Ieee.Fits.{and-i, and-l, and-r}
 use Rattle.model.specs.Lists.{countIf}
 use Rattle.model.specs.Meter.{Meter}
-use Rattle.model.specs.Settings.{propsPerRow, toksPerRow, maxNodes}
+use Rattle.model.specs.Settings.{propsPerRow, maxNodes}
 use Rattle.model.specs.Tree.{Node, split, leaf, Record, blankRecord, nodesOf, isOrderly, isFine, hasChild, hasTwoChildren, hasOneParent, faultFrom, faultOf}
-use Rattle.model.proofs.Paths.{Forward, T→true, eqb-same, eqb-other}
-use Rattle.model.proofs.Family.{ChildOf, Child, Twins, Family, child-forward}
+use Rattle.model.specs.Family.{Forward, ChildOf, Child, Twins, Family}
+use Rattle.model.specs.Kept.{FieldsFit}
+use Rattle.model.proofs.Paths.{T→true, eqb-same, eqb-other}
+use Rattle.model.proofs.Family.{child-forward}
 use Rattle.model.proofs.Invariant.{none-is-no-some}
-
-abbrev pub FieldsFit : Node → ℕ → Type 0
-FieldsFit (split prop val gt le) pred = T (ltb prop propsPerRow)
-FieldsFit leaf pred = T (ltb pred toksPerRow)
 
 -- a family in which each node but the first has a parent
 pub record Rooted (nodes : List Node) : Type 0 where

@@ -15,7 +15,7 @@ use Rattle.model.specs.Standard.{MaLeaf, MaTree, decision, leafNode, lea
 use Rattle.model.specs.Tree.{Node, split, leaf, Record, nodesOf, reach, leafReached, faultOf}
 use Rattle.model.specs.Lent.{Stored, treeIn}
 use Rattle.model.specs.Decoder.{Shows, shows-leaf, shows-decision, leafIn, IsTree, FindsLeaf}
-use Rattle.model.proofs.Paths.{Forward, AllForward}
+use Rattle.model.specs.Family.{Forward, AllForward}
 use Rattle.model.proofs.Sound.{has-root, sound}
 use Rattle.model.proofs.Lookups.{looked-up}
 

@@ -12,7 +12,8 @@ use Rattle.model.specs.Rows.{Row}
 use Rattle.model.specs.Meter.{Meter}
 use Rattle.model.specs.Job.{Offer, Job}
 use Rattle.model.specs.Grow.{Entry, State, Choice, noChoice, chosen, greater, choiceFrom, splitAt, stepTo, step, steps}
-use Rattle.model.proofs.Invariant.{Invariant, entryAt, split-keeps}
+use Rattle.model.specs.Kept.{entryAt, Invariant}
+use Rattle.model.proofs.Invariant.{split-keeps}
 
 module _ {M : Meter} where
   -- a choice is an entry of the tree that waits

@@ -12,9 +12,10 @@ use lib.Dec.{T, eqb, eqb→eq}
 use Rattle.model.specs.Lists.{countIf}
 use Rattle.model.specs.Tree.{Node, split, leaf, isLeaf, hasChild}
 use Rattle.model.specs.Learn.{leafCount}
+use Rattle.model.specs.Family.{ChildOf, Child, Twins}
 use Rattle.model.proofs.Counting.{count-append}
 use Rattle.model.proofs.Paths.{eqb-same, eqb-other}
-use Rattle.model.proofs.Family.{ChildOf, Child, Twins, child-forward}
+use Rattle.model.proofs.Family.{child-forward}
 use Rattle.model.proofs.Preorder.{NoRepeat}
 use Rattle.model.proofs.Sound.{Rooted, once}
 

@@ -9,7 +9,7 @@ use mathlib.Core.Option.{Option, none, some}
 use lib.Dec.{T, eqb, ltb, nltb→le, ltb→lt, eqb→eq}
 use lib.IntN.{ℤ, pos, negsuc}
 use Rattle.model.specs.Lists.{eqZ}
-use Rattle.model.specs.Refuse.{Refusal, refuseIf, refuseAt}
+use Rattle.model.specs.Refuse.{Refusal, refuseIf, refuseAt, refuseWith}
 use Rattle.model.proofs.Paths.{eqb-same, eqb-other}
 use Rattle.model.proofs.Invariant.{none-is-no-some}
 
@@ -70,6 +70,10 @@ passed false n next = (λ e. (refl, e), λ p. p .1)
 pub named : (o : Option ℕ) (n : ℕ) (next : Option Refusal) → (refuseAt o n next ≡ none) ↔ ((o ≡ none) × (next ≡ none))
 named none n next = (λ e. (refl, e), λ p. p .1)
 named (some i) n next = (λ e. absurd (none-is-no-some _ (sym e)), λ p. absurd (none-is-no-some _ (sym (p .0))))
+
+pub unasked : (o next : Option Refusal) → (refuseWith o next ≡ none) ↔ ((o ≡ none) × (next ≡ none))
+unasked none next = (λ e. (refl, e), λ p. p .1)
+unasked (some r) next = (λ e. absurd (none-is-no-some r (sym e)), λ p. absurd (none-is-no-some r (sym (p .0))))
 
 -- no place is named
 pub unnamed : (b : Bool) (next : Option ℕ) (i : ℕ) → cond b next (some i) ≡ none → T b × (next ≡ none)

@@ -28,6 +28,9 @@ pub mod Refuse
 pub mod Operations
 pub mod Decoder
 pub mod Promise
+pub mod Accepting
+pub mod Family
+pub mod Kept
 pub mod SeedKept
 pub mod SettledPlain
 pub mod Bench

@@ -34,6 +34,11 @@ module _ {ℓ} {A : Type ℓ} where
   abbrev pub writtenOver : List A → List A → List A
   writtenOver new lent = new ++ drop (length new) lent
 
+-- P holds of each element
+abbrev pub Each : {A : Type 0} → (A → Type 0) → List A → Type 0
+Each P [] = Unit {0}
+Each P (x ∷ xs) = P x × Each P xs
+
 -- equal whole numbers
 abbrev pub eqZ : ℤ → ℤ → Bool
 eqZ (pos a) (pos b) = eqb a b

@@ -29,6 +29,11 @@ abbrev pub refuseAt : Option ℕ → ℕ → Option Refusal → Option Refusal
 refuseAt none n next = next
 refuseAt (some p) n next = some (record { number = n; place = p })
 
+-- this refusal if there is one, else the next
+abbrev pub refuseWith : Option Refusal → Option Refusal → Option Refusal
+refuseWith none next = next
+refuseWith (some r) next = some r
+
 -- ---- learning and deepening
 -- 1: a setting outside its range
 unfoldable pub isOutside : (P : Profile) → Settings (P .meter) → Bool
@@ -79,23 +84,44 @@ unfoldable pub isShortOfSeedRoom : {M : Meter} → ℕ → Lent M → Bool
 isShortOfSeedRoom count x =
     ltb (length (x .nodes)) count || (ltb (length (x .spans)) count || ltb (length (x .counts)) (rowCount x + 2 * count))
 
--- conditions 1 to 7, and `last` if none holds
-unfoldable pub refusedBefore : (P : Profile) → Settings (P .meter) → List (P .meter .Cost) → Lent (P .meter) → Bool → Option Refusal → Option Refusal
-refusedBefore P t logs x short last =
+-- what an operation asks besides conditions 1 to 7
+pub record Besides : Type 0 where
+  -- a refusal straight after condition 3, or none
+  pub after3 : Option Refusal
+  -- the last part of condition 7: more room is asked for than there is
+  pub short : Bool
+  -- a refusal after condition 7, or none
+  pub after7 : Option Refusal
+
+-- more room at most
+abbrev pub roomBesides : Bool → Besides
+roomBesides short = record { after3 = none; short = short; after7 = none }
+
+abbrev pub nothingBesides : Besides
+nothingBesides = roomBesides false
+
+-- conditions 1 to 7, and what is asked besides
+unfoldable pub refusedBefore : (P : Profile) → Settings (P .meter) → List (P .meter .Cost) → Lent (P .meter) → Besides → Option Refusal
+refusedBefore P t logs x asked =
     refuseIf (isOutside P t) 1
     (refuseIf (hasNoPredictor t) 2
     (refuseIf (isUneven x) 3
+    (refuseWith (asked .after3)
     (refuseAt (badRowFrom (t .alphabet) (rowCount x) 0 (x .toks)) 4
     (refuseIf (isShortAlphabet t x) 5
     (refuseIf (isBadLogs P logs x) (P .logsNumber)
-    (refuseIf (isShortOfRoom t x || short) 7 last))))))
+    (refuseIf (isShortOfRoom t x || asked .short) 7 (asked .after7))))))))
 
 unfoldable pub learnRefusal : (P : Profile) → Settings (P .meter) → List (P .meter .Cost) → Lent (P .meter) → Option Refusal
-learnRefusal P t logs x = refusedBefore P t logs x false none
+learnRefusal P t logs x = refusedBefore P t logs x nothingBesides
 
--- the seed's `count` nodes stand at the front of the node list
+-- deepening asks besides for the room of a seed of `count` nodes, which stand at the front of the node list, and that it is a sound tree
+abbrev pub seedBesides : {M : Meter} → ℕ → Lent M → Besides
+seedBesides count x =
+    record { after3 = none; short = isShortOfSeedRoom count x; after7 = refuseAt (faultOf (treeIn count (x .nodes))) 8 none }
+
 unfoldable pub deepenRefusal : (P : Profile) → Settings (P .meter) → List (P .meter .Cost) → ℕ → Lent (P .meter) → Option Refusal
-deepenRefusal P t logs count x = refusedBefore P t logs x (isShortOfSeedRoom count x) (refuseAt (faultOf (treeIn count (x .nodes))) 8 none)
+deepenRefusal P t logs count x = refusedBefore P t logs x (seedBesides count x)
 
 -- ---- the other operations
 module _ {M : Meter} where

@@ -16,7 +16,7 @@ use Rattle.model.specs.Cost.{usable}
 use Rattle.model.specs.Evaluate.{infoOf, offered}
 use Rattle.model.specs.Profile.{single}
 use Rattle.model.specs.Refuse.{countsWanted}
-use Rattle.model.proofs.Accepted.{InRange}
+use Rattle.model.specs.Accepting.{InRange}
 use Rattle.checks.specs.declared.Settings.{Settings}
 use Rattle.checks.specs.Given.{settingsOf}
 use Rattle.cost.specs.declared.Cheapest.{Cheapest}

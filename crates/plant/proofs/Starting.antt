@@ -25,10 +25,9 @@ use Rattle.model.specs.Job.{Job}
 use Rattle.model.specs.Grow.{Entry, State, noEntry, leafOver}
 use Rattle.model.specs.Learn.{leafCount}
 use Rattle.model.specs.Deepen.{depthsOf, rowsAt, seedSplit, emptyLeaf, seedLeaf, withSeedNode, seedFrom, seedState}
-use Rattle.model.proofs.Each.{Each, each-getD, each-append}
-use Rattle.model.proofs.Bounded.{LogsWithin}
-use Rattle.model.proofs.Growing.{Sized, seed-sized}
-use Rattle.model.proofs.Invariant.{Invariant, none-is-no-some}
+use Rattle.model.proofs.Each.{each-getD, each-append}
+use Rattle.model.proofs.Growing.{seed-sized}
+use Rattle.model.proofs.Invariant.{none-is-no-some}
 use Rattle.model.proofs.Seeds.{seed-keeps, seed-healthy}
 use Rattle.model.proofs.SingleLawful.{single-lawful}
 use Rattle.model.proofs.Sound as sounds
@@ -44,6 +43,9 @@ use Rattle.order.specs.Order.{rowsWith, orderedBy, firstOf}
 use Rattle.order.specs.Leaves.{leafNumbers}
 use Rattle.order.proofs.OrderLaws.{length-ordered}
 use Rattle.model.specs.Promise.{noRow}
+use Rattle.model.specs.Accepting.{LogsWithin}
+use Rattle.model.specs.Kept.{Invariant, Sized}
+use Rattle.model.specs.Lists.{Each}
 use Rattle.model.proofs.Tests.{and-true}
 use Rattle.rows.specs.Cells.{span}
 use Rattle.rows.specs.Flat.{Flat, heldIn, rowCount, SameSize}

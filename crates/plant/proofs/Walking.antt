@@ -21,7 +21,7 @@ use Rattle.model.specs.Job.{Job}
 use Rattle.model.specs.Grow.{State}
 use Rattle.model.specs.Learn.{leafCount}
 use Rattle.model.specs.Deepen.{depthsOf, rowsAt, withSeedNode}
-use Rattle.model.proofs.Bounded.{LogsWithin}
+use Rattle.model.specs.Accepting.{LogsWithin}
 use Rattle.checks.specs.Given.{settingsOf}
 use Rattle.checks.specs.declared.Settings.{Settings}
 use Rattle.layout.proofs.Queue.{same-itself, same-queue}

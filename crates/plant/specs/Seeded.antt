@@ -10,9 +10,7 @@ use Rattle.model.specs.Single.{singles}
 use Rattle.model.specs.Tree.{leaf, isLeaf, Record, nodesOf, faultOf}
 use Rattle.model.specs.Learn.{leafCount}
 use Rattle.model.specs.Deepen.{seedState}
-use Rattle.model.proofs.Lawful.{JobFits}
-use Rattle.model.proofs.Bounded.{LogsWithin}
-use Rattle.model.proofs.SingleLawful.{single-lawful}
+use Rattle.model.specs.Accepting.{LogsWithin, singleSmall, JobFits}
 use Rattle.checks.specs.declared.Settings.{Settings}
 use Rattle.layout.specs.declared.Tree.{Tree}
 use Rattle.layout.specs.Tree.{NodeLists, HasRoom}
@@ -25,7 +23,7 @@ use Rattle.seed.specs.Ordered.{seedIn}
 -- what the checks of deepening ensure: 1 to 7, the rooms of a seed of `count` nodes, and a sound seed
 pub record Seedable (s : Settings) (logs : List Float) (counts : List ℕ) (x : Flat) (n : NodeLists) (q : QueueLists) (rows count : ℕ) : Type 0 where
   pub fitting : Fitting s logs counts x
-  pub lawful : JobFits (single-lawful .bounds) (jobIn s logs x) (length (heldIn x))
+  pub lawful : JobFits singleSmall (jobIn s logs x) (length (heldIn x))
   pub logs-small : LogsWithin (rowCount x) logs
   pub counted : rows ≡ rowCount x
   pub room : HasRoom (max (2 * s .«max_leaves» - 1) count) n

@@ -18,7 +18,7 @@ use Rattle.model.specs.Job.{Job}
 use Rattle.model.specs.Grow.{State}
 use Rattle.model.specs.Lent.{Waiting}
 use Rattle.model.specs.Deepen.{depthsOf, withSeedNode, seedFrom}
-use Rattle.model.proofs.Bounded.{LogsWithin}
+use Rattle.model.specs.Accepting.{LogsWithin}
 use Rattle.checks.specs.Given.{settingsOf}
 use Rattle.checks.specs.declared.Settings.{Settings}
 use Rattle.layout.specs.declared.Leaf.{Leaf}

@@ -12,7 +12,8 @@ use lib.Seq.{take-suc-set, getD-take, length-take-le, getD-set-same, getD-set-ot
 use lib.IntN.{ℤ}
 use Rattle.model.specs.Tree.{Node, split, leaf, below}
 use Rattle.model.specs.Prune.{preorder, placeOf}
-use Rattle.model.proofs.Family.{Family, child-forward}
+use Rattle.model.specs.Family.{Family}
+use Rattle.model.proofs.Family.{child-forward}
 use Rattle.model.proofs.Preorder.{pre-range, pre-no-repeat, place-of}
 use Rattle.model.proofs.Tally.{short}
 use Rattle.layout.specs.Layout.{gtAt, leAt}

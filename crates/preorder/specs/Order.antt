@@ -7,7 +7,7 @@ use lib.ListN.{length, getD, set}
 use Rattle.model.specs.Settings.{maxNodes}
 use Rattle.model.specs.Tree.{Node, split, leaf}
 use Rattle.model.specs.Prune.{preorder}
-use Rattle.model.proofs.Family.{Family}
+use Rattle.model.specs.Family.{Family}
 use Rattle.layout.specs.Layout.{wordsPerNode, gtAt, leAt}
 
 -- le is pushed and then gt, so that gt is taken first

@@ -16,8 +16,7 @@ use Rattle.model.specs.Rows.{Span}
 use Rattle.model.specs.Tree.{Node, split, leaf, isLeaf}
 use Rattle.model.specs.Grow.{Entry, noEntry, treeNodes}
 use Rattle.model.specs.Prune.{preorder, placeOf, renumbered, moved, prunedNodes, prunedTree}
-use Rattle.model.proofs.Paths.{Forward}
-use Rattle.model.proofs.Family.{ChildOf, Child, Twins, Family}
+use Rattle.model.specs.Family.{Forward, ChildOf, Child, Twins, Family}
 use Rattle.model.proofs.Preorder.{place-at, mem-getD}
 use Rattle.model.proofs.Folding.{Folded, folds, length-pruned}
 use Rattle.model.proofs.Pruned.{closed, length-kept, entry-kept, order-short, old-number}

@@ -9,7 +9,7 @@ use Rattle.model.specs.Settings.{maxNodes}
 use Rattle.model.specs.Single.{singles}
 use Rattle.model.specs.Grow.{Entry, noEntry, treeNodes}
 use Rattle.model.specs.Prune.{prunedTree, prunedBits}
-use Rattle.model.proofs.Family.{Family}
+use Rattle.model.specs.Family.{Family}
 use Rattle.layout.specs.declared.Tree.{Tree}
 use Rattle.layout.specs.Tree.{NodeListsOf, NodeLists, holding, HasRoom}
 use Rattle.prune.specs.Prices.{IsNumber}

@@ -19,7 +19,7 @@ use Rattle.model.proofs.Places.{getD-any, length-each}
 use Rattle.model.proofs.Tests.{true-T}
 use Rattle.checks.specs.Given.{settingsOf}
 use Rattle.checks.specs.declared.Settings.{Settings}
-use Rattle.checks.proofs.Passed.{Accepted}
+use Rattle.checks.specs.Accepted.{Accepted}
 use Rattle.layout.specs.Tree.{NodeLists, HasRoom}
 use Rattle.layout.specs.Waiting.{QueueLists, QueueRoom}
 use Rattle.layout.proofs.Held.{room-fewer}

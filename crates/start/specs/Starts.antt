@@ -4,9 +4,7 @@ use mathlib.Core.Path.{_≡_}
 use mathlib.Core.List.{List}
 use lib.IntN.{ℤ}
 use lib.Ieee.{Float}
-use Rattle.model.proofs.Bounded.{LogsWithin}
-use Rattle.model.proofs.Lawful.{JobFits}
-use Rattle.model.proofs.SingleLawful.{single-lawful}
+use Rattle.model.specs.Accepting.{LogsWithin, singleSmall, JobFits}
 use Rattle.checks.specs.declared.Settings.{Settings}
 use Rattle.layout.specs.Tree.{NodeLists, HasRoom}
 use Rattle.layout.specs.Waiting.{QueueLists, QueueRoom}
@@ -17,7 +15,7 @@ use Rattle.state.specs.Grows.{jobIn}
 -- the lists have room for a tree of so many leaves
 pub record Plantable (s : Settings) (logs : List Float) (counts : List ℕ) (x : Flat) (n : NodeLists) (q : QueueLists) (rows : ℕ) : Type 0 where
   pub fitting : Fitting s logs counts x
-  pub lawful : JobFits (single-lawful .bounds) (jobIn s logs x) (rowCount x)
+  pub lawful : JobFits singleSmall (jobIn s logs x) (rowCount x)
   pub logs-small : LogsWithin (rowCount x) logs
   pub counted : rows ≡ rowCount x
   pub room : HasRoom (2 * s .«max_leaves» - 1) n

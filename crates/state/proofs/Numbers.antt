@@ -21,9 +21,9 @@ use Rattle.model.specs.Meter.{Meter}
 use Rattle.model.specs.Single.{singles}
 use Rattle.model.specs.Profile.{single, jobOf, isBetween}
 use Rattle.model.specs.Job.{Offer}
+use Rattle.model.specs.Accepting.{LogsWithin, singleSmall, JobFits}
 use Rattle.model.proofs.LogZero.{log-read}
-use Rattle.model.proofs.Lawful.{JobFits}
-use Rattle.model.proofs.Bounded.{LogsWithin, held, cost-within}
+use Rattle.model.proofs.Bounded.{held, cost-within}
 use Rattle.model.proofs.SingleLawful.{single-lawful}
 use Rattle.cost.proofs.Bounded.{log-within}
 use Rattle.checks.specs.Given.{settingsOf}
@@ -109,7 +109,7 @@ module _ {s : Settings} {logs : List Float} {counts : List ℕ} {x : Flat} (f : 
           rw read (f .logs-reach .fit (suc i) (omega arith) few)
 
   -- as `root-healthy`, `seed-healthy` and `steps-healthy` want it
-  pub job-fits : (uses : Bool) → JobFits (single-lawful .bounds) (jobOf single (settingsOf s) logs uses) (rowCount x)
+  pub job-fits : (uses : Bool) → JobFits singleSmall (jobOf single (settingsOf s) logs uses) (rowCount x)
   job-fits uses = single-lawful .fits (settingsOf s) logs uses (rowCount x) (f .settings .price) (f .settings .alphabet .1) (f .few) (f .logs-reach .long) logs-fit
 
 -- ---- what is offered

@@ -13,10 +13,8 @@ use Rattle.model.specs.Single.{singles}
 use Rattle.model.specs.Profile.{jobOf, single}
 use Rattle.model.specs.Job.{Offer, Job}
 use Rattle.model.specs.Grow.{State, noEntry}
-use Rattle.model.proofs.Invariant.{Invariant}
-use Rattle.model.proofs.Health.{Healthy}
-use Rattle.model.proofs.Growing.{Sized}
-use Rattle.model.proofs.SingleLawful.{single-lawful}
+use Rattle.model.specs.Accepting.{singleSmall}
+use Rattle.model.specs.Kept.{Invariant, Healthy, Sized}
 use Rattle.checks.specs.Given.{settingsOf}
 use Rattle.checks.specs.declared.Settings.{Settings}
 use Rattle.layout.specs.declared.Tree.{Tree}
@@ -46,7 +44,7 @@ pub record Grows (s : Settings) (logs : List Float) (counts : List ℕ) (x : Fla
   pub counted : tree .nodes ≡ length (st .tree)
   pub summed : tree .bits ≡ st .bits
   pub inv : Invariant (usesOf s x) seeds given st
-  pub healthy : Healthy (single-lawful .bounds) seeds given st
+  pub healthy : Healthy singleSmall seeds given st
   pub sized : Sized Number (rowCount x) st
   pub shallow : (k : ℕ) → k < length (st .tree) → (o : Offer singles)
       → getD (st .tree) k noEntry .offer ≡ some o → getD (st .tree) k noEntry .depth < maxDepth

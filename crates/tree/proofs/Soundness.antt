@@ -11,7 +11,7 @@ use Rattle.model.specs.Settings.{propsPerRow, maxNodes}
 use Rattle.model.specs.Single.{singles}
 use Rattle.model.specs.Tree.{split, leaf, Record, blankRecord, nodesOf}
 use Rattle.model.specs.Lent.{treeIn}
-use Rattle.model.proofs.Paths.{Forward}
+use Rattle.model.specs.Family.{Forward}
 use Rattle.model.proofs.Sound as model
 use Rattle.layout.specs.Layout.{valuesPerNode, kindAt, propAt, gtAt, leAt, nodesHeld, storedIn, nodeAt}
 use Rattle.tree.specs.Trees.{SoundTree}

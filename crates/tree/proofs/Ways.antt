@@ -10,7 +10,8 @@ use lib.Dec.{eqb}
 use Rattle.model.specs.Single.{singles}
 use Rattle.model.specs.Tree.{Node, split, nodesOf, reach, leafReached}
 use Rattle.model.specs.Lent.{treeIn}
-use Rattle.model.proofs.Paths.{Forward, towards-in}
+use Rattle.model.specs.Family.{Forward}
+use Rattle.model.proofs.Paths.{towards-in}
 use Rattle.layout.specs.Layout.{kindAt, propAt, gtAt, leAt, valAt, nodesHeld, storedIn}
 use Rattle.tree.specs.Trees.{childAt}
 use Rattle.tree.proofs.Entries.{nodes-length, node-at}

@@ -12,7 +12,7 @@ use Rattle.model.specs.Settings.{Settings}
 use Rattle.model.specs.Single.{singles}
 use Rattle.model.specs.Profile.{single}
 use Rattle.model.specs.Lent.{Lent, rowCount}
-use Rattle.model.specs.Refuse.{Refusal, refuseIf, refuseAt, isOutside, hasNoPredictor, isUneven, badRowFrom, isShortAlphabet, isBadLogs, isShortOfRoom, refusedBefore}
+use Rattle.model.specs.Refuse.{Refusal, refuseIf, refuseAt, isOutside, hasNoPredictor, isUneven, badRowFrom, isShortAlphabet, isBadLogs, isShortOfRoom, roomBesides, refusedBefore}
 use Rattle.checks.specs.Given.{settingsOf, Holds, Lends, lentOf, lends, foundOf, checkOf}
 use Rattle.model.proofs.Accepted.{in-range}
 use Rattle.checks.proofs.Ranges.{whole-rows}
@@ -48,7 +48,7 @@ module _ (t : Settings singles) (logs : List Float) (x : Lent singles) (short : 
   from-2 = refuseIf (hasNoPredictor t) 2 from-3
 
   abbrev whole : Option Refusal
-  whole = refusedBefore single t logs x short none
+  whole = refusedBefore single t logs x (roomBesides short)
 
 -- ---- what is lent
 -- a chain on what the function was given, and on lent lists x

@@ -8,7 +8,8 @@ use lib.Ieee.{nan}
 use borrow.Author.Count.{below-more}
 use borrow.Author.Needs.{needs, scaled-fits}
 use borrow.Author.Tests.{not-true, not-false}
-use Rattle.checks.proofs.Scan.{logFits, logs-short, logs-found, logs-good}
+use Rattle.checks.specs.Accepted.{logFits}
+use Rattle.checks.proofs.Scan.{logs-short, logs-found, logs-good}
 use Rattle.checks.proofs.logs_fit.Statement.{statement}
 use Rattle.checks.proofs.logs_fit.Tie as tie
 

@@ -5,7 +5,7 @@ use native.Mathlib.Omega.{arith}
 use borrow.Author.Needs.{needs}
 use Rattle.model.specs.Grow.{steps}
 use Rattle.model.specs.Learn.{rootState, learned}
-use Rattle.model.proofs.Root.{noSeeds}
+use Rattle.model.specs.Kept.{noSeeds}
 use Rattle.layout.specs.Tree.{nodeLists}
 use Rattle.rows.specs.Flat.{flat, heldIn}
 use Rattle.state.specs.Grows.{jobIn}

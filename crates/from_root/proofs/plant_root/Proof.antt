@@ -4,7 +4,7 @@ use Prim.Native.Nat.{ℕ, _-_}
 use native.Mathlib.Omega.{arith}
 use borrow.Author.Needs.{needs}
 use Rattle.model.specs.Learn.{rootState}
-use Rattle.model.proofs.Root.{noSeeds}
+use Rattle.model.specs.Kept.{noSeeds}
 use Rattle.layout.specs.Tree.{NodeLists, nodeLists}
 use Rattle.layout.specs.Waiting.{QueueLists, queueLists}
 use Rattle.layout.proofs.Held.{room-fewer}
