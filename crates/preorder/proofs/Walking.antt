@@ -12,7 +12,7 @@ use lib.Seq.{take-suc-set, getD-take, length-take-le, getD-set-same, getD-set-ot
 use lib.IntN.{ℤ}
 use Rattle.model.specs.Tree.{Node, split, leaf, below}
 use Rattle.model.specs.Prune.{preorder, placeOf}
-use Rattle.model.specs.Family.{Family}
+use Rattle.model.specs.Family.{ChildOf, Family}
 use Rattle.model.proofs.Family.{child-forward}
 use Rattle.model.proofs.Preorder.{pre-range, pre-no-repeat, place-of}
 use Rattle.model.proofs.Tally.{short}
@@ -62,7 +62,7 @@ module _ (nodes : List Node) (fam : Family nodes) (some : 0 < length nodes) wher
   pre-more zero i h b = absurd (omega arith)
   pre-more (suc f) i h b = ap (λ (l : List ℕ). i ∷ l) (go (getD nodes i leaf) (λ c k. child-forward nodes (fam .forward) i c k) (λ c hc bc. pre-more f c hc bc))
     where
-      go : (m : Node) → ((c : ℕ) → Rattle.model.proofs.Family.ChildOf m c → (i < c) × (c < n))
+      go : (m : Node) → ((c : ℕ) → ChildOf m c → (i < c) × (c < n))
           → ((c : ℕ) → c < n → n ≤ c + f → preorder (suc f) nodes c ≡ preorder f nodes c)
           → below (λ (c : ℕ). preorder (suc f) nodes c) m ≡ below (λ (c : ℕ). preorder f nodes c) m
       go leaf fw ih = refl
