@@ -15,7 +15,7 @@ use Rattle.model.specs.Profile.{single}
 use Rattle.model.specs.Token.{readable}
 use Rattle.model.specs.Tree.{faultOf, faultOnWay}
 use Rattle.model.specs.Lent.{Stored, Lent, rowCount, treeIn}
-use Rattle.model.specs.Refuse.{Refusal, refuseIf, refuseAt, isOutside, hasNoPredictor, isUneven, badRowFrom, isShortAlphabet, isBadLogs, isShortOfRoom, isShortOfSeedRoom, refusedBefore}
+use Rattle.model.specs.Refuse.{Refusal, refuseIf, refuseAt, refuseWith, isOutside, hasNoPredictor, isUneven, badRowFrom, isShortAlphabet, isBadLogs, isShortOfRoom, Besides, nothingBesides, refusedBefore, seedBesides}
 use Rattle.model.specs.Refuse.{learnRefusal, deepenRefusal, lookupRefusal, contextsRefusal, sampleRefusal, tokenRefusal}
 
 -- the number of a refusal, and 1 if there is none
@@ -43,19 +43,23 @@ module _ (n : ℕ) (low : T (leb 1 n)) (high : T (leb n 10)) where
   numbered-at none rest = rest
   numbered-at (some p) rest = record { above = leb→le 1 n low; below = leb→le n 10 high }
 
-before : (t : Settings singles) (logs : List Float) (x : Lent singles) (short : Bool) {last : Option Refusal} → Numbered last → Numbered (refusedBefore single t logs x short last)
+numbered-with : {o next : Option Refusal} → Numbered o → Numbered next → Numbered (refuseWith o next)
+numbered-with {o = none} h rest = rest
+numbered-with {o = some r} h rest = h
+
+before : (t : Settings singles) (logs : List Float) (x : Lent singles) (b : Besides) → Numbered (b .after3) → Numbered (b .after7) → Numbered (refusedBefore single t logs x b)
 unfolding refusedBefore
-before t logs x short h =
-    numbered-if 1 tt tt (isOutside single t) (numbered-if 2 tt tt (hasNoPredictor t) (numbered-if 3 tt tt (isUneven x) (numbered-at 4 tt tt (badRowFrom (t .alphabet) (rowCount x) 0 (x .toks))
-    (numbered-if 5 tt tt (isShortAlphabet t x) (numbered-if 6 tt tt (isBadLogs single logs x) (numbered-if 7 tt tt (isShortOfRoom t x || short) h))))))
+before t logs x b h rest =
+    numbered-if 1 tt tt (isOutside single t) (numbered-if 2 tt tt (hasNoPredictor t) (numbered-if 3 tt tt (isUneven x) (numbered-with h (numbered-at 4 tt tt (badRowFrom (t .alphabet) (rowCount x) 0 (x .toks))
+    (numbered-if 5 tt tt (isShortAlphabet t x) (numbered-if 6 tt tt (isBadLogs single logs x) (numbered-if 7 tt tt (isShortOfRoom t x || b .short) rest)))))))
 
 pub learn-numbered : (t : Settings singles) (logs : List Float) (x : Lent singles) → Numbered (learnRefusal single t logs x)
 unfolding learnRefusal
-learn-numbered t logs x = before t logs x false unrefused
+learn-numbered t logs x = before t logs x nothingBesides unrefused unrefused
 
 pub deepen-numbered : (t : Settings singles) (logs : List Float) (count : ℕ) (x : Lent singles) → Numbered (deepenRefusal single t logs count x)
 unfolding deepenRefusal
-deepen-numbered t logs count x = before t logs x (isShortOfSeedRoom count x) (numbered-at 8 tt tt (faultOf (treeIn count (x .nodes))) unrefused)
+deepen-numbered t logs count x = before t logs x (seedBesides count x) unrefused (numbered-at 8 tt tt (faultOf (treeIn count (x .nodes))) unrefused)
 
 pub lookup-numbered : (nodes : List (Stored singles)) (count : ℕ) (ps : List ℤ) → Numbered (lookupRefusal nodes count ps)
 unfolding lookupRefusal
