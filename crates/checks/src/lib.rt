@@ -1,7 +1,6 @@
 // Refusals 1 to 7 of learning and deepening (document 01, "Which number comes back"): the first condition that holds, in 01's order. Nothing is written.
 ghost use mathlib.Core.Path.{_≡_};
 ghost use mathlib.Core.Bool.{false, not};
-ghost use mathlib.Core.Option.{none};
 ghost use Prim.Native.Nat.{_/_, _<_};
 ghost use lib.ListN.{length};
 ghost use lib.IntN.{pos};

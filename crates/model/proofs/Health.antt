@@ -1,4 +1,4 @@
--- What growth keeps besides the invariant: fields in range, small costs, a parent for each node but the first, spans within the parent's, and
+-- Growth keeps what is asked besides the invariant: fields in range, small costs, a parent for each node but the first, spans within the parent's, and
 -- every place in the span of a leaf. Assumes nothing.
 use mathlib.Core.Path.{_≡_, refl, ap, _∙_, subst}
 use mathlib.Core.Logic.{_≢_, _⊎_, inl, inr}

@@ -1,4 +1,4 @@
--- What growth keeps, and that a step keeps it. Assumes nothing.
+-- A step of growth keeps the invariant. Assumes nothing.
 use mathlib.Core.Path.{_≡_, refl, sym, ap, _∙_, subst}
 use mathlib.Core.Logic.{_≢_, _⊎_, inl, inr}
 use Prim.Native.Nat.{ℕ, suc, _+_, _-_, _≤_, _<_}

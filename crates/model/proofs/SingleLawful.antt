@@ -27,13 +27,14 @@ sum-small m n x y h p q =
     let held : Held binary64 ((m + n) * 2 ^ 31) = record { q = m + n; j = 31; is = refl; digits = omega arith; range = lit≤ tt } in
     add-within binary64 x y (m * 2 ^ 31) (n * 2 ^ 31) ((m + n) * 2 ^ 31) held (omega arith) p q
 
+-- no such total is as large as an endless one
 pub endless-above : (n : ℕ) (x : Float) → singleSmall n x → le (inf false) x ≡ false
 unfolding le
 endless-above n nan h = absurd h
 endless-above n (inf s) h = absurd h
 endless-above n (fin s m e) h = refl
 
--- how large its totals grow
+-- how large the totals of the learner grow
 abbrev pub single-bounds : Bounds singles
 single-bounds =
     record {
@@ -44,11 +45,12 @@ single-bounds =
       endless-above = λ n x h p. endless-above n x p;
     }
 
+-- the cost beside a node is at most one unit
 info-small : (t : Settings singles) (logs : List Float) (mode : ℤ) (rows : List Row) → t .alphabet ≤ 256 → length rows ≤ maxRows → LogsWithin (length rows) logs → singleSmall 1 (infoOf t logs mode rows .cost)
 unfolding infoOf
 info-small t logs mode rows a r l = within-mono (costOf t logs rows (bestPredictor t logs rows)) {b = 257 * 2 ^ 22} {c = 1 * 2 ^ 31} (lit≤ tt) (cost-within t logs rows (bestPredictor t logs rows) a r l)
 
--- evaluation stays in range
+-- evaluation stays in range where the checks pass
 pub single-fits : (t : Settings singles) (logs : List Float) (uses : Bool) (n : ℕ) → T (single .priceFits (t .price)) → t .alphabet ≤ 256 → n ≤ maxRows → n < length logs
     → T (single .logsFit (take n (drop 1 logs))) → JobFits singleSmall (jobOf single t logs uses) n
 single-fits t logs uses n price a r h l =
@@ -59,5 +61,6 @@ single-fits t logs uses n price a r h l =
       price-small = within-mono (t .price) {b = 2 ^ 20} {c = 1 * 2 ^ 31} (lit≤ tt) (price-within (t .price) price);
     }
 
+-- both: the learner is lawful
 abbrev pub single-lawful : Lawful single
 single-lawful = record { bounds = single-bounds; fits = single-fits }

@@ -71,6 +71,7 @@ pub named : (o : Option ℕ) (n : ℕ) (next : Option Refusal) → (refuseAt o n
 named none n next = (λ e. (refl, e), λ p. p .1)
 named (some i) n next = (λ e. absurd (none-is-no-some _ (sym e)), λ p. absurd (none-is-no-some _ (sym (p .0))))
 
+-- no refusal that an operation asks besides, and none further
 pub unasked : (o next : Option Refusal) → (refuseWith o next ≡ none) ↔ ((o ≡ none) × (next ≡ none))
 unasked none next = (λ e. (refl, e), λ p. p .1)
 unasked (some r) next = (λ e. absurd (none-is-no-some r (sym e)), λ p. absurd (none-is-no-some r (sym (p .0))))

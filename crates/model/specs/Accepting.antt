@@ -81,7 +81,9 @@ singleSmall n x = Within (n * 2 ^ 31) x
 -- an offer's property is in range, and both sides of its threshold have rows
 abbrev pub OfferFits : {M : Meter} → List Row → Option (Offer M) → Type 0
 OfferFits rows none = Unit {0}
-OfferFits rows (some o) = T (ltb (o .prop) propsPerRow) × (0 < countIf (isAbove (o .prop) (o .val)) rows) × (countIf (isAbove (o .prop) (o .val)) rows < length rows)
+OfferFits rows (some o) =
+    T (ltb (o .prop) propsPerRow) × (0 < countIf (isAbove (o .prop) (o .val)) rows)
+    × (countIf (isAbove (o .prop) (o .val)) rows < length rows)
 
 -- evaluation of at most so many rows stays in range; `Small n t` says that the total t is at most n units in size
 pub record JobFits {M : Meter} (Small : ℕ → M .Total → Type 0) (j : Job M) (most : ℕ) : Type 0 where

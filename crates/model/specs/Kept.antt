@@ -25,7 +25,9 @@ HoldsPassing uses nodes given rows s k = SameRows uses (within s rows) (keep (pa
 
 -- two nodes' spans: one before the other, or inside it with its node below the other's
 abbrev pub Laid : List Node → ℕ → ℕ → Span → Span → Type 0
-Laid nodes i k s t = (s .end ≤ t .first) ⊎ ((t .end ≤ s .first) ⊎ ((Anc nodes k i × (t .first ≤ s .first) × (s .end ≤ t .end)) ⊎ (Anc nodes i k × (s .first ≤ t .first) × (t .end ≤ s .end))))
+Laid nodes i k s t =
+    (s .end ≤ t .first) ⊎ ((t .end ≤ s .first) ⊎ ((Anc nodes k i × (t .first ≤ s .first) × (s .end ≤ t .end))
+    ⊎ (Anc nodes i k × (s .first ≤ t .first) × (t .end ≤ s .end))))
 
 -- a split's property, or the predictor beside a leaf, is in range
 abbrev pub FieldsFit : Node → ℕ → Type 0
@@ -45,13 +47,18 @@ module _ {M : Meter} where
   pub record Invariant (uses : Bool) (seeds : ℕ → Bool) (given : List Row) (s : State M) : Type 0 where
     pub family : Family (treeNodes (s .tree))
     pub rooted : 0 < length (s .tree)
-    pub bounds : (k : ℕ) → k < length (s .tree) → (entryAt (s .tree) k .span .first ≤ entryAt (s .tree) k .span .end) × (entryAt (s .tree) k .span .end ≤ length (s .rows))
+    pub bounds : (k : ℕ) → k < length (s .tree)
+        → (entryAt (s .tree) k .span .first ≤ entryAt (s .tree) k .span .end) × (entryAt (s .tree) k .span .end ≤ length (s .rows))
     pub own : (k : ℕ) → T (isLeaf (entryAt (s .tree) k .node)) → seeds k ≡ false
     pub endless : (k : ℕ) → seeds k ≡ true → entryAt (s .tree) k .info .cost ≡ M .endless
-    pub laid : (i k : ℕ) → i < length (s .tree) → k < length (s .tree) → i ≢ k → Laid (treeNodes (s .tree)) i k (entryAt (s .tree) i .span) (entryAt (s .tree) k .span)
-    pub holds : (k : ℕ) → k < length (s .tree) → seeds k ≡ false → HoldsPassing uses (treeNodes (s .tree)) given (s .rows) (entryAt (s .tree) k .span) k
-    pub fresh-tokens : (k : ℕ) → k < length (s .tree) → T (isLeaf (entryAt (s .tree) k .node)) → fresh uses (within (entryAt (s .tree) k .span) (s .rows)) ≡ within (entryAt (s .tree) k .span) (s .rows)
-    pub offers : (k : ℕ) → k < length (s .tree) → (o : Offer M) → entryAt (s .tree) k .offer ≡ some o → T (isLeaf (entryAt (s .tree) k .node))
+    pub laid : (i k : ℕ) → i < length (s .tree) → k < length (s .tree) → i ≢ k
+        → Laid (treeNodes (s .tree)) i k (entryAt (s .tree) i .span) (entryAt (s .tree) k .span)
+    pub holds : (k : ℕ) → k < length (s .tree) → seeds k ≡ false
+        → HoldsPassing uses (treeNodes (s .tree)) given (s .rows) (entryAt (s .tree) k .span) k
+    pub fresh-tokens : (k : ℕ) → k < length (s .tree) → T (isLeaf (entryAt (s .tree) k .node))
+        → fresh uses (within (entryAt (s .tree) k .span) (s .rows)) ≡ within (entryAt (s .tree) k .span) (s .rows)
+    pub offers : (k : ℕ) → k < length (s .tree) → (o : Offer M) → entryAt (s .tree) k .offer ≡ some o
+        → T (isLeaf (entryAt (s .tree) k .node))
 
   -- the property of what an entry offers is in range
   abbrev pub OfferInRange : Option (Offer M) → Type 0

@@ -93,10 +93,11 @@ pub record Besides : Type 0 where
   -- a refusal after condition 7, or none
   pub after7 : Option Refusal
 
--- more room at most
+-- no more than room
 abbrev pub roomBesides : Bool → Besides
 roomBesides short = record { after3 = none; short = short; after7 = none }
 
+-- nothing
 abbrev pub nothingBesides : Besides
 nothingBesides = roomBesides false
 
@@ -112,6 +113,7 @@ refusedBefore P t logs x asked =
     (refuseIf (isBadLogs P logs x) (P .logsNumber)
     (refuseIf (isShortOfRoom t x || asked .short) 7 (asked .after7))))))))
 
+-- the refusal of learning, if any
 unfoldable pub learnRefusal : (P : Profile) → Settings (P .meter) → List (P .meter .Cost) → Lent (P .meter) → Option Refusal
 learnRefusal P t logs x = refusedBefore P t logs x nothingBesides
 
@@ -120,6 +122,7 @@ abbrev pub seedBesides : {M : Meter} → ℕ → Lent M → Besides
 seedBesides count x =
     record { after3 = none; short = isShortOfSeedRoom count x; after7 = refuseAt (faultOf (treeIn count (x .nodes))) 8 none }
 
+-- the refusal of deepening, if any
 unfoldable pub deepenRefusal : (P : Profile) → Settings (P .meter) → List (P .meter .Cost) → ℕ → Lent (P .meter) → Option Refusal
 deepenRefusal P t logs count x = refusedBefore P t logs x (seedBesides count x)
 
