@@ -1,29 +1,30 @@
-// Refusals 1 to 7 of learning and deepening (document 01, "Which number comes back"): the first condition that holds, in 01's order. Nothing is written.
+// Refusals 1 to 7 of learning and deepening (document 01, "Which number comes back"): the first condition that holds,
+// in 01's order. Nothing is written.
 ghost use mathlib.Core.Path.{_≡_};
 ghost use mathlib.Core.Bool.{false, not};
 ghost use Prim.Native.Nat.{_/_, _<_};
 ghost use lib.ListN.{length};
 ghost use lib.IntN.{pos};
 ghost use lib.Ieee.{fin};
+ghost use Rattle.model.specs.Settings.{toksPerRow};
 ghost use Rattle.model.specs.Cost.{isUsable};
 ghost use Rattle.model.specs.Single.{singles};
 ghost use Rattle.model.specs.Profile.{isBetween, single};
 ghost use Rattle.model.specs.Lent.{Lent, rowCount};
-ghost use Rattle.model.specs.Refuse.{isOutside, hasNoPredictor, isUneven, badRowFrom, isShortAlphabet, isBadLogs, countsWanted, isShortOfRoom, isShortOfSeedRoom, roomBesides, refusedBefore, learnRefusal};
+ghost use Rattle.model.specs.Refuse.{isOutside, hasNoPredictor, isUneven, badRowFrom, isShortAlphabet, isBadLogs};
+ghost use Rattle.model.specs.Refuse.{countsWanted, isShortOfRoom, isShortOfSeedRoom, roomBesides};
+ghost use Rattle.model.specs.Refuse.{refusedBefore, learnRefusal};
 ghost use Rattle.model.specs.Accepting.{InRange};
 ghost use Rattle.checks.specs.Given.{settingsOf, Holds, HasRooms, Lends, WholeRows, foundOf, checkOf};
-
-// The properties of a row.
-pub const NUM_MA_PROPS: usize = 24;
-
-// The tokens of a row, one for each predictor.
-pub const NUM_MA_PREDS: usize = 14;
 
 // The weighted predictor.
 pub const PRED_WEIGHTED: usize = 6;
 
-// The most rows of a job.
-pub const MAX_ROWS: usize = 65536;
+// The first part of the count space: the mode step counts residuals there, and the candidates mark values.
+const FIRST_COUNTS: usize = 4096;
+
+// How many counts flat bits take for each token of the alphabet: one for each predictor, in four groups of rows.
+pub const FLAT_COUNTS: usize = 4 * model::NUM_MA_PREDS;
 
 // The settings of a job, in 01's order and under the names of the Rust's `MaLearnParams`.
 #[repr(C)]
@@ -70,13 +71,16 @@ pub fn price_fits(x: f32) -> bool
     (0.0 <= x) & (x <= 1048576.0)
 }
 
+// Every setting lies in 01's range.
 pub fn settings_fit(s: Settings) -> bool
     ensures { λ r. ⌜ r ≡ not (isOutside single (settingsOf s)) ⌝ }
 {
     let alphabet = (1 <= s.alphabet) & (s.alphabet <= 256);
-    let limit = (1 <= s.max_leaves) & (s.max_leaves <= 4096);
+    let limit = (1 <= s.max_leaves) & (s.max_leaves <= model::MAX_LEAVES as u32);
     let prices = price_fits(s.split_cost_bits) & price_fits(s.prune_leaf_bits);
-    let counts = (s.min_node <= 65536) & (s.side_preds <= 14) & (s.max_candidates <= 32);
+    let counts = (s.min_node <= model::MAX_ROWS as u32)
+        & (s.side_preds <= model::NUM_MA_PREDS as u32)
+        & (s.max_candidates <= 32);
     alphabet & limit & prices & counts
 }
 
@@ -84,17 +88,18 @@ pub fn settings_fit(s: Settings) -> bool
 
 // Predictor p is allowed, and is not the weighted one where that is switched off.
 pub fn is_usable(s: Settings, p: usize) -> bool
-    requires { ⌜ p < 14 ⌝ }
+    requires { ⌜ p < toksPerRow ⌝ }
     ensures { λ r. ⌜ r ≡ isUsable (settingsOf s) p ⌝ }
 {
     (s.allow_wp | (p != PRED_WEIGHTED)) & ((s.allowed_preds >> p) % 2 == 1)
 }
 
+// At least one predictor may be used.
 pub fn any_usable(s: Settings) -> bool
     ensures { λ r. ⌜ r ≡ not (hasNoPredictor (settingsOf s)) ⌝ }
 {
     let mut p: usize = 0;
-    while p < NUM_MA_PREDS {
+    while p < model::NUM_MA_PREDS {
         if is_usable(s, p) {
             return true;
         }
@@ -105,26 +110,28 @@ pub fn any_usable(s: Settings) -> bool
 
 // ---- 3: the lists are whole rows
 
-// Goes by the lengths of the property, token and residual lists.
+// Goes by the lengths of the property, token and residual lists: each holds whole rows, and as many.
 pub fn shape_fits(props: usize, tok: usize, res: usize) -> bool
     ensures { λ r. ⌜ ((x : Lent singles) → Holds props tok res x → r ≡ not (isUneven x)) ⌝ }
 {
-    let rows = props / NUM_MA_PROPS;
-    let uneven = (props % NUM_MA_PROPS != 0) | (MAX_ROWS < rows) | (tok != NUM_MA_PREDS * rows);
+    let rows = props / model::NUM_MA_PROPS;
+    let uneven = (props % model::NUM_MA_PROPS != 0)
+        | (model::MAX_ROWS < rows)
+        | (tok != model::NUM_MA_PREDS * rows);
     !(uneven | !((res == 0) | (res == rows)))
 }
 
 // ---- 4: every token is below the alphabet
 
-// The lowest row with a token that is not.
+// The lowest row with a token that is not below the alphabet.
 pub fn first_bad_row(tok: &[u8], alphabet: u32) -> Found
     requires { ⌜ WholeRows (length (now tok)) ⌝ }
-    ensures { λ r. ⌜ r ≡ foundOf (badRowFrom alphabet (length (now (tok .entry)) / 14) 0 (now (tok .entry))) ⌝ }
+    ensures { λ r. ⌜ r ≡ foundOf (badRowFrom alphabet (length (now (tok .entry)) / toksPerRow) 0 (now (tok .entry))) ⌝ }
 {
     let mut k: usize = 0;
     while k < tok.len() {
         if alphabet <= tok[k] as u32 {
-            return Found::Row((k / NUM_MA_PREDS) as u32);
+            return Found::Row((k / model::NUM_MA_PREDS) as u32);
         }
         k += 1;
     }
@@ -133,23 +140,24 @@ pub fn first_bad_row(tok: &[u8], alphabet: u32) -> Found
 
 // ---- 5: the alphabet has room for every zero token, where modal offsets are in use
 
-// Of `rows` rows and `res` residuals.
+// The alphabet fits a job of `rows` rows and `res` residuals.
 pub fn alphabet_fits(s: Settings, rows: usize, res: usize) -> bool
-    ensures { λ r. ⌜ ((x : Lent singles) → rowCount x ≡ rows → length (x .res) ≡ res → r ≡ not (isShortAlphabet (settingsOf s) x)) ⌝ }
+    ensures { λ r. ⌜ ((x : Lent singles) → rowCount x ≡ rows → length (x .res) ≡ res
+        → r ≡ not (isShortAlphabet (settingsOf s) x)) ⌝ }
 {
     !(s.modal_offsets & (0 < res) & (0 < rows) & (s.alphabet < 128))
 }
 
 // ---- 6: the logarithms
 
-// Finite and 0 to 32.
+// A logarithm: finite and 0 to 32.
 pub fn log_fits(x: f32) -> bool
     ensures { λ r. ⌜ r ≡ isBetween (fin false 0 (pos 0)) (fin false 1 (pos 5)) x ⌝ }
 {
     (0.0 <= x) & (x <= 32.0)
 }
 
-// Looks at entries 1 to rows only.
+// The logarithms of a job of `rows` rows: entries 1 to rows are looked at, no others.
 pub fn logs_fit(logs: &[f32], rows: usize) -> bool
     ensures { λ r. ⌜ ((x : Lent singles) → rowCount x ≡ rows → r ≡ not (isBadLogs single (now (logs .entry)) x)) ⌝ }
 {
@@ -175,10 +183,12 @@ pub fn counts_wanted(s: Settings) -> usize
 {
     let a = s.alphabet as usize;
     let sides = lists::larger(s.side_preds as usize, 1);
-    let scored = 14 * a + sides * a * (s.max_candidates as usize + 2);
-    4096 + lists::larger(56 * a, scored)
+    let scored = model::NUM_MA_PREDS * a + sides * a * (s.max_candidates as usize + 2);
+    FIRST_COUNTS + lists::larger(FLAT_COUNTS * a, scored)
 }
 
+// What learning and deepening ask for: a node and a span for each node of the largest tree, a place in the queue for
+// each leaf, and the count space.
 pub fn rooms_fit(s: Settings, rooms: Rooms) -> bool
     requires { ⌜ InRange single (settingsOf s) ⌝ }
     ensures { λ r. ⌜ ((x : Lent singles) → HasRooms rooms x → r ≡ not (isShortOfRoom (settingsOf s) x)) ⌝ }
@@ -189,9 +199,11 @@ pub fn rooms_fit(s: Settings, rooms: Rooms) -> bool
     !(short | (rooms.counts < counts_wanted(s)))
 }
 
-// What deepening asks for besides, for a seed of `count` nodes. The sum rows + 2 * count could wrap, so it is taken apart.
+// What deepening asks for besides, for a seed of `count` nodes. The sum rows + 2 * count could wrap, so it is taken
+// apart.
 pub fn seed_rooms_fit(rooms: Rooms, rows: usize, count: usize) -> bool
-    ensures { λ r. ⌜ ((x : Lent singles) → rowCount x ≡ rows → HasRooms rooms x → r ≡ not (isShortOfSeedRoom count x)) ⌝ }
+    ensures { λ r. ⌜ ((x : Lent singles) → rowCount x ≡ rows → HasRooms rooms x
+        → r ≡ not (isShortOfSeedRoom count x)) ⌝ }
 {
     if rooms.counts < rows {
         return false;
@@ -202,6 +214,7 @@ pub fn seed_rooms_fit(rooms: Rooms, rows: usize, count: usize) -> bool
 
 // ---- the first condition that holds
 
+// A refusal that names no place.
 fn refused(number: u32) -> Check
     ensures { λ r. ⌜ r ≡ Check.Refused number 0 ⌝ }
 {
@@ -233,7 +246,7 @@ fn check_job(
     if let Found::Row(place) = first_bad_row(tok, s.alphabet) {
         return Check::Refused { number: 4, place };
     }
-    let rows = props.len() / NUM_MA_PROPS;
+    let rows = props.len() / model::NUM_MA_PROPS;
     if !alphabet_fits(s, rows, res.len()) {
         return refused(5);
     }
@@ -275,6 +288,6 @@ pub fn check_deepen(
         → r ≡ checkOf (rowCount x) (refusedBefore single (settingsOf s) (now (logs .entry)) x
         (roomBesides (isShortOfSeedRoom count x)))) ⌝ }
 {
-    let short = !seed_rooms_fit(rooms, props.len() / NUM_MA_PROPS, count);
+    let short = !seed_rooms_fit(rooms, props.len() / model::NUM_MA_PROPS, count);
     check_job(s, props, tok, res, logs, rooms, short)
 }

@@ -1,28 +1,31 @@
-// How nodes, spans and waiting leaves stand in flat lists of numbers: the constants, the records and the functions that read and write one. Nobody else knows
-// a place. Beside them the values that the learner's parts pass to one another. What the lists hold is said in specs/.
+// How nodes, spans and waiting leaves stand in flat lists of numbers: the constants, the records and the functions that
+// read and write one. Nobody else knows a place. Beside them the values that the learner's parts pass to one another.
+// What the lists hold is said in specs/.
 ghost use mathlib.Core.Path.{_≡_};
 ghost use mathlib.Core.Bool.{true};
-ghost use Prim.Native.Nat.{_+_, _*_, _≤_, _<_};
+ghost use Prim.Native.Nat.{_+_, _*_, _/_, _^_, _≤_, _<_, min};
 ghost use lib.ListN.{length, set};
 ghost use lib.Seq.{paste};
 ghost use lib.Dec.{eqb};
 ghost use Rattle.model.specs.Settings.{maxNodes, maxRows};
 ghost use Rattle.model.specs.Deepen.{seedSplit};
-ghost use Rattle.layout.specs.Layout.{wordsPerNode, valuesPerNode, kindAt, propAt, gtAt, leAt, predAt, firstAt, endAt, valAt, nodeAt};
+ghost use Rattle.layout.specs.Layout.{wordsPerNode, valuesPerNode};
+ghost use Rattle.layout.specs.Layout.{kindAt, propAt, gtAt, leAt, predAt, firstAt, endAt, valAt, nodeAt};
 ghost use Rattle.layout.specs.Layout.{putWords, putSpan, putValues, HasWords, HasValues, HasNodes};
 ghost use Rattle.layout.specs.Records.{nodeOf};
 ghost use Rattle.layout.specs.Tree.{nodesNow, HasRoom, put, leafWith, splitWords};
 ghost use Rattle.layout.specs.Kept.{infoAt, keptNode};
-ghost use Rattle.layout.specs.Waiting.{queueLists, QueueRoom, PendingAt, putWaitWords};
+ghost use Rattle.layout.specs.Waiting.{wordsPerLeaf, queueLists, QueueRoom, PendingAt, putWaitWords};
 
-// A node's words are kind, property, gt, le and predictor, and then its span: the first row and the row behind the last.
+// How many words a node has: kind, property, gt, le and predictor, and then its span, the first row and the row behind
+// the last.
 pub const NODE_WORDS: usize = 7;
 
-// Its values are threshold and offset.
+// How many values a node has: threshold and offset.
 pub const NODE_VALUES: usize = 2;
 
-// A waiting leaf's words are node, property and depth.
-pub const LEAF_WORDS: usize = 3;
+// How many words a waiting leaf has: node, property and depth.
+const LEAF_WORDS: usize = 3;
 
 // Most nodes of a tree, and their words and values.
 pub const MAX_NODES: usize = 8191;
@@ -31,7 +34,8 @@ pub const MAX_WORDS: usize = MAX_NODES * NODE_WORDS;
 
 pub const MAX_VALUES: usize = MAX_NODES * NODE_VALUES;
 
-// A node's place in the node list. A leaf's context is another type (crate `contexts`), so that a context never indexes the node list.
+// A node's place in the node list. A leaf's context is another type (crate `contexts`), so that a context never indexes
+// the node list.
 pub struct NodeNumber(pub u32);
 
 // The cost of a node in bits, its predictor and its offset.
@@ -42,9 +46,9 @@ pub struct NodeInfo {
     pub offset: i32,
 }
 
-// A node as a caller holds it: its kind, 1 for a split and any other number for a leaf; a split's property, threshold and children, for which
-// a leaf has no use; and beside every node its cost, predictor and offset. Eight numbers of 32 bits with nothing
-// between them, and each may hold any bits.
+// A node as a caller holds it: its kind, 1 for a split and any other number for a leaf; a split's property, threshold
+// and children, for which a leaf has no use; and beside every node its cost, predictor and offset. Eight numbers of 32
+// bits with nothing between them, and each may hold any bits.
 #[repr(C)]
 pub struct MaNode {
     pub kind: u32,
@@ -90,8 +94,9 @@ pub struct Tree {
     pub bits: f64,
 }
 
-// ---- how much n nodes take: words and values
+// ---- how much room nodes and leaves take
 
+// How many words n nodes take.
 pub fn words_for(n: usize) -> usize
     requires { ⌜ n ≤ maxNodes ⌝ }
     ensures { λ r. ⌜ r ≡ n * wordsPerNode ⌝ }
@@ -99,11 +104,48 @@ pub fn words_for(n: usize) -> usize
     n * NODE_WORDS
 }
 
+// How many values n nodes take.
 pub fn values_for(n: usize) -> usize
     requires { ⌜ n ≤ maxNodes ⌝ }
     ensures { λ r. ⌜ r ≡ n * valuesPerNode ⌝ }
 {
     n * NODE_VALUES
+}
+
+// How many nodes lists of so many words and values hold: those that have all their words and values.
+pub fn nodes_in(words: usize, values: usize) -> usize
+    ensures { λ r. ⌜ r ≡ min (words / wordsPerNode) (values / valuesPerNode) ⌝ }
+{
+    let by_words = words / NODE_WORDS;
+    let by_values = values / NODE_VALUES;
+    if by_words < by_values {
+        by_words
+    } else {
+        by_values
+    }
+}
+
+// How many leaves a tree of so many nodes has: each split has two children, so there is one leaf more than splits.
+pub fn leaves_of(nodes: usize) -> usize
+    requires { ⌜ nodes ≤ maxNodes ⌝ }
+    ensures { λ r. ⌜ r ≡ (nodes + 1) / 2 ⌝ }
+{
+    (nodes + 1) / 2
+}
+
+// How many words n waiting leaves take.
+pub fn words_for_leaves(n: usize) -> usize
+    requires { ⌜ n * wordsPerLeaf < 2 ^ 64 ⌝ }
+    ensures { λ r. ⌜ r ≡ n * wordsPerLeaf ⌝ }
+{
+    n * LEAF_WORDS
+}
+
+// How many waiting leaves so many words hold.
+pub fn leaves_in(words: usize) -> usize
+    ensures { λ r. ⌜ r ≡ words / wordsPerLeaf ⌝ }
+{
+    words / LEAF_WORDS
 }
 
 // ---- one field of a node
@@ -176,10 +218,10 @@ pub fn put_node<'a>(
     costs: &'a mut [f32],
 )
     requires { ⌜ HasNodes (i + 1) (now words) (now values) (now costs) ⌝ }
-    ensures { λ _. ⌜ now (words .exit)
+    ensures words { λ _. ⌜ now (words .exit)
         ≡ putWords i (m .kind) (m .prop) (m .gt) (m .le) (m .info .pred) (now (words .entry)) ⌝ }
-    ensures { λ _. ⌜ now (values .exit) ≡ putValues i (m .val) (m .info .offset) (now (values .entry)) ⌝ }
-    ensures { λ _. ⌜ now (costs .exit) ≡ set (now (costs .entry)) i (m .info .cost) ⌝ }
+    ensures values { λ _. ⌜ now (values .exit) ≡ putValues i (m .val) (m .info .offset) (now (values .entry)) ⌝ }
+    ensures costs { λ _. ⌜ now (costs .exit) ≡ set (now (costs .entry)) i (m .info .cost) ⌝ }
 {
     let at = i * NODE_WORDS;
     words[at] = m.kind;
@@ -252,8 +294,8 @@ pub fn put_leaf(
 // Node i becomes a split over the nodes gt and gt + 1. Its predictor, its offset, its cost and its span stay.
 pub fn put_split(words: &mut [u32], values: &mut [i32], i: usize, prop: u32, val: i32, gt: u32)
     requires { ⌜ HasWords (now words) (i + 1) × HasValues (now values) (i + 1) × (gt < maxNodes) × (i < maxNodes) ⌝ }
-    ensures { λ _. ⌜ now (words .exit) ≡ paste (now (words .entry)) (i * wordsPerNode) (splitWords prop gt) 4 ⌝ }
-    ensures { λ _. ⌜ now (values .exit) ≡ set (now (values .entry)) (i * valuesPerNode) val ⌝ }
+    ensures words { λ _. ⌜ now (words .exit) ≡ paste (now (words .entry)) (i * wordsPerNode) (splitWords prop gt) 4 ⌝ }
+    ensures values { λ _. ⌜ now (values .exit) ≡ set (now (values .entry)) (i * valuesPerNode) val ⌝ }
 {
     let at = i * NODE_WORDS;
     words[at] = 1;
@@ -338,9 +380,9 @@ pub fn pending_at(words: &[u32], values: &[i32], gains: &[f32], k: usize) -> Pen
 
 pub fn put_pending(words: &mut [u32], values: &mut [i32], gains: &mut [f32], k: usize, p: Pending)
     requires { ⌜ QueueRoom (k + 1) (queueLists (now words) (now values) (now gains)) ⌝ }
-    ensures { λ _. ⌜ now (words .exit) ≡ putWaitWords k (p .node) (p .prop) (p .depth) (now (words .entry)) ⌝ }
-    ensures { λ _. ⌜ now (values .exit) ≡ set (now (values .entry)) k (p .val) ⌝ }
-    ensures { λ _. ⌜ now (gains .exit) ≡ set (now (gains .entry)) k (p .gain) ⌝ }
+    ensures words { λ _. ⌜ now (words .exit) ≡ putWaitWords k (p .node) (p .prop) (p .depth) (now (words .entry)) ⌝ }
+    ensures values { λ _. ⌜ now (values .exit) ≡ set (now (values .entry)) k (p .val) ⌝ }
+    ensures gains { λ _. ⌜ now (gains .exit) ≡ set (now (gains .entry)) k (p .gain) ⌝ }
 {
     let at = k * LEAF_WORDS;
     words[at] = p.node;

@@ -1,4 +1,5 @@
-// The plain loops over lists of numbers: cells set to one value, copied, moved up; and the smaller and the larger of two lengths.
+// The plain loops over lists of numbers: cells set to one value, copied, moved up; and the smaller and the larger of
+// two lengths.
 ghost use mathlib.Core.Path.{_≡_};
 ghost use mathlib.Core.Bool.{false};
 ghost use mathlib.Core.List.{_++_};

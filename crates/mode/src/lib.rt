@@ -14,9 +14,7 @@ ghost use Rattle.mode.specs.Counted.{rangeOf, offsetOf, tallied, Countab
 ghost use Rattle.mode.specs.Column.{rezeroed, modeAt, tokensAt, stepMode, stepTokens};
 ghost use Rattle.mode.specs.Lent.{Inside, Clear, Rebasable, Steppable, LowTokens};
 
-// Predictors, a token each, and the zero predictor's place among them.
-const NUM_MA_PREDS: usize = 14;
-
+// The zero predictor's place among a row's tokens.
 const PRED_ZERO: usize = 0;
 
 // Residuals that spread over more values have mode 0.
@@ -42,7 +40,7 @@ struct Range {
     high: i32,
 }
 
-// Of a span that has rows.
+// The lowest and the highest residual of a span that has rows.
 fn residual_range(res: &[i32], first: usize, end: usize) -> Range
     requires { ⌜ first < end ⌝ }
     requires { ⌜ Inside first end (now res) ⌝ }
@@ -105,8 +103,8 @@ fn commonest(
     requires { ⌜ Inside first end (now res) ⌝ }
     requires { ⌜ Narrow low width (slice first end (now res)) ⌝ }
     requires { ⌜ Clear (now counts) ⌝ }
-    ensures { λ r. ⌜ r ≡ oftenest (slice first end (now (res .entry))) width low low 0 ⌝ }
-    ensures { λ _. ⌜ now (counts .exit) ≡ now (counts .entry) ⌝ }
+    ensures answer { λ r. ⌜ r ≡ oftenest (slice first end (now (res .entry))) width low low 0 ⌝ }
+    ensures zeros { λ _. ⌜ now (counts .exit) ≡ now (counts .entry) ⌝ }
 {
     tally(res, first, end, low, counts);
     let best = first_best(counts, width);
@@ -119,8 +117,8 @@ fn commonest(
 fn span_mode(res: &[i32], first: usize, end: usize, counts: &mut [u32]) -> i32
     requires { ⌜ Inside first end (now res) ⌝ }
     requires { ⌜ Clear (now counts) ⌝ }
-    ensures { λ r. ⌜ r ≡ modeAt first end (now (res .entry)) ⌝ }
-    ensures { λ _. ⌜ now (counts .exit) ≡ now (counts .entry) ⌝ }
+    ensures answer { λ r. ⌜ r ≡ modeAt first end (now (res .entry)) ⌝ }
+    ensures zeros { λ _. ⌜ now (counts .exit) ≡ now (counts .entry) ⌝ }
 {
     if first == end {
         return 0;
@@ -147,11 +145,12 @@ fn retoken(tok: &mut [u8], res: &[i32], first: usize, end: usize, mode: i32)
     requires { ⌜ Inside first end (now res) ⌝ }
     requires { ⌜ length (now tok) ≡ length (now res) * toksPerRow ⌝ }
     requires { ⌜ Each (Differs mode) (slice first end (now res)) ⌝ }
-    ensures { λ _. ⌜ now (tok .exit) ≡ rezeroed mode first (slice first end (now (res .entry))) (now (tok .entry)) ⌝ }
-    ensures { λ _. ⌜ LowTokens first end (now (tok .exit)) ⌝ }
+    ensures tokens { λ _. ⌜ now (tok .exit)
+        ≡ rezeroed mode first (slice first end (now (res .entry))) (now (tok .entry)) ⌝ }
+    ensures low { λ _. ⌜ LowTokens first end (now (tok .exit)) ⌝ }
 {
     for i in first..end {
-        tok[i * NUM_MA_PREDS + PRED_ZERO] = zero_token(res[i], mode);
+        tok[i * model::NUM_MA_PREDS + PRED_ZERO] = zero_token(res[i], mode);
     }
 }
 
@@ -159,10 +158,10 @@ fn retoken(tok: &mut [u8], res: &[i32], first: usize, end: usize, mode: i32)
 // The first 4,096 counts are 0, before and after.
 pub fn rebase_zero(tok: &mut [u8], res: &[i32], first: usize, end: usize, counts: &mut [u32]) -> i32
     requires { ⌜ Rebasable (now tok) (now res) first end (now counts) ⌝ }
-    ensures { λ r. ⌜ r ≡ modeAt first end (now (res .entry)) ⌝ }
-    ensures { λ _. ⌜ now (tok .exit) ≡ tokensAt first end (now (res .entry)) (now (tok .entry)) ⌝ }
-    ensures { λ _. ⌜ now (counts .exit) ≡ now (counts .entry) ⌝ }
-    ensures { λ _. ⌜ LowTokens first end (now (tok .exit)) ⌝ }
+    ensures answer { λ r. ⌜ r ≡ modeAt first end (now (res .entry)) ⌝ }
+    ensures tokens { λ _. ⌜ now (tok .exit) ≡ tokensAt first end (now (res .entry)) (now (tok .entry)) ⌝ }
+    ensures zeros { λ _. ⌜ now (counts .exit) ≡ now (counts .entry) ⌝ }
+    ensures low { λ _. ⌜ LowTokens first end (now (tok .exit)) ⌝ }
 {
     let mode = span_mode(res, first, end, counts);
     retoken(tok, res, first, end, mode);
@@ -179,10 +178,10 @@ pub fn mode_step(
     counts: &mut [u32],
 ) -> i32
     requires { ⌜ Steppable uses (now tok) (now res) first end (now counts) ⌝ }
-    ensures { λ r. ⌜ r ≡ stepMode uses first end (now (res .entry)) ⌝ }
-    ensures { λ _. ⌜ now (tok .exit) ≡ stepTokens uses first end (now (res .entry)) (now (tok .entry)) ⌝ }
-    ensures { λ _. ⌜ now (counts .exit) ≡ now (counts .entry) ⌝ }
-    ensures { λ _. ⌜ (uses ≡ true → LowTokens first end (now (tok .exit))) ⌝ }
+    ensures answer { λ r. ⌜ r ≡ stepMode uses first end (now (res .entry)) ⌝ }
+    ensures tokens { λ _. ⌜ now (tok .exit) ≡ stepTokens uses first end (now (res .entry)) (now (tok .entry)) ⌝ }
+    ensures zeros { λ _. ⌜ now (counts .exit) ≡ now (counts .entry) ⌝ }
+    ensures low { λ _. ⌜ (uses ≡ true → LowTokens first end (now (tok .exit))) ⌝ }
 {
     if uses {
         rebase_zero(tok, res, first, end, counts)

@@ -5,15 +5,14 @@ ghost use Rattle.model.specs.Sampling.{evenSample};
 ghost use Rattle.model.specs.Operations.{sample};
 ghost use Rattle.sampling.specs.Sampled.{Picks, after};
 
-const MAX_ROWS: usize = 65536;
-
 // How many rows were picked; or a refusal, with the place that it names.
 pub enum Sampled {
     Picked(u32),
     Refused { number: u32, place: u32 },
 }
 
-// Row numbers spread evenly. The product stays below 2^32 (65,535 * 65,536) and is formed in 64 bits, as sizes are; where none is picked nothing is divided.
+// Row numbers spread evenly. The product stays below 2^32 (65,535 * 65,536) and is formed in 64 bits, as sizes are;
+// where none is picked nothing is divided.
 fn pick_rows(rows: usize, picked: usize, out: &mut [u32])
     requires { ⌜ Picks rows picked (now out) ⌝ }
     ensures { λ _. ⌜ now (out .exit) ≡ writtenOver (evenSample rows picked) (now (out .entry)) ⌝ }
@@ -27,7 +26,7 @@ fn pick_rows(rows: usize, picked: usize, out: &mut [u32])
 pub fn evenly_sampled_indices(rows: usize, target: usize, out: &mut [u32]) -> Sampled
     ensures { λ r. ⌜ after r (now (out .exit)) ≡ sample rows target (now (out .entry)) ⌝ }
 {
-    if rows > MAX_ROWS {
+    if rows > model::MAX_ROWS {
         return Sampled::Refused {
             number: 3,
             place: 0,
