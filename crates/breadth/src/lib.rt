@@ -14,8 +14,8 @@ use layout::NodeNumber;
 // The children of a node, if it is a split, go to the end of the queue, gt before le.
 fn queue_children(words: &[u32], node: NodeNumber, end: usize, queue: &mut [u32]) -> usize
     requires { ⌜ Queueable (now words) (node .0) end (now queue) ⌝ }
-    ensures { λ r. ⌜ r ≡ endAfter (eqb (kindAt (now (words .entry)) (node .0)) 1) end ⌝ }
-    ensures { λ _. ⌜ now (queue .exit) ≡ queued (eqb (kindAt (now (words .entry)) (node .0)) 1)
+    ensures answer { λ r. ⌜ r ≡ endAfter (eqb (kindAt (now (words .entry)) (node .0)) 1) end ⌝ }
+    ensures queue { λ _. ⌜ now (queue .exit) ≡ queued (eqb (kindAt (now (words .entry)) (node .0)) 1)
         (gtAt (now (words .entry)) (node .0)) (leAt (now (words .entry)) (node .0)) end (now (queue .entry)) ⌝ }
 {
     if layout::is_split(words, node) {

@@ -19,9 +19,9 @@ pub struct Listed {
 
 // Writes the header at the front of out, if there is room, and answers its length, or 0.
 pub fn list_header(out: &mut [u8]) -> usize
-    ensures { λ r. ⌜ r ≡ length (headerIn (length (now (out .entry)))) ⌝ }
-    ensures { λ _. ⌜ now (out .exit) ≡ over (now (out .entry)) 0 (headerIn (length (now (out .entry)))) ⌝ }
-    ensures { λ r. ⌜ Counts r (now (out .exit)) ⌝ }
+    ensures answer { λ r. ⌜ r ≡ length (headerIn (length (now (out .entry)))) ⌝ }
+    ensures text { λ _. ⌜ now (out .exit) ≡ over (now (out .entry)) 0 (headerIn (length (now (out .entry)))) ⌝ }
+    ensures fits { λ r. ⌜ Counts r (now (out .exit)) ⌝ }
 {
     if out.len() < 32 {
         return 0;
@@ -32,9 +32,10 @@ pub fn list_header(out: &mut [u8]) -> usize
 // Writes the lines of input's residuals at the front of out: of as many as have room, at 40 bytes a
 // line.
 pub fn list_part(input: &[u8], out: &mut [u8]) -> Listed
-    ensures { λ r. ⌜ r ≡ partOf (now (input .entry)) (length (now (out .entry))) ⌝ }
-    ensures { λ _. ⌜ now (out .exit) ≡ over (now (out .entry)) 0 (partText (now (input .entry)) (length (now (out .entry)))) ⌝ }
-    ensures { λ r. ⌜ Counts (r .written) (now (out .exit)) ⌝ }
+    ensures answer { λ r. ⌜ r ≡ partOf (now (input .entry)) (length (now (out .entry))) ⌝ }
+    ensures text { λ _. ⌜ now (out .exit)
+        ≡ over (now (out .entry)) 0 (partText (now (input .entry)) (length (now (out .entry)))) ⌝ }
+    ensures fits { λ r. ⌜ Counts (r .written) (now (out .exit)) ⌝ }
 {
     let taken = lists::smaller(input.len() / 4, out.len() / 40);
     let mut at: usize = 0;
@@ -47,9 +48,10 @@ pub fn list_part(input: &[u8], out: &mut [u8]) -> Listed
 // Writes what follows the lines of the last part at the front of out, if there is room: nothing,
 // or `short` and how many bytes are left over. Answers its length, or 0.
 pub fn list_rest(input: &[u8], out: &mut [u8]) -> usize
-    ensures { λ r. ⌜ r ≡ length (restIn (now (input .entry)) (length (now (out .entry)))) ⌝ }
-    ensures { λ _. ⌜ now (out .exit) ≡ over (now (out .entry)) 0 (restIn (now (input .entry)) (length (now (out .entry)))) ⌝ }
-    ensures { λ r. ⌜ Counts r (now (out .exit)) ⌝ }
+    ensures answer { λ r. ⌜ r ≡ length (restIn (now (input .entry)) (length (now (out .entry)))) ⌝ }
+    ensures text { λ _. ⌜ now (out .exit)
+        ≡ over (now (out .entry)) 0 (restIn (now (input .entry)) (length (now (out .entry)))) ⌝ }
+    ensures fits { λ r. ⌜ Counts r (now (out .exit)) ⌝ }
 {
     let left = input.len() % 4;
     if out.len() < 8 {

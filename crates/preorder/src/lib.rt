@@ -16,8 +16,8 @@ fn push_children(
     stack: &mut [u32],
 ) -> usize
     requires { ⌜ Pushable (now words) kept (node .0) depth (now stack) ⌝ }
-    ensures { λ r. ⌜ r ≡ heightAfter kept depth ⌝ }
-    ensures { λ _. ⌜ now (stack .exit) ≡ pushed kept
+    ensures answer { λ r. ⌜ r ≡ heightAfter kept depth ⌝ }
+    ensures stack { λ _. ⌜ now (stack .exit) ≡ pushed kept
         (gtAt (now (words .entry)) (node .0)) (leAt (now (words .entry)) (node .0)) depth (now (stack .entry)) ⌝ }
 {
     if kept {

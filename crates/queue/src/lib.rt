@@ -1,4 +1,5 @@
-// The queue of waiting leaves, in the order of their node numbers: so the first of the greatest gains has the lowest number.
+// The queue of waiting leaves, in the order of their node numbers: so the first of the greatest gains has the lowest
+// number.
 ghost use mathlib.Core.Path.{_≡_};
 ghost use mathlib.Core.Bool.{cond};
 ghost use mathlib.Core.List.{List, _++_};
@@ -8,18 +9,19 @@ ghost use Rattle.model.specs.Settings.{maxNodes};
 ghost use Rattle.model.specs.Single.{singles};
 ghost use Rattle.model.specs.Lent.{Waiting};
 ghost use Rattle.layout.specs.Values.{offerIs};
-ghost use Rattle.layout.specs.Waiting.{firstBest, queueLists, Queued, QueueRoom, SameQueue, without, waits};
+ghost use Rattle.layout.specs.Waiting.{firstBest, queueNow, Queued, QueueRoom, SameQueue, without, waits};
 ghost use Rattle.queue.specs.Room.{RoomFor};
 use layout::Offer;
 use layout::Pending;
 
-// Of two places, and of two gains, the first if the test passes: no branch.
+// Of two places the first, if the test passes: no branch.
 fn place_if(test: bool, a: usize, b: usize) -> usize
     ensures { λ r. ⌜ r ≡ cond test a b ⌝ }
 {
     if test { a } else { b }
 }
 
+// Of two gains the first, if the test passes: no branch.
 fn gain_if(test: bool, a: f32, b: f32) -> f32
     ensures { λ r. ⌜ r ≡ cond test a b ⌝ }
 {
@@ -47,19 +49,18 @@ pub fn greatest(gains: &[f32], waiting: usize) -> usize
 
 // Takes the leaf at place k out; those behind it keep their order.
 pub fn unqueue(words: &mut [u32], values: &mut [i32], gains: &mut [f32], waiting: usize, k: usize)
-    requires { ⌜ (k < waiting) × QueueRoom waiting (queueLists (now words) (now values) (now gains)) ⌝ }
-    ensures { λ _. ⌜ ((leaves : List (Waiting singles)) → Queued waiting (queueLists (now (words .entry)) (now (values .entry)) (now (gains .entry))) leaves
-        → Queued (waiting - 1) (queueLists (now (words .exit)) (now (values .exit)) (now (gains .exit))) (without k leaves)) ⌝ }
-    ensures { λ _. ⌜ SameQueue (queueLists (now (words .entry)) (now (values .entry)) (now (gains .entry)))
-        (queueLists (now (words .exit)) (now (values .exit)) (now (gains .exit))) ⌝ }
+    requires { ⌜ (k < waiting) × QueueRoom waiting (queueNow words values gains) ⌝ }
+    ensures queue { λ _. ⌜ ((leaves : List (Waiting singles))
+        → Queued waiting (queueNow (words .entry) (values .entry) (gains .entry)) leaves
+        → Queued (waiting - 1) (queueNow (words .exit) (values .exit) (gains .exit)) (without k leaves)) ⌝ }
+    ensures lengths { λ _. ⌜ SameQueue (queueNow (words .entry) (values .entry) (gains .entry))
+        (queueNow (words .exit) (values .exit) (gains .exit)) ⌝ }
 {
     let m = waiting - 1 - k;
-    lists::move_up_u32(
-        words,
-        k * layout::LEAF_WORDS,
-        layout::LEAF_WORDS,
-        m * layout::LEAF_WORDS,
-    );
+    let at = layout::words_for_leaves(k);
+    let one = layout::words_for_leaves(1);
+    let moved = layout::words_for_leaves(m);
+    lists::move_up_u32(words, at, one, moved);
     lists::move_up_i32(values, k, 1, m);
     lists::move_up_f32(gains, k, 1, m);
 }
@@ -74,12 +75,14 @@ pub fn enqueue(
     depth: u32,
     offer: Offer,
 ) -> usize
-    requires { ⌜ (node < maxNodes) × RoomFor offer waiting (queueLists (now words) (now values) (now gains)) ⌝ }
-    ensures { λ r. ⌜ ((leaves : List (Waiting singles)) → Queued waiting (queueLists (now (words .entry)) (now (values .entry)) (now (gains .entry))) leaves
-        → Queued r (queueLists (now (words .exit)) (now (values .exit)) (now (gains .exit))) (leaves ++ waits node depth (offerIs offer))) ⌝ }
-    ensures { λ r. ⌜ (r ≡ waiting + length (waits node depth (offerIs offer)))
-        × SameQueue (queueLists (now (words .entry)) (now (values .entry)) (now (gains .entry)))
-        (queueLists (now (words .exit)) (now (values .exit)) (now (gains .exit))) ⌝ }
+    requires { ⌜ (node < maxNodes) × RoomFor offer waiting (queueNow words values gains) ⌝ }
+    ensures queue { λ r. ⌜ ((leaves : List (Waiting singles))
+        → Queued waiting (queueNow (words .entry) (values .entry) (gains .entry)) leaves
+        → Queued r (queueNow (words .exit) (values .exit) (gains .exit))
+        (leaves ++ waits node depth (offerIs offer))) ⌝ }
+    ensures answer { λ r. ⌜ (r ≡ waiting + length (waits node depth (offerIs offer)))
+        × SameQueue (queueNow (words .entry) (values .entry) (gains .entry))
+        (queueNow (words .exit) (values .exit) (gains .exit)) ⌝ }
 {
     let Offer::Split { prop, val, gain } = offer else {
         return waiting;

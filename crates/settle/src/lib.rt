@@ -12,8 +12,9 @@ ghost use Rattle.settle.specs.Leaves.{leafTokens, LeafSettles, Settleabl
 // The mode step on the span of node i, if it is a leaf.
 fn settle_leaf(words: &[u32], i: usize, uses: bool, tok: &mut [u8], res: &[i32], counts: &mut [u32])
     requires { ⌜ LeafSettles (now words) i uses (now tok) (now res) (now counts) ⌝ }
-    ensures { λ _. ⌜ now (tok .exit) ≡ leafTokens (now (words .entry)) uses (now (res .entry)) i (now (tok .entry)) ⌝ }
-    ensures { λ _. ⌜ now (counts .exit) ≡ now (counts .entry) ⌝ }
+    ensures tokens { λ _. ⌜ now (tok .exit)
+        ≡ leafTokens (now (words .entry)) uses (now (res .entry)) i (now (tok .entry)) ⌝ }
+    ensures zeros { λ _. ⌜ now (counts .exit) ≡ now (counts .entry) ⌝ }
 {
     if layout::kind_at(words, i) == 1 {
         return;
@@ -35,12 +36,12 @@ pub fn settle_leaves(
     counts: &mut [u32],
 )
     requires { ⌜ Settleable (now words) count uses (now tok) (now res) (now counts) ⌝ }
-    ensures { λ _. ⌜ ((tree : List (Entry singles)) (lent : NodeLists) (props : List ℤ)
+    ensures rows { λ _. ⌜ ((tree : List (Entry singles)) (lent : NodeLists) (props : List ℤ)
         → HoldsLeaves (now (words .entry)) count uses (flat props (now (tok .entry)) (now (res .entry))) tree lent
         → Changed (settled uses tree)
         (flat props (now (tok .entry)) (now (res .entry)))
         (flat props (now (tok .exit)) (now (res .entry)))) ⌝ }
-    ensures { λ _. ⌜ now (counts .exit) ≡ now (counts .entry) ⌝ }
+    ensures zeros { λ _. ⌜ now (counts .exit) ≡ now (counts .entry) ⌝ }
 {
     for i in 0..count {
         settle_leaf(words, i, uses, tok, res, counts);

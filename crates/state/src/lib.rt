@@ -1,1 +1,2 @@
-// What the lists hold while a tree grows: definitions (specs/) and laws (proofs/) alone, which growth, learning and deepening share.
+// What the lists hold while a tree grows: definitions (specs/) and laws (proofs/) alone, which growth, learning
+// and deepening share.

@@ -29,13 +29,7 @@ use layout::NodeNumber;
 pub fn nodes_held(words: &[u32], values: &[i32]) -> usize
     ensures { λ r. ⌜ r ≡ nodesHeld (now (words .entry)) (now (values .entry)) ⌝ }
 {
-    let by_words = words.len() / layout::NODE_WORDS;
-    let by_values = values.len() / layout::NODE_VALUES;
-    if by_words < by_values {
-        by_words
-    } else {
-        by_values
-    }
+    layout::nodes_in(words.len(), values.len())
 }
 
 // The node's own fields are in range: of a split, the property is below 24 and both children stand behind it, below
