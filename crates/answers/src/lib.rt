@@ -1,5 +1,5 @@
-// What the exports answer. Enums do not cross over to C, so an answer is a struct of numbers: number 0 says that the call was accepted, and any other
-// number is document 01's, with its place; the rest of a refusal is 0.
+// What the exports answer. Enums do not cross over to C, so an answer is a struct of numbers: number 0 says that the
+// call was accepted, and any other number is document 01's, with its place; the rest of a refusal is 0.
 ghost use mathlib.Core.Path.{_≡_};
 ghost use Rattle.model.specs.Operations.{answerOf};
 ghost use Rattle.sampling.specs.Sampled.{outcomeOf};

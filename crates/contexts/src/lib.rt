@@ -72,7 +72,8 @@ pub fn leaf_contexts(
     queue: &mut [u32],
 ) -> Contexts
     ensures { λ r. ⌜ ((costs : List Float) → contextsAfter r (now (contexts .exit)) (now (queue .exit))
-        ≡ leafContexts (storedIn (now (words .entry)) (now (values .entry)) costs) count (record { contexts = now (contexts .entry); queue = now (queue .entry) })) ⌝ }
+        ≡ leafContexts (storedIn (now (words .entry)) (now (values .entry)) costs) count
+        (record { contexts = now (contexts .entry); queue = now (queue .entry) })) ⌝ }
 {
     let n = count as usize;
     if tree::nodes_held(words, values) < n {

@@ -40,14 +40,14 @@ pub fn order_by_leaf(
     count: usize,
 )
     requires { ⌜ Orderable (flat (now props) (now tok) (now res)) (now words) (now values) (now counts) rows count ⌝ }
-    ensures { λ _. ⌜ OrderedBy
+    ensures rows { λ _. ⌜ OrderedBy
         (numbersIn count (now (words .entry)) (now (values .entry))
         (heldIn (flat (now (props .entry)) (now (tok .entry)) (now (res .entry)))))
         count
         (flat (now (props .entry)) (now (tok .entry)) (now (res .entry)))
         (flat (now (props .exit)) (now (tok .exit)) (now (res .exit)))
         (now (words .entry)) (now (words .exit)) ⌝ }
-    ensures { λ _. ⌜ now (counts .exit) ≡ now (counts .entry) ⌝ }
+    ensures zeros { λ _. ⌜ now (counts .exit) ≡ now (counts .entry) ⌝ }
 {
     let space = rows + count + count;
     tree::leaf_numbers(words, values, count as u32, props, &mut counts[..rows]);

@@ -19,12 +19,12 @@ pub fn flat_bits(
     rows: usize,
 ) -> f64
     requires { ⌜ Flattened s (now logs) (now counts) (now props) (now tok) rows ⌝ }
-    ensures { λ r. ⌜ ((rs : List ℤ) → r
+    ensures answer { λ r. ⌜ ((rs : List ℤ) → r
         ≡ flatBits (settingsOf s) (now (logs .entry)) (rowsHeld (now (props .entry)) (now (tok .entry)) rs)) ⌝ }
-    ensures { λ _. ⌜ now (counts .exit) ≡ now (counts .entry) ⌝ }
+    ensures zeros { λ _. ⌜ now (counts .exit) ≡ now (counts .entry) ⌝ }
 {
     let alphabet = s.alphabet as usize;
-    let wide = 56 * alphabet;
+    let wide = checks::FLAT_COUNTS * alphabet;
     flat::flat_cost(
         props,
         tok,
