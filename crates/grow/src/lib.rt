@@ -50,10 +50,10 @@ fn split_rows(
     scored: bool,
 ) -> Sides
     requires { ⌜ RowsFit s (now logs) (now counts) prop (span first end) (flat (now props) (now tok) (now res)) ⌝ }
-    ensures { λ r. ⌜ RowsSplit scored s (now (logs .entry)) (now (counts .entry)) depth prop val (span first end)
+    ensures split { λ r. ⌜ RowsSplit scored s (now (logs .entry)) (now (counts .entry)) depth prop val (span first end)
         (flat (now (props .entry)) (now (tok .entry)) (now (res .entry)))
         (flat (now (props .exit)) (now (tok .exit)) (now (res .exit))) r ⌝ }
-    ensures { λ _. ⌜ now (counts .exit) ≡ now (counts .entry) ⌝ }
+    ensures zeros { λ _. ⌜ now (counts .exit) ≡ now (counts .entry) ⌝ }
 {
     let at = rows::partition(props, tok, res, first, end, prop, val);
     let gt = leaf::make_leaf(props, tok, res, counts, logs, s, first, at, depth, scored);
@@ -100,11 +100,11 @@ fn requeue(
     le: Offer,
 ) -> usize
     requires { ⌜ (k < waiting) × (count + 2 ≤ maxNodes) × QueueRoom (waiting + 1) (queueNow words values gains) ⌝ }
-    ensures { λ r. ⌜ ((leaves : List (Waiting singles))
+    ensures queue { λ r. ⌜ ((leaves : List (Waiting singles))
         → Queued waiting (queueNow (words .entry) (values .entry) (gains .entry)) leaves
         → Queued r (queueNow (words .exit) (values .exit) (gains .exit))
         (without k leaves ++ waits count depth (offerIs gt) ++ waits (count + 1) depth (offerIs le))) ⌝ }
-    ensures { λ r. ⌜ (r ≤ waiting + 1) × SameQueue (queueNow (words .entry) (values .entry) (gains .entry))
+    ensures lengths { λ r. ⌜ (r ≤ waiting + 1) × SameQueue (queueNow (words .entry) (values .entry) (gains .entry))
         (queueNow (words .exit) (values .exit) (gains .exit)) ⌝ }
 {
     queue::unqueue(words, values, gains, waiting, k);
@@ -143,7 +143,7 @@ fn split_leaf(
 ) -> Tree
     requires { ⌜ Splits s (now logs) (now counts) (flat (now props) (now tok) (now res)) (nodesNow words values costs)
         (queueNow «queue_words» «queue_values» «queue_gains») tree left k ⌝ }
-    ensures { λ r. ⌜ ((lent : NodeLists) (st : State singles) (seeds : ℕ → Bool) (given : List Row)
+    ensures grown { λ r. ⌜ ((lent : NodeLists) (st : State singles) (seeds : ℕ → Bool) (given : List Row)
         → Grows s (now (logs .entry)) (now (counts .entry))
         (flat (now (props .entry)) (now (tok .entry)) (now (res .entry)))
         (nodesNow (words .entry) (values .entry) (costs .entry))
@@ -154,7 +154,7 @@ fn split_leaf(
         (queueNow («queue_words» .exit) («queue_values» .exit) («queue_gains» .exit)) r (left - 1)
         lent (step (jobIn s (now (logs .entry)) (flat (now (props .entry)) (now (tok .entry)) (now (res .entry)))) st)
         seeds given) ⌝ }
-    ensures { λ _. ⌜ now (counts .exit) ≡ now (counts .entry) ⌝ }
+    ensures zeros { λ _. ⌜ now (counts .exit) ≡ now (counts .entry) ⌝ }
 {
     let p = layout::pending_at(queue_words, queue_values, queue_gains, k);
     let i = p.node as usize;
@@ -239,7 +239,7 @@ pub fn grow_tree(
 ) -> Tree
     requires { ⌜ Growable s (now logs) (now counts) (flat (now props) (now tok) (now res)) (nodesNow words values costs)
         (queueNow «queue_words» «queue_values» «queue_gains») tree more ⌝ }
-    ensures { λ r. ⌜ ((lent : NodeLists) (st : State singles) (seeds : ℕ → Bool) (given : List Row)
+    ensures grown { λ r. ⌜ ((lent : NodeLists) (st : State singles) (seeds : ℕ → Bool) (given : List Row)
         → Grows s (now (logs .entry)) (now (counts .entry))
         (flat (now (props .entry)) (now (tok .entry)) (now (res .entry)))
         (nodesNow (words .entry) (values .entry) (costs .entry))
@@ -250,8 +250,8 @@ pub fn grow_tree(
         (nodesNow (words .exit) (values .exit) (costs .exit)) r
         lent (steps (jobIn s (now (logs .entry)) (flat (now (props .entry)) (now (tok .entry)) (now (res .entry))))
         more st)) ⌝ }
-    ensures { λ _. ⌜ now (counts .exit) ≡ now (counts .entry) ⌝ }
-    ensures { λ _. ⌜ SameQueue (queueNow («queue_words» .entry) («queue_values» .entry) («queue_gains» .entry))
+    ensures zeros { λ _. ⌜ now (counts .exit) ≡ now (counts .entry) ⌝ }
+    ensures lengths { λ _. ⌜ SameQueue (queueNow («queue_words» .entry) («queue_values» .entry) («queue_gains» .entry))
         (queueNow («queue_words» .exit) («queue_values» .exit) («queue_gains» .exit)) ⌝ }
 {
     let mut tree = tree;

@@ -30,6 +30,7 @@ pub struct Scored {
     pub cost: f32,
 }
 
+// What scoring found, as numbers.
 pub fn scored_answer(r: Score) -> Scored
     ensures { λ a. ⌜ scoreOut a ≡ scoreIs r ⌝ }
 {

@@ -1,5 +1,5 @@
-// Single parts of the learner as exports, for the driver that compares them with the Rust and for the benchmark: what a `requires` says is the caller's to see
-// to, since C proves nothing. The public operations are in `ma_tree`.
+// Single parts of the learner as exports, for the driver that compares them with the Rust and for the benchmark: what a
+// `requires` says is the caller's to see to, since C proves nothing. The public operations are in `ma_tree`.
 ghost use mathlib.Core.Path.{_≡_};
 ghost use mathlib.Core.List.{List};
 ghost use lib.ListN.{length, replicate};
@@ -15,12 +15,13 @@ ghost use Rattle.mode.specs.Lent.{Rebasable};
 ghost use Rattle.candidates.specs.Column.{column};
 ghost use Rattle.candidates.specs.Plan.{Pickable};
 ghost use Rattle.cost.specs.Counted.{Counted};
-ghost use Rattle.layout.specs.Tree.{NodeLists, nodeLists};
+ghost use Rattle.layout.specs.Tree.{NodeLists, nodesNow};
 ghost use Rattle.model.specs.Grow.{Entry};
 ghost use Rattle.prune.specs.Held.{Prunable, HoldsTree, PrunedAs};
 ghost use Prim.Native.Nat.{ℕ, _*_, _≤_};
 ghost use lib.IntN.{ℤ};
 ghost use Rattle.model.specs.Settings as model;
+ghost use Rattle.model.specs.Settings.{toksPerRow};
 ghost use Rattle.model.specs.Score.{scoreOf};
 ghost use Rattle.model.specs.Rows.{rowsOf, within};
 ghost use Rattle.cost.specs.Histograms.{SpanFits, CountsSpan, spanOf};
@@ -39,17 +40,16 @@ pub extern "C" fn ostrovuc_prune(
     words: &mut [u32],
     values: &mut [i32],
     costs: &mut [f32],
-    spans: &mut [u32],
     count: usize,
     price: f32,
 ) -> PrunedTree
-    requires { ⌜ Prunable (nodeLists (now words) (now values) (now costs) (now spans)) count price ⌝ }
+    requires { ⌜ Prunable (nodesNow words values costs) count price ⌝ }
     ensures { λ r. ⌜ ((tree : List (Entry singles)) (lent : NodeLists)
-        → HoldsTree (nodeLists (now (words .entry)) (now (values .entry)) (now (costs .entry)) (now (spans .entry))) count price tree lent
-        → PrunedAs price tree lent (nodeLists (now (words .exit)) (now (values .exit)) (now (costs .exit)) (now (spans .exit)))
+        → HoldsTree (nodesNow (words .entry) (values .entry) (costs .entry)) count price tree lent
+        → PrunedAs price tree lent (nodesNow (words .exit) (values .exit) (costs .exit))
         (record { nodes = r .nodes; waiting = 0; bits = r .bits })) ⌝ }
 {
-    let pruned = prune::prune_tree(words, values, costs, spans, count, price);
+    let pruned = prune::prune_tree(words, values, costs, count, price);
     PrunedTree {
         nodes: pruned.nodes,
         bits: pruned.bits,
@@ -75,7 +75,8 @@ pub extern "C" fn ostrovuc_partition(
     rows::partition(props, tok, res, first, end, prop, threshold)
 }
 
-// The mode of the rows from first to end, whose zero-predictor tokens are made anew. The first 4,096 counts are 0, before and after.
+// The mode of the rows from first to end, whose zero-predictor tokens are made anew. The first 4,096 counts are 0,
+// before and after.
 #[no_mangle]
 pub extern "C" fn ostrovuc_mode_step(
     tok: &mut [u8],
@@ -85,9 +86,9 @@ pub extern "C" fn ostrovuc_mode_step(
     counts: &mut [u32],
 ) -> i32
     requires { ⌜ Rebasable (now tok) (now res) first end (now counts) ⌝ }
-    ensures { λ r. ⌜ r ≡ modeAt first end (now (res .entry)) ⌝ }
-    ensures { λ _. ⌜ now (tok .exit) ≡ tokensAt first end (now (res .entry)) (now (tok .entry)) ⌝ }
-    ensures { λ _. ⌜ now (counts .exit) ≡ now (counts .entry) ⌝ }
+    ensures answer { λ r. ⌜ r ≡ modeAt first end (now (res .entry)) ⌝ }
+    ensures tokens { λ _. ⌜ now (tok .exit) ≡ tokensAt first end (now (res .entry)) (now (tok .entry)) ⌝ }
+    ensures zeros { λ _. ⌜ now (counts .exit) ≡ now (counts .entry) ⌝ }
 {
     mode::rebase_zero(tok, res, first, end, counts)
 }
@@ -104,9 +105,10 @@ pub extern "C" fn ostrovuc_pick_candidates(
     cands: &mut [i32],
 ) -> usize
     requires { ⌜ Pickable (now props) prop first end (now flags) (now cands) ⌝ }
-    ensures { λ r. ⌜ r ≡ length (candidatesOf «max_candidates» (column (now (props .entry)) prop first end)) ⌝ }
-    ensures { λ _. ⌜ now (cands .exit) ≡ writtenOver (candidatesOf «max_candidates» (column (now (props .entry)) prop first end)) (now (cands .entry)) ⌝ }
-    ensures { λ _. ⌜ now (flags .exit) ≡ now (flags .entry) ⌝ }
+    ensures answer { λ r. ⌜ r ≡ length (candidatesOf «max_candidates» (column (now (props .entry)) prop first end)) ⌝ }
+    ensures candidates { λ _. ⌜ now (cands .exit) ≡ writtenOver
+        (candidatesOf «max_candidates» (column (now (props .entry)) prop first end)) (now (cands .entry)) ⌝ }
+    ensures zeros { λ _. ⌜ now (flags .exit) ≡ now (flags .entry) ⌝ }
 {
     answers::plan_answer(candidates::pick_candidates(
         props,
@@ -129,16 +131,18 @@ pub extern "C" fn ostrovuc_count_tokens(
     hist: &mut [u32],
 )
     requires { ⌜ SpanFits (now tok) first end alphabet ⌝ }
-    requires { ⌜ now hist ≡ replicate (14 * alphabet) 0 ⌝ }
+    requires { ⌜ now hist ≡ replicate (toksPerRow * alphabet) 0 ⌝ }
     ensures { λ _. ⌜ CountsSpan (now (tok .entry)) first end (now (hist .exit)) alphabet ⌝ }
 {
     cost::count_tokens(tok, first, end, alphabet, hist);
 }
 
+// The bits of a histogram: its entropy, of `total` tokens.
 #[no_mangle]
 pub extern "C" fn ostrovuc_hist_entropy_bits(hist: &[u32], total: u32, logs: &[f32]) -> f32
     requires { ⌜ Counted (now hist) total (now logs) ⌝ }
-    ensures { λ r. ⌜ r ≡ entropyFrom singles (now (logs .entry)) (logOf singles (now (logs .entry)) total) (singles .nought) (now (hist .entry)) ⌝ }
+    ensures { λ r. ⌜ r ≡ entropyFrom singles (now (logs .entry))
+        (logOf singles (now (logs .entry)) total) (singles .nought) (now (hist .entry)) ⌝ }
 {
     cost::hist_entropy_bits(hist, total, logs)
 }
@@ -153,7 +157,8 @@ pub extern "C" fn ostrovuc_set_windows(
     alphabet: usize,
 )
     requires { ⌜ Windowable (now node) alphabet (now preds) (now firsts) (now offs) ⌝ }
-    ensures { λ _. ⌜ Windows (now (node .entry)) alphabet (now (preds .entry)) (now (firsts .exit)) (now (offs .exit)) ⌝ }
+    ensures { λ _. ⌜ Windows (now (node .entry)) alphabet
+        (now (preds .entry)) (now (firsts .exit)) (now (offs .exit)) ⌝ }
 {
     windows::set_windows(node, alphabet, preds, firsts, offs)
 }
@@ -175,12 +180,15 @@ pub extern "C" fn ostrovuc_score_property(
     prop: usize,
     alphabet: usize,
 ) -> Scored
-    requires { ⌜ Scorable (now props) (now tok) first end prop (now cands) (now preds) alphabet (now node) (now logs) ⌝ }
+    requires { ⌜ Scorable (now props) (now tok) first end prop
+        (now cands) (now preds) alphabet (now node) (now logs) ⌝ }
     requires { ⌜ Windows (now node) alphabet (now preds) (now firsts) (now offs) ⌝ }
     requires { ⌜ Spare (length (now preds)) alphabet (length (now cands)) (now room) ⌝ }
-    ensures { λ r. ⌜ ((t : model.Settings singles) (rows : ℕ) (rs : List ℤ) → t .alphabet ≡ alphabet → end ≤ rows → scoreOut r ≡ scoreOf t (now (logs .entry)) (now (preds .entry)) prop
+    ensures answer { λ r. ⌜ ((t : model.Settings singles) (rows : ℕ) (rs : List ℤ)
+        → t .alphabet ≡ alphabet → end ≤ rows
+        → scoreOut r ≡ scoreOf t (now (logs .entry)) (now (preds .entry)) prop
         (within (spanOf first end) (rowsOf rows (now (props .entry)) (now (tok .entry)) rs)) (now (cands .entry))) ⌝ }
-    ensures { λ _. ⌜ now (room .exit) ≡ now (room .entry) ⌝ }
+    ensures zeros { λ _. ⌜ now (room .exit) ≡ now (room .entry) ⌝ }
 {
     answers::scored_answer(score::score_property(
         props,

@@ -206,13 +206,13 @@ module _ {s : Settings} {logs : List Float} {counts : List ℕ} {x : Flat} {n : 
       let two = tree-count nodes (sounds.sound seed (c .sound) .rooted) (omega (arith, seed-fits .0)) in
       omega arith
 
-  module _ {counts1 : List ℕ} {y : Flat} {words1 : List ℕ} (same : counts1 ≡ counts)
-      (by : OrderedBy (numbersIn count (n .words) (n .values) (heldIn x)) count x y (n .words) words1) where
+  module _ {counts1 : List ℕ} {y : Flat} {words1 : List ℕ} {leaves : ℕ} (same : counts1 ≡ counts)
+      (by : OrderedBy (numbersIn count (n .words) (n .values) (heldIn x)) count x y (n .words) words1) (told : leaves ≡ (count + 1) / 2) where
     abbrev n1 : NodeLists
     n1 = nodeLists words1 (n .values) (n .costs)
 
     abbrev scored : Bool
-    scored = ltb ((count + 1) / 2) limit
+    scored = ltb leaves limit
 
     -- the seed has no use for the spans
     seed-same : seedIn count n1 ≡ seedIn count n
@@ -238,9 +238,9 @@ module _ {s : Settings} {logs : List Float} {counts : List ℕ} {x : Flat} {n : 
       many = length-held (x .props) (x .toks) (x .res) ∙ sym (count-still (by .size));
       spans = λ i h. by .spans-are .there i h ∙ ap (λ (l : List ℕ). span (firstOf l i) (firstOf l (suc i))) numbers-same;
       queue-room = λ t.
-          let less = ltb-true ((count + 1) / 2) limit t in
+          let less = ltb-true leaves limit t in
           let all : leafCount (nodesOf (seedIn count n1)) ≡ leafCount nodes = ap (λ (l : List (Record singles)). leafCount (nodesOf l)) seed-same in
-          room-queue (omega (arith, leaves-are)) (same-itself q) (c .queue-room);
+          room-queue (omega (arith, leaves-are, told)) (same-itself q) (c .queue-room);
     }
 
     pub plantable : Plantable s logs counts1 y n1 q count scored
@@ -298,8 +298,8 @@ module _ {s : Settings} {logs : List Float} {counts : List ℕ} {x : Flat} {n : 
           all = ap (λ (l : List (Record singles)). leafCount (nodesOf l)) seed-same
 
           go : (b : Bool) → scored ≡ b → r .waiting + (limit - (count + 1) / 2) ≤ limit
-          go true t = omega (arith, done .few, leaves-few (nodesOf (seedIn count n1)) count, all, leaves-are, ltb-true ((count + 1) / 2) limit t)
-          go false t = omega (arith, done .sown .idle t, ltb-false ((count + 1) / 2) limit t)
+          go true t = omega (arith, done .few, leaves-few (nodesOf (seedIn count n1)) count, all, leaves-are, told, ltb-true leaves limit t)
+          go false t = omega (arith, done .sown .idle t, told, ltb-false leaves limit t)
 
       room-more : count + 2 * (limit - (count + 1) / 2) ≤ max (2 * limit - 1) count
       room-more = omega (arith, two-leaves)
@@ -318,7 +318,7 @@ module _ {s : Settings} {logs : List Float} {counts : List ℕ} {x : Flat} {n : 
         room = rw tree-long (room-fewer (c .room) room-more);
         few = rw tree-long (omega (arith, room-more, c .fitting .settings .limit .1, seed-fits .1));
         queued = λ some-more. subst (λ (w : State singles). Queued (r .waiting) q2 (queueOf (w .tree))) state-is
-            (done .sown .queued (lt-ltb ((count + 1) / 2) limit (omega arith)));
+            (done .sown .queued (lt-ltb leaves limit (omega (arith, told))));
         queue-room = room-queue waiting-few (done .queue) (c .queue-room);
         counted = counted;
         summed = done .sown .summed ∙ ap (λ (w : State singles). w .bits) state-is;

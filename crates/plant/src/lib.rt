@@ -203,8 +203,7 @@ fn plant_nodes(
     tree
 }
 
-// The seed of `count` nodes, planted. Every node but the first is one of a split's two children, so there is one leaf
-// more than splits. Leaves are scored only if more are wanted.
+// The seed of `count` nodes, planted. Leaves are scored only if more are wanted.
 pub fn plant_seed(
     props: &mut [i32],
     tok: &mut [u8],
@@ -223,7 +222,7 @@ pub fn plant_seed(
 ) -> Tree
     requires { ⌜ Seedable s (now logs) (now counts) (flat (now props) (now tok) (now res))
         (nodesNow words values costs) (queueNow «queue_words» «queue_values» «queue_gains») rows count ⌝ }
-    ensures { λ r. ⌜ Seeded s (now (logs .entry)) (now (counts .exit))
+    ensures planted { λ r. ⌜ Seeded s (now (logs .entry)) (now (counts .exit))
         (flat (now (props .entry)) (now (tok .entry)) (now (res .entry)))
         (flat (now (props .exit)) (now (tok .exit)) (now (res .exit)))
         (nodesNow (words .entry) (values .entry) (costs .entry))
@@ -231,9 +230,9 @@ pub fn plant_seed(
         (queueNow («queue_words» .entry) («queue_values» .entry) («queue_gains» .entry))
         (queueNow («queue_words» .exit) («queue_values» .exit) («queue_gains» .exit))
         count r ⌝ }
-    ensures { λ _. ⌜ now (counts .exit) ≡ now (counts .entry) ⌝ }
+    ensures zeros { λ _. ⌜ now (counts .exit) ≡ now (counts .entry) ⌝ }
 {
-    let leaves = (count + 1) / 2;
+    let leaves = layout::leaves_of(count);
     let score_split = leaves < s.max_leaves as usize;
     seed::order_by_leaf(props, tok, res, words, values, counts, rows, count);
     plant_nodes(

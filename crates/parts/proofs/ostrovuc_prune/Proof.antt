@@ -16,13 +16,10 @@ same-length-2 c = search needs
 same-length-3 : tie.Need-same-length-3
 same-length-3 c = search needs
 
-same-length-4 : tie.Need-same-length-4
-same-length-4 c = search needs
-
 returns : tie.Need-returns
 returns c tree lent h =
-    let left = c .before .before .before .before .before .before .before .prune-tree .ensures tree lent h in
+    let left = c .before .before .before .before .before .prune-tree .ensures tree lent h in
     record { lists = left .lists; nodes = left .nodes; none-wait = refl; bits = left .bits }
 
 pub ostrovuc-prune-spec : {M : Type 1} → statement M
-ostrovuc-prune-spec = tie.close (tie.spec prune-tree-requires same-length same-length-2 same-length-3 same-length-4 returns)
+ostrovuc-prune-spec = tie.close (tie.spec prune-tree-requires same-length same-length-2 same-length-3 returns)

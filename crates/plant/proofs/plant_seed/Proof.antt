@@ -1,34 +1,37 @@
 -- `plant::plant_seed` meets its contract: the rows ordered by leaf, and then the nodes planted. Assumes nothing.
 use mathlib.Core.Path.{_∙_}
 use Rattle.model.specs.Rows.{rowsHeld}
-use Rattle.plant.proofs.Starting.{orderable, plantable, plants, seeded, seeded-zeros}
+use Rattle.plant.proofs.Starting.{orderable, seed-fits, plantable, plants, seeded, seeded-zeros}
 use borrow.Author.Needs.{needs}
 use Rattle.plant.proofs.plant_seed.Statement.{statement}
 use Rattle.plant.proofs.plant_seed.Tie as tie
 
 -- ---- from each call back to the one before it
+abbrev counting : tie.After-order-by-leaf → tie.After-leaves-of
+counting c = c .before .before .before .before .before .before .before .before
+
 abbrev entry : tie.After-order-by-leaf → tie.Start
-entry c = c .before .before .before .before .before .before .before .before .before .before .before .before .before .before .before
+entry c = counting c .before .before .before .before .before .before .before .before
 
 abbrev ordering : tie.After-plant-nodes-arg10 → tie.After-order-by-leaf
 ordering c =
     c .before .before .before .before .before .before .before .before .before .before .before .before .before .before .before .before .before .before
 
-add-leaves : tie.Need-add-leaves
-add-leaves c = search needs
+leaves-of-requires : tie.Need-leaves-of-requires
+leaves-of-requires c κs = seed-fits (c .before .before .before .before .before .before .before .pre) .1
 
 cast-score-split : tie.Need-cast-score-split
 cast-score-split c = search needs
 
 order-by-leaf-requires : tie.Need-order-by-leaf-requires
 order-by-leaf-requires c κs =
-    let start = c .before .before .before .before .before .before .before .before .before .before .before .before .before .before in
+    let start = c .before .before .before .before .before .before .before .before .before .before .before .before .before .before .before in
     orderable (start .pre)
 
 plant-nodes-requires : tie.Need-plant-nodes-requires
 plant-nodes-requires c κs =
     let ordered = ordering c .order-by-leaf .ensures in
-    plantable (entry (ordering c) .pre) (ordered .1) (ordered .0)
+    plantable (entry (ordering c) .pre) (ordered .1) (ordered .0) (counting (ordering c) .leaves-of .ensures)
 
 abbrev after-order-by-leaf : tie.After-slice-known15 → tie.After-order-by-leaf
 after-order-by-leaf c = c .before .before .before .before .before .before .before .before .before .before .before .before .before .before .before .before .before .before .before .before .before .before .before .before .before .before .before .before .before .before .before .before .before
@@ -72,14 +75,15 @@ returns c =
     let start = entry (ordering (done .before)) in
     let ordered = ordering (done .before) .order-by-leaf .ensures in
     let given = rowsHeld (start .args .props .now) (start .args .tok .now) (start .args .res .now) in
-    let planted = done .plant-nodes .ensures given (plants (start .pre) (ordered .1) (ordered .0)) in
-    (seeded (start .pre) (ordered .1) (ordered .0) planted, seeded-zeros (start .pre) (ordered .1) (ordered .0) planted)
+    let leaves = counting (ordering (done .before)) .leaves-of .ensures in
+    let planted = done .plant-nodes .ensures given (plants (start .pre) (ordered .1) (ordered .0) leaves) in
+    (seeded (start .pre) (ordered .1) (ordered .0) leaves planted, seeded-zeros (start .pre) (ordered .1) (ordered .0) leaves planted)
 
 pub plant-seed-spec : {M : Type 1} → statement M
 plant-seed-spec =
     tie.close
     (tie.spec
-    add-leaves
+    leaves-of-requires
     cast-score-split
     order-by-leaf-requires
     plant-nodes-requires
