@@ -1,5 +1,5 @@
-// Numbers from the stored bytes, and the stored answer held to a computed one. Places past the end read as 0; an answer is only right if its end is
-// met exactly, so that nothing is compared with what is not there.
+// Numbers from the stored bytes, and the stored answer held to a computed one. Places past the end read as 0; an answer
+// is only right if its end is met exactly, so that nothing is compared with what is not there.
 ghost use Prim.Native.Nat.{_<_};
 
 // Where the comparison stands in the stored answer, and whether all was alike so far.

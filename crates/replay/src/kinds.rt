@@ -1,4 +1,5 @@
-// The kinds of jobs, by their numbers in the stream, and a tally of each: cases tried, those that came out wrong, and the first of these.
+// The kinds of jobs, by their numbers in the stream, and a tally of each: cases tried, those that came out wrong, and
+// the first of these.
 use tally::Tally;
 use tally::report;
 

@@ -1,6 +1,7 @@
-// Replays stored jobs through the proved crates and holds each answer to the stored one, byte for byte. Standard input has a job and its answer by
-// turns, each as document JOBS describes it: kind, bytes in the body, body. It prints how many of each kind were replayed and how many came out wrong.
-// Learning, deepening and lookup are not among them: interface/check replays these through the C interface, and the other public operations too.
+// Replays stored jobs through the proved crates and holds each answer to the stored one, byte for byte. Standard input
+// has a job and its answer by turns, each as document JOBS describes it: kind, bytes in the body, body. It prints how
+// many of each kind were replayed and how many came out wrong. Learning, deepening and lookup are not among them:
+// interface/check replays these through the C interface, and the other public operations too.
 // To add a kind: a function like those of `small`, an arm in `replayed`, and a number and a line in `kinds`.
 
 mod bytes;

@@ -11,16 +11,17 @@ use crate::bytes::word;
 use crate::rooms;
 use candidates::Plan;
 
-// Rows of the mode step and the partition, and of the candidates.
+// Most rows of the mode step and the partition.
 const FEW: u32 = 64;
 
+// Most rows of the candidates.
 const MANY: u32 = 2064;
 
 // The zero-predictor tokens of the first n rows.
 fn expect_tokens(b: &[u8], c: Check, tok: &[u8], n: u32) -> Check {
     let mut all = expect(b, c, n);
     for i in 0..n {
-        all = expect_byte(b, all, byte(tok, 14 * i as usize));
+        all = expect_byte(b, all, byte(tok, model::NUM_MA_PREDS * i as usize));
     }
     all
 }
@@ -53,14 +54,18 @@ fn number(list: &[i32], at: usize) -> i32 {
 fn put_column(props: &mut [i32], prop: u32, b: &[u8], first: usize, n: u32) {
     for i in 0..n {
         let value = signed(word(b, after(first, i)));
-        put_number(props, 24 * i as usize + prop as usize, value);
+        put_number(
+            props,
+            model::NUM_MA_PROPS * i as usize + prop as usize,
+            value,
+        );
     }
 }
 
 fn expect_column(b: &[u8], c: Check, props: &[i32], prop: u32, n: u32) -> Check {
     let mut all = expect(b, c, n);
     for i in 0..n {
-        let value = number(props, 24 * i as usize + prop as usize);
+        let value = number(props, model::NUM_MA_PROPS * i as usize + prop as usize);
         all = expect(b, all, entropy::pattern(value));
     }
     all

@@ -1,4 +1,5 @@
-// Packing, tokens, values and even sampling. A function takes the stored bytes, where the job's body starts, and where the answer's does.
+// Packing, tokens, values and even sampling. A function takes the stored bytes, where the job's body starts, and where
+// the answer's does.
 use crate::bytes::Check;
 use crate::bytes::after;
 use crate::bytes::expect;
@@ -71,7 +72,7 @@ fn expect_sampled(b: &[u8], c: Check, r: Sampled) -> Check {
     }
 }
 
-// Over a list of so many entries.
+// An even sample over a list of so many entries.
 fn sample_into(
     b: &[u8],
     answer: Check,

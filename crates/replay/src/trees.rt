@@ -1,4 +1,4 @@
-// Leaf contexts: the stored node list is laid out as the crate `layout` has it, five words and two values a node.
+// Leaf contexts: the stored records go to number lists by the crate `layout`.
 use crate::bytes::Check;
 use crate::bytes::after;
 use crate::bytes::expect;
@@ -8,63 +8,84 @@ use crate::bytes::signed;
 use crate::bytes::word;
 use crate::rooms;
 use contexts::Contexts;
+use layout::MaNode;
+use layout::NodeInfo;
 
 // Most entries of a node list, a context list and a queue.
 const ENTRIES: u32 = 128;
 
-fn put_word(words: &mut [u32], at: usize, value: u32) {
-    if at < words.len() {
-        words[at] = value;
-    }
-}
-
-fn put_value(values: &mut [i32], at: usize, value: i32) {
-    if at < values.len() {
-        values[at] = value;
-    }
-}
-
-// A record has kind, property, threshold, gt, le, cost, predictor and offset; no cost is read here.
-fn put_words(words: &mut [u32], b: &[u8], at: usize, node: u32) {
-    let first = 5 * node as usize;
-    put_word(words, first, word(b, at));
-    put_word(words, first + 1, word(b, after(at, 1)));
-    put_word(words, first + 2, word(b, after(at, 3)));
-    put_word(words, first + 3, word(b, after(at, 4)));
-    put_word(words, first + 4, word(b, after(at, 6)));
-}
-
-fn put_values(values: &mut [i32], b: &[u8], at: usize, node: u32) {
-    let first = 2 * node as usize;
-    put_value(values, first, signed(word(b, after(at, 2))));
-    put_value(values, first + 1, signed(word(b, after(at, 7))));
-}
-
-// The records that the job gives.
-fn put_given(words: &mut [u32], values: &mut [i32], b: &[u8], first: usize, n: u32) {
-    for i in 0..n {
-        let at = std::num::wrapping_add_usize(first, 32 * i as usize);
-        put_words(words, b, at, i);
-        put_values(values, b, at, i);
+// The record at a place: kind, property, threshold, gt, le, cost, predictor and offset; no cost is read here.
+fn record_at(b: &[u8], at: usize) -> MaNode {
+    let info = NodeInfo {
+        cost: 0.0,
+        pred: word(b, after(at, 6)),
+        offset: signed(word(b, after(at, 7))),
+    };
+    MaNode {
+        kind: word(b, at),
+        prop: word(b, after(at, 1)),
+        val: signed(word(b, after(at, 2))),
+        gt: word(b, after(at, 3)),
+        le: word(b, after(at, 4)),
+        info,
     }
 }
 
 // What an entry holds that the job does not give.
-fn put_pattern(words: &mut [u32], values: &mut [i32], node: u32, v: u32) {
-    let first = 5 * node as usize;
-    put_word(words, first, v % 2);
-    put_word(words, first + 1, v % 24);
-    put_word(words, first + 2, v);
-    put_word(words, first + 3, v);
-    put_word(words, first + 4, v % 14);
+fn pattern(v: u32) -> MaNode {
     let z = signed(v);
-    put_value(values, 2 * node as usize, z);
-    put_value(values, 2 * node as usize + 1, z);
+    let info = NodeInfo {
+        cost: 0.0,
+        pred: v % model::NUM_MA_PREDS as u32,
+        offset: z,
+    };
+    MaNode {
+        kind: v % 2,
+        prop: v % model::NUM_MA_PROPS as u32,
+        val: z,
+        gt: v,
+        le: v,
+        info,
+    }
 }
 
-fn put_rest(words: &mut [u32], values: &mut [i32], given: u32, entries: u32, fill: u32) {
+// Stores a record, if the lists have its place.
+fn put(words: &mut [u32], values: &mut [i32], costs: &mut [f32], node: u32, m: MaNode) {
+    let i = node as usize;
+    if i < layout::nodes_in(words.len(), values.len()) {
+        if i < costs.len() {
+            layout::put_node(i, m, words, values, costs);
+        }
+    }
+}
+
+// The records that the job gives.
+fn put_given(
+    words: &mut [u32],
+    values: &mut [i32],
+    costs: &mut [f32],
+    b: &[u8],
+    first: usize,
+    n: u32,
+) {
+    for i in 0..n {
+        let at = std::num::wrapping_add_usize(first, 32 * i as usize);
+        put(words, values, costs, i, record_at(b, at));
+    }
+}
+
+// The entries behind the records that the job gives.
+fn put_rest(
+    words: &mut [u32],
+    values: &mut [i32],
+    costs: &mut [f32],
+    given: u32,
+    entries: u32,
+    fill: u32,
+) {
     for i in given..entries {
-        put_pattern(words, values, i, std::num::wrapping_add_u32(fill, i));
+        let v = std::num::wrapping_add_u32(fill, i);
+        put(words, values, costs, i, pattern(v));
     }
 }
 
@@ -74,13 +95,15 @@ fn nodes_end(b: &[u8], at: usize) -> usize {
 }
 
 // The whole node list that starts at a place; the fill is the word behind it.
-fn put_nodes(words: &mut [u32], values: &mut [i32], b: &[u8], at: usize) {
+fn put_nodes(words: &mut [u32], values: &mut [i32], costs: &mut [f32], b: &[u8], at: usize) {
     let entries = word(b, at);
     let given = word(b, after(at, 1));
-    put_given(words, values, b, after(at, 2), given);
-    put_rest(words, values, given, entries, word(b, nodes_end(b, at)));
+    put_given(words, values, costs, b, after(at, 2), given);
+    let fill = word(b, nodes_end(b, at));
+    put_rest(words, values, costs, given, entries, fill);
 }
 
+// The answer in number form, held to the stored one.
 fn expect_counted(b: &[u8], c: Check, r: Contexts) -> Check {
     match r {
         Contexts::Counted(n) => expect(b, expect(b, expect(b, c, 0), 0), n),
@@ -111,6 +134,7 @@ fn ends_run(queue: &[u32], i: usize, fill: u32) -> bool {
     printed(queue[i], fill) != printed(queue[i + 1], fill)
 }
 
+// How many runs of entries that print alike a queue has.
 fn count_runs(queue: &[u32], fill: u32) -> u32 {
     let mut runs: u32 = 0;
     for i in 0..queue.len() {
@@ -154,7 +178,7 @@ fn number(
     expect_runs(b, c, queue_entries, queue, value)
 }
 
-// Over fresh lists of so many entries.
+// The numbering over fresh lists of so many entries.
 fn number_in(
     b: &[u8],
     answer: Check,
@@ -192,6 +216,7 @@ fn number_in(
     )
 }
 
+// A job of leaf contexts: a count, a node list, a fill, and the lengths of the context list and the queue.
 pub fn contexts(b: &[u8], job: usize, answer: Check) -> Check {
     let count = word(b, job);
     let nodes = after(job, 1);
@@ -205,8 +230,9 @@ pub fn contexts(b: &[u8], job: usize, answer: Check) -> Check {
     }
     let mut words = rooms::words();
     let mut values = rooms::values();
-    put_nodes(&mut words, &mut values, b, nodes);
-    let w = 5 * entries as usize;
-    let v = 2 * entries as usize;
+    let mut costs = rooms::costs();
+    put_nodes(&mut words, &mut values, &mut costs, b, nodes);
+    let w = layout::words_for(entries as usize);
+    let v = layout::values_for(entries as usize);
     number_in(b, answer, &words[..w], &values[..v], count, n, q, value)
 }

@@ -44,26 +44,32 @@ words-requires c κs = search needs
 values-requires : tie.Need-values-requires
 values-requires c κs = search needs
 
+costs-requires : tie.Need-costs-requires
+costs-requires c κs = search needs
+
 slice-aggregate-put-nodes : tie.Need-slice-aggregate-put-nodes
 slice-aggregate-put-nodes c = search needs
 
 slice-aggregate-put-nodes-2 : tie.Need-slice-aggregate-put-nodes-2
 slice-aggregate-put-nodes-2 c = search needs
 
+slice-aggregate-put-nodes-3 : tie.Need-slice-aggregate-put-nodes-3
+slice-aggregate-put-nodes-3 c = search needs
+
 put-nodes-requires : tie.Need-put-nodes-requires
 put-nodes-requires c κs = search needs
 
-cast-w : tie.Need-cast-w
-cast-w c = search needs
+cast-words-for : tie.Need-cast-words-for
+cast-words-for c = search needs
 
-mul-w : tie.Need-mul-w
-mul-w c = search needs
+words-for-requires : tie.Need-words-for-requires
+words-for-requires c κs = search needs
 
-cast-v : tie.Need-cast-v
-cast-v c = search needs
+cast-values-for : tie.Need-cast-values-for
+cast-values-for c = search needs
 
-mul-v : tie.Need-mul-v
-mul-v c = search needs
+values-for-requires : tie.Need-values-for-requires
+values-for-requires c κs = search needs
 
 array-share-prefix-words : tie.Need-array-share-prefix-words
 array-share-prefix-words c = search needs
@@ -100,13 +106,15 @@ contexts-spec =
     returns
     words-requires
     values-requires
+    costs-requires
     slice-aggregate-put-nodes
     slice-aggregate-put-nodes-2
+    slice-aggregate-put-nodes-3
     put-nodes-requires
-    cast-w
-    mul-w
-    cast-v
-    mul-v
+    cast-words-for
+    words-for-requires
+    cast-values-for
+    values-for-requires
     array-share-prefix-words
     slice-aggregate-number-in
     array-share-prefix-values

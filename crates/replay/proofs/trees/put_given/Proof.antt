@@ -7,10 +7,10 @@ use Rattle.replay.proofs.trees.put_given.Statement.{statement}
 use Rattle.replay.proofs.trees.put_given.Tie as tie
 
 abbrev Inv-loop : tie.InvT-loop
-Inv-loop words₀ values₀ b first n i₀ words values i = (length words ≡ length words₀) × (length values ≡ length values₀)
+Inv-loop words₀ values₀ costs₀ b first n i₀ words values costs i = (length words ≡ length words₀) × (length values ≡ length values₀) × (length costs ≡ length costs₀)
 
 abbrev μ-loop : tie.MeasureT-loop
-μ-loop words₀ values₀ b first n i₀ words values i = n - i
+μ-loop words₀ values₀ costs₀ b first n i₀ words values costs i = n - i
 
 loop-holds : tie.Need-loop-holds Inv-loop μ-loop
 loop-holds c = search needs
@@ -24,11 +24,11 @@ mul-wrapping-add-usize c = search needs
 wrapping-add-usize-requires : tie.Need-wrapping-add-usize-requires Inv-loop μ-loop
 wrapping-add-usize-requires c κs = search needs
 
-put-words-requires : tie.Need-put-words-requires Inv-loop μ-loop
-put-words-requires c κs = search needs
+record-at-requires : tie.Need-record-at-requires Inv-loop μ-loop
+record-at-requires c κs = search needs
 
-put-values-requires : tie.Need-put-values-requires Inv-loop μ-loop
-put-values-requires c κs = search needs
+put-requires : tie.Need-put-requires Inv-loop μ-loop
+put-requires c κs = search needs
 
 add-i : tie.Need-add-i Inv-loop μ-loop
 add-i c = search needs
@@ -45,6 +45,9 @@ same-length c = search needs
 same-length-2 : tie.Need-same-length-2 Inv-loop μ-loop
 same-length-2 c = search needs
 
+same-length-3 : tie.Need-same-length-3 Inv-loop μ-loop
+same-length-3 c = search needs
+
 returns : tie.Need-returns Inv-loop μ-loop
 returns c = search needs
 
@@ -58,11 +61,12 @@ put-given-spec =
     cast-wrapping-add-usize
     mul-wrapping-add-usize
     wrapping-add-usize-requires
-    put-words-requires
-    put-values-requires
+    record-at-requires
+    put-requires
     add-i
     loop-less
     loop-again
     same-length
     same-length-2
+    same-length-3
     returns)

@@ -7,10 +7,10 @@ use Rattle.replay.proofs.trees.put_rest.Statement.{statement}
 use Rattle.replay.proofs.trees.put_rest.Tie as tie
 
 abbrev Inv-loop : tie.InvT-loop
-Inv-loop words₀ values₀ given entries fill i₀ words values i = (length words ≡ length words₀) × (length values ≡ length values₀)
+Inv-loop words₀ values₀ costs₀ given entries fill i₀ words values costs i = (length words ≡ length words₀) × (length values ≡ length values₀) × (length costs ≡ length costs₀)
 
 abbrev μ-loop : tie.MeasureT-loop
-μ-loop words₀ values₀ given entries fill i₀ words values i = entries - i
+μ-loop words₀ values₀ costs₀ given entries fill i₀ words values costs i = entries - i
 
 loop-holds : tie.Need-loop-holds Inv-loop μ-loop
 loop-holds c = search needs
@@ -18,8 +18,11 @@ loop-holds c = search needs
 wrapping-add-u32-requires : tie.Need-wrapping-add-u32-requires Inv-loop μ-loop
 wrapping-add-u32-requires c κs = search needs
 
-put-pattern-requires : tie.Need-put-pattern-requires Inv-loop μ-loop
-put-pattern-requires c κs = search needs
+pattern-requires : tie.Need-pattern-requires Inv-loop μ-loop
+pattern-requires c κs = search needs
+
+put-requires : tie.Need-put-requires Inv-loop μ-loop
+put-requires c κs = search needs
 
 add-i : tie.Need-add-i Inv-loop μ-loop
 add-i c = search needs
@@ -36,6 +39,9 @@ same-length c = search needs
 same-length-2 : tie.Need-same-length-2 Inv-loop μ-loop
 same-length-2 c = search needs
 
+same-length-3 : tie.Need-same-length-3 Inv-loop μ-loop
+same-length-3 c = search needs
+
 returns : tie.Need-returns Inv-loop μ-loop
 returns c = search needs
 
@@ -47,10 +53,12 @@ put-rest-spec =
     μ-loop
     loop-holds
     wrapping-add-u32-requires
-    put-pattern-requires
+    pattern-requires
+    put-requires
     add-i
     loop-less
     loop-again
     same-length
     same-length-2
+    same-length-3
     returns)
