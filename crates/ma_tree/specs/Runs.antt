@@ -11,8 +11,6 @@ use Rattle.model.specs.Token.{encodedOf}
 use Rattle.model.specs.declared.Encoded.{Encoded}
 use Rattle.model.specs.Profile.{single}
 use Rattle.model.specs.Operations.{ContextLists, learn, deepen, lookup, leafContexts, sample, tokenAnswer}
-use Rattle.rows.specs.Flat.{flat}
-use Rattle.layout.specs.Waiting.{queueNow}
 use Rattle.checks.specs.Given.{settingsOf}
 use Rattle.checks.specs.declared.Settings.{Settings}
 use Rattle.layout.specs.Records.{storedOf}
@@ -23,16 +21,13 @@ use Rattle.answers.specs.declared.Count.{Count}
 use Rattle.answers.specs.declared.Leaf.{Leaf}
 use Rattle.answers.specs.declared.LearnedTree.{LearnedTree}
 use Rattle.answers.specs.declared.Read.{Read}
-use Rattle.numbers.specs.Lists.{Lists, lists, lentIn, learnRecords, deepenRecords}
+use Rattle.numbers.specs.Lists.{Lists, listsWith, lentIn, learnRecords, deepenRecords}
 
--- what the lists lent to learning or deepening hold, in the order of the parameters; and those lent to contexts
+-- what the lists lent to learning or deepening hold, in the order of the parameters
 abbrev pub listsNow : RefT (List MaNode) → RefT (List Span) → RefT (List ℤ) → RefT (List ℕ) → RefT (List ℤ)
     → RefT (List ℕ) → RefT (List ℤ) → RefT (List Float) → RefT (List ℕ) → Lists
 listsNow nodes spans props tok res words values gains counts =
-    lists (flat (now props) (now tok) (now res)) (now nodes) (now spans) (queueNow words values gains) (now counts)
-
-abbrev pub contextsNow : RefT (List ℕ) → RefT (List ℕ) → ContextLists
-contextsNow contexts queue = record { contexts = now contexts; queue = now queue }
+    listsWith (now nodes) (now spans) props tok res words values gains counts
 
 -- ---- learning and deepening: settings s, logarithms and lists x are handed in, the answer is r, and the lists are left as y
 pub record Learning (s : Settings) (logs : List Float) (x : Lists) (r : LearnedTree) (y : Lists) : Type 0 where

@@ -16,7 +16,8 @@ use Rattle.model.specs.Learn.{Result}
 use Rattle.model.specs.Deepen.{deepened}
 use Rattle.model.specs.Refuse.{Refusal, refuseAt, learnRefusal, deepenRefusal}
 use Rattle.model.specs.Operations.{treeOf, refused, accepted}
-use Rattle.model.proofs.Accepted.{SeedRooms, learnedFrom, deepenedFrom}
+use Rattle.model.specs.Accepting.{SeedRooms}
+use Rattle.model.proofs.Accepted.{learnedFrom, deepenedFrom}
 use Rattle.model.proofs.Demand3.{learned-fits, deepened-fits}
 use Rattle.model.proofs.Learned.{result-laws}
 use Rattle.model.proofs.SingleLawful.{single-lawful}
@@ -25,7 +26,8 @@ use Rattle.checks.specs.Given.{settingsOf, Lends, checkOf}
 use Rattle.checks.specs.declared.Settings.{Settings}
 use Rattle.checks.specs.declared.Rooms.{Rooms}
 use Rattle.checks.specs.declared.Check.the-variants.{Pass}
-use Rattle.checks.proofs.Passed.{Accepted, deepening, deepen-passed}
+use Rattle.checks.specs.Accepted.{Accepted}
+use Rattle.checks.proofs.Passed.{deepening, deepen-passed}
 use Rattle.layout.specs.Records.{storedOf, nodeOf, spanIs, spanIn}
 use Rattle.layout.specs.Tree.{NodeLists, HasRoom}
 use Rattle.layout.proofs.Held.{room-fewer}

@@ -5,7 +5,9 @@ use Prim.Native.Nat.{ℕ}
 use mathlib.Core.Bool.{Bool, cond}
 use mathlib.Core.List.{List, map}
 use lib.ListN.{length, replicate}
+use lib.IntN.{ℤ}
 use lib.Ieee.{Float}
+use denote.Ref.{RefT, now}
 use Rattle.model.specs.Lists.{writtenOver}
 use Rattle.model.specs.Settings.{Settings}
 use Rattle.model.specs.Single.{singles}
@@ -14,10 +16,10 @@ use Rattle.model.specs.Learn.{Result, learned}
 use Rattle.model.specs.Deepen.{deepened}
 use Rattle.model.specs.Lent.{Lent, stored, rowsIn, usesModes, treeIn}
 use Rattle.model.specs.Refuse.{learnRefusal, deepenRefusal}
-use Rattle.model.specs.Operations.{After, Tree, treeOf, unless, learn, deepen}
+use Rattle.model.specs.Operations.{After, Tree, ContextLists, treeOf, unless, learn, deepen}
 use Rattle.model.specs.Tree.{Record}
-use Rattle.layout.specs.Waiting.{QueueLists}
-use Rattle.rows.specs.Flat.{Flat, flatOf, hasResiduals}
+use Rattle.layout.specs.Waiting.{QueueLists, queueNow}
+use Rattle.rows.specs.Flat.{Flat, flat, flatOf, hasResiduals}
 use Rattle.lent.specs.Lists.{storedQueue, clearQueue}
 use Rattle.layout.specs.Records.{storedOf, recordOf, spanIs, spanRecord}
 use Rattle.layout.specs.declared.MaNode.{MaNode}
@@ -35,6 +37,16 @@ pub record Lists : Type 0 where
 
 abbrev pub lists : Flat → List MaNode → List Span → QueueLists → List ℕ → Lists
 lists rows nodes spans queue counts = record { rows = rows; nodes = nodes; spans = spans; queue = queue; counts = counts }
+
+-- what lent lists hold, with these records
+abbrev pub listsWith : List MaNode → List Span → RefT (List ℤ) → RefT (List ℕ) → RefT (List ℤ) → RefT (List ℕ) → RefT (List ℤ)
+    → RefT (List Float) → RefT (List ℕ) → Lists
+listsWith nodes spans props tok res queueWords queueValues queueGains counts =
+    lists (flat (now props) (now tok) (now res)) nodes spans (queueNow queueWords queueValues queueGains) (now counts)
+
+-- and those lent to contexts
+abbrev pub contextsNow : RefT (List ℕ) → RefT (List ℕ) → ContextLists
+contextsNow contexts queue = record { contexts = now contexts; queue = now queue }
 
 -- what the model reads in them
 abbrev pub lentIn : Lists → Lent singles

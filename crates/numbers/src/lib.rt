@@ -8,9 +8,7 @@ ghost use lib.ListN.{length};
 ghost use lib.Ieee.{Float};
 ghost use Prim.Native.Nat.{ℕ, _*_, _≤_};
 ghost use Rattle.model.specs.Operations.{refused, accepted, leafContexts};
-ghost use Rattle.rows.specs.Flat.{flat};
 ghost use Rattle.checks.specs.Given.{settingsOf};
-ghost use Rattle.layout.specs.Waiting.{queueLists};
 ghost use Rattle.records.specs.Records.{filled};
 ghost use Rattle.layout.specs.Records.{storedOf, nodeOf, spanIn};
 ghost use Rattle.layout.specs.declared.MaNode.{MaNode};
@@ -20,7 +18,7 @@ ghost use Rattle.lent.specs.Lists.{leavesLent};
 ghost use Rattle.layout.specs.Layout.{wordsPerNode, valuesPerNode};
 ghost use Rattle.model.specs.Settings.{maxNodes};
 ghost use Rattle.answers.specs.Answers.{countIn, treeIn};
-ghost use Rattle.numbers.specs.Lists.{lists, Worked};
+ghost use Rattle.numbers.specs.Lists.{listsWith, contextsNow, Worked};
 ghost use Rattle.numbers.specs.Numbers.{copied, Arrays, Numbered};
 use answers::Count;
 use answers::LearnedTree;
@@ -58,8 +56,10 @@ fn rooms_of(
     queue_gains: &[f32],
     counts: &[u32],
 ) -> Rooms
-    ensures queue { λ r. ⌜ r .queue ≡ leavesLent (now («queue_words» .entry)) (now («queue_values» .entry)) (now («queue_gains» .entry)) ⌝ }
-    ensures rest { λ r. ⌜ (r .nodes ≡ «node_room») × (r .spans ≡ «span_room») × (r .counts ≡ length (now (counts .entry))) ⌝ }
+    ensures queue { λ r. ⌜ r .queue
+        ≡ leavesLent (now («queue_words» .entry)) (now («queue_values» .entry)) (now («queue_gains» .entry)) ⌝ }
+    ensures rest { λ r. ⌜ (r .nodes ≡ «node_room») × (r .spans ≡ «span_room»)
+        × (r .counts ≡ length (now (counts .entry))) ⌝ }
 {
     Rooms {
         nodes: node_room,
@@ -110,13 +110,15 @@ pub fn learn_on<'a, 'b>(
 ) -> Work
     requires { ⌜ Arrays (now words) (now values) (now costs) ⌝ }
     ensures few { λ r. ⌜ (r .written ≤ maxNodes) × (r .written ≤ «node_room») × (r .written ≤ «span_room») ⌝ }
-    ensures worked { λ r. ⌜ ((nodes : List MaNode) (given : List Span) (count : ℕ) → «node_room» ≡ length nodes → «span_room» ≡ length given
-        → Worked (settingsOf s) (now (logs .entry)) false count
-        (lists (flat (now (props .entry)) (now (tok .entry)) (now (res .entry))) nodes given
-        (queueLists (now («queue_words» .entry)) (now («queue_values» .entry)) (now («queue_gains» .entry))) (now (counts .entry)))
-        (lists (flat (now (props .exit)) (now (tok .exit)) (now (res .exit)))
-        (filled (nodeOf (now (words .exit)) (now (values .exit)) (now (costs .exit))) (r .written) nodes) (filled (spanIn (now (words .exit))) (r .written) given)
-        (queueLists (now («queue_words» .exit)) (now («queue_values» .exit)) (now («queue_gains» .exit))) (now (counts .exit))) (r .tree)) ⌝ }
+    ensures worked { λ r. ⌜ ((nodes : List MaNode) (given : List Span) (count : ℕ)
+        → «node_room» ≡ length nodes → «span_room» ≡ length given
+        → (let x = listsWith nodes given (props .entry) (tok .entry) (res .entry)
+        («queue_words» .entry) («queue_values» .entry) («queue_gains» .entry) (counts .entry) in
+        let y = listsWith
+        (filled (nodeOf (now (words .exit)) (now (values .exit)) (now (costs .exit))) (r .written) nodes)
+        (filled (spanIn (now (words .exit))) (r .written) given) (props .exit) (tok .exit) (res .exit)
+        («queue_words» .exit) («queue_values» .exit) («queue_gains» .exit) (counts .exit) in
+        Worked (settingsOf s) (now (logs .entry)) false count x y (r .tree))) ⌝ }
 {
     let rooms = rooms_of(
         node_room,
@@ -168,13 +170,16 @@ pub fn deepen_on<'a, 'b>(
     requires { ⌜ Arrays (now words) (now values) (now costs) ⌝ }
     ensures few { λ r. ⌜ (r .written ≤ maxNodes) × (r .written ≤ «node_room») × (r .written ≤ «span_room») ⌝ }
     ensures worked { λ r. ⌜ ((nodes : List MaNode) (given : List Span)
-        → Numbered (copied true count (length nodes)) nodes (now (words .entry)) (now (values .entry)) (now (costs .entry)) → «node_room» ≡ length nodes → «span_room» ≡ length given
-        → Worked (settingsOf s) (now (logs .entry)) true count
-        (lists (flat (now (props .entry)) (now (tok .entry)) (now (res .entry))) nodes given
-        (queueLists (now («queue_words» .entry)) (now («queue_values» .entry)) (now («queue_gains» .entry))) (now (counts .entry)))
-        (lists (flat (now (props .exit)) (now (tok .exit)) (now (res .exit)))
-        (filled (nodeOf (now (words .exit)) (now (values .exit)) (now (costs .exit))) (r .written) nodes) (filled (spanIn (now (words .exit))) (r .written) given)
-        (queueLists (now («queue_words» .exit)) (now («queue_values» .exit)) (now («queue_gains» .exit))) (now (counts .exit))) (r .tree)) ⌝ }
+        → Numbered (copied true count (length nodes)) nodes
+        (now (words .entry)) (now (values .entry)) (now (costs .entry))
+        → «node_room» ≡ length nodes → «span_room» ≡ length given
+        → (let x = listsWith nodes given (props .entry) (tok .entry) (res .entry)
+        («queue_words» .entry) («queue_values» .entry) («queue_gains» .entry) (counts .entry) in
+        let y = listsWith
+        (filled (nodeOf (now (words .exit)) (now (values .exit)) (now (costs .exit))) (r .written) nodes)
+        (filled (spanIn (now (words .exit))) (r .written) given) (props .exit) (tok .exit) (res .exit)
+        («queue_words» .exit) («queue_values» .exit) («queue_gains» .exit) (counts .exit) in
+        Worked (settingsOf s) (now (logs .entry)) true count x y (r .tree))) ⌝ }
 {
     let nodes = count as usize;
     let rooms = rooms_of(
@@ -235,13 +240,16 @@ pub fn work_on<'a, 'b>(
     requires { ⌜ Arrays (now words) (now values) (now costs) ⌝ }
     ensures few { λ r. ⌜ (r .written ≤ maxNodes) × (r .written ≤ «node_room») × (r .written ≤ «span_room») ⌝ }
     ensures worked { λ r. ⌜ ((nodes : List MaNode) (given : List Span)
-        → Numbered (copied seeded count (length nodes)) nodes (now (words .entry)) (now (values .entry)) (now (costs .entry)) → «node_room» ≡ length nodes → «span_room» ≡ length given
-        → Worked (settingsOf s) (now (logs .entry)) seeded count
-        (lists (flat (now (props .entry)) (now (tok .entry)) (now (res .entry))) nodes given
-        (queueLists (now («queue_words» .entry)) (now («queue_values» .entry)) (now («queue_gains» .entry))) (now (counts .entry)))
-        (lists (flat (now (props .exit)) (now (tok .exit)) (now (res .exit)))
-        (filled (nodeOf (now (words .exit)) (now (values .exit)) (now (costs .exit))) (r .written) nodes) (filled (spanIn (now (words .exit))) (r .written) given)
-        (queueLists (now («queue_words» .exit)) (now («queue_values» .exit)) (now («queue_gains» .exit))) (now (counts .exit))) (r .tree)) ⌝ }
+        → Numbered (copied seeded count (length nodes)) nodes
+        (now (words .entry)) (now (values .entry)) (now (costs .entry))
+        → «node_room» ≡ length nodes → «span_room» ≡ length given
+        → (let x = listsWith nodes given (props .entry) (tok .entry) (res .entry)
+        («queue_words» .entry) («queue_values» .entry) («queue_gains» .entry) (counts .entry) in
+        let y = listsWith
+        (filled (nodeOf (now (words .exit)) (now (values .exit)) (now (costs .exit))) (r .written) nodes)
+        (filled (spanIn (now (words .exit))) (r .written) given) (props .exit) (tok .exit) (res .exit)
+        («queue_words» .exit) («queue_values» .exit) («queue_gains» .exit) (counts .exit) in
+        Worked (settingsOf s) (now (logs .entry)) seeded count x y (r .tree))) ⌝ }
 {
     if seeded {
         return deepen_on(
@@ -291,11 +299,14 @@ pub fn contexts_on<'a, 'b>(
 ) -> Count
     requires { ⌜ n * wordsPerNode ≤ length (now words) ⌝ }
     requires { ⌜ n * valuesPerNode ≤ length (now values) ⌝ }
-    ensures { λ r. ⌜ ((nodes : List MaNode) (costs : List Float) → Numbered n nodes (now (words .entry)) (now (values .entry)) costs → n ≡ copied true count (length nodes)
-        → r ≡ countIn (leafContexts (map storedOf nodes) count (record { contexts = now (contexts .entry); queue = now (queue .entry) }) .outcome)) ⌝ }
-    ensures { λ _. ⌜ ((nodes : List MaNode) (costs : List Float) → Numbered n nodes (now (words .entry)) (now (values .entry)) costs → n ≡ copied true count (length nodes)
-        → record { contexts = now (contexts .exit); queue = now (queue .exit) }
-        ≡ leafContexts (map storedOf nodes) count (record { contexts = now (contexts .entry); queue = now (queue .entry) }) .lent) ⌝ }
+    ensures answer { λ r. ⌜ ((nodes : List MaNode) (costs : List Float)
+        → Numbered n nodes (now (words .entry)) (now (values .entry)) costs → n ≡ copied true count (length nodes)
+        → (let x = contextsNow (contexts .entry) (queue .entry) in
+        r ≡ countIn (leafContexts (map storedOf nodes) count x .outcome))) ⌝ }
+    ensures lists { λ _. ⌜ ((nodes : List MaNode) (costs : List Float)
+        → Numbered n nodes (now (words .entry)) (now (values .entry)) costs → n ≡ copied true count (length nodes)
+        → (let x = contextsNow (contexts .entry) (queue .entry) in
+        contextsNow (contexts .exit) (queue .exit) ≡ leafContexts (map storedOf nodes) count x .lent)) ⌝ }
 {
     answers::contexts_answer(contexts::leaf_contexts(
         &words[..n * layout::NODE_WORDS],

@@ -22,8 +22,8 @@ use Rattle.answers.specs.declared.Count.{Count}
 use Rattle.answers.specs.declared.Leaf.{Leaf}
 use Rattle.answers.specs.declared.LearnedTree.{LearnedTree}
 use Rattle.answers.specs.declared.Read.{Read}
-use Rattle.numbers.specs.Lists.{Lists, lists}
-use Rattle.ma_tree.specs.Runs.{listsNow, contextsNow, Learning, Deepening, LookingUp, Numbering, Sampling, Packing, Encoding, Reading}
+use Rattle.numbers.specs.Lists.{Lists, lists, contextsNow}
+use Rattle.ma_tree.specs.Runs.{listsNow, Learning, Deepening, LookingUp, Numbering, Sampling, Packing, Encoding, Reading}
 
 -- what a run of an operation may be: its arguments at entry, its answer, and the last values of what it was lent to write
 abbrev pub Relation : Ended → Type 1
