@@ -1,5 +1,5 @@
-// Deepening a tree from rows in number lists (document 01; the Rust's `deepen_ma_tree`), of a job that the checks accept
-// and a sound seed: flat bits, the seed's leaves, growth, pruning and settling.
+// Deepening a tree from rows in number lists (document 01; the Rust's `deepen_ma_tree`), of a job that the checks
+// accept and a sound seed: flat bits, the seed's leaves, growth, pruning and settling.
 ghost use mathlib.Core.Path.{_≡_};
 ghost use Rattle.lent.specs.Lists.{listsNow, listsAfter};
 ghost use Rattle.lent.specs.Answer.{LearnedAs};
@@ -27,10 +27,12 @@ pub fn deepen_ma_tree(
 ) -> Finished
     requires { ⌜ Deepenable s (now logs) (listsNow props tok res words values costs
         «queue_words» «queue_values» «queue_gains» counts) rows count ⌝ }
-    ensures finished { λ r. ⌜ (let x = listsNow (props .entry) (tok .entry) (res .entry) (words .entry) (values .entry) (costs .entry)
+    ensures finished { λ r. ⌜ (let x = listsNow (props .entry) (tok .entry) (res .entry)
+        (words .entry) (values .entry) (costs .entry)
         («queue_words» .entry) («queue_values» .entry) («queue_gains» .entry) (counts .entry) in
         LearnedAs (deepenedIn s (now (logs .entry)) count (x .rows) (x .nodes)) r) ⌝ }
-    ensures lists { λ _. ⌜ (let x = listsNow (props .entry) (tok .entry) (res .entry) (words .entry) (values .entry) (costs .entry)
+    ensures lists { λ _. ⌜ (let x = listsNow (props .entry) (tok .entry) (res .entry)
+        (words .entry) (values .entry) (costs .entry)
         («queue_words» .entry) («queue_values» .entry) («queue_gains» .entry) (counts .entry) in
         let y = listsNow (props .exit) (tok .exit) (res .exit) (words .exit) (values .exit) (costs .exit)
         («queue_words» .exit) («queue_values» .exit) («queue_gains» .exit) (counts .exit) in

@@ -1,4 +1,5 @@
-// From a state to the finished tree: growth, pruning if the price is above 0, settling if it is asked for (document 01, "Growth" and "Pruning").
+// From a state to the finished tree: growth, pruning if the price is above 0, settling if it is asked for (document 01,
+// "Growth" and "Pruning").
 ghost use mathlib.Core.Path.{_≡_};
 ghost use mathlib.Core.Bool.{Bool, cond};
 ghost use mathlib.Core.List.{List};
@@ -52,10 +53,12 @@ fn settle_if(
     counts: &mut [u32],
 )
     requires { ⌜ Settleable (now words) count uses (now tok) (now res) (now counts) ⌝ }
-    ensures { λ _. ⌜ ((tree : List (Entry singles)) (lent : NodeLists) (props : List ℤ)
+    ensures rows { λ _. ⌜ ((tree : List (Entry singles)) (lent : NodeLists) (props : List ℤ)
         → HoldsLeaves (now (words .entry)) count uses (flat props (now (tok .entry)) (now (res .entry))) tree lent
-        → Changed (λ rows. cond settle (settled uses tree rows) rows) (flat props (now (tok .entry)) (now (res .entry))) (flat props (now (tok .exit)) (now (res .entry)))) ⌝ }
-    ensures { λ _. ⌜ now (counts .exit) ≡ now (counts .entry) ⌝ }
+        → Changed (λ rows. cond settle (settled uses tree rows) rows)
+        (flat props (now (tok .entry)) (now (res .entry)))
+        (flat props (now (tok .exit)) (now (res .entry)))) ⌝ }
+    ensures zeros { λ _. ⌜ now (counts .exit) ≡ now (counts .entry) ⌝ }
 {
     if settle {
         settle::settle_leaves(words, count, uses, tok, res, counts);
@@ -75,12 +78,17 @@ fn finish_tree(
     flat_bits: f64,
 ) -> Finished
     requires { ⌜ Finishable s (now tok) (now res) (nodesNow words values costs) (now counts) grown ⌝ }
-    ensures { λ r. ⌜ ((props : List ℤ) (logs : List Float) (lent : NodeLists) (st : State singles) (seeds : ℕ → Bool) (given : List Row)
-        → Grew s logs (now (counts .entry)) (flat props (now (tok .entry)) (now (res .entry))) (nodesNow (words .entry) (values .entry) (costs .entry)) grown lent st seeds given
-        → FinishedTo (flat props (now (tok .entry)) (now (res .entry))) (flat props (now (tok .exit)) (now (res .entry)))
+    ensures finished { λ r. ⌜ ((props : List ℤ) (logs : List Float) (lent : NodeLists)
+        (st : State singles) (seeds : ℕ → Bool) (given : List Row)
+        → Grew s logs (now (counts .entry))
+        (flat props (now (tok .entry)) (now (res .entry)))
+        (nodesNow (words .entry) (values .entry) (costs .entry)) grown lent st seeds given
+        → FinishedTo
+        (flat props (now (tok .entry)) (now (res .entry)))
+        (flat props (now (tok .exit)) (now (res .entry)))
         (nodesNow (words .exit) (values .exit) (costs .exit)) r lent
         (finished (jobIn s logs (flat props (now (tok .entry)) (now (res .entry)))) st «flat_bits»)) ⌝ }
-    ensures { λ _. ⌜ now (counts .exit) ≡ now (counts .entry) ⌝ }
+    ensures zeros { λ _. ⌜ now (counts .exit) ≡ now (counts .entry) ⌝ }
 {
     let kept = prune_if(words, values, costs, grown, s.prune_leaf_bits);
     let uses = s.modal_offsets & (0 < res.len());
@@ -123,16 +131,20 @@ pub fn grow_and_finish(
 ) -> Finished
     requires { ⌜ Growable s (now logs) (now counts) (flat (now props) (now tok) (now res)) (nodesNow words values costs)
         (queueNow «queue_words» «queue_values» «queue_gains») tree more ⌝ }
-    ensures { λ r. ⌜ ((lent : NodeLists) (st : State singles) (seeds : ℕ → Bool) (given : List Row)
-        → Grows s (now (logs .entry)) (now (counts .entry)) (flat (now (props .entry)) (now (tok .entry)) (now (res .entry)))
+    ensures finished { λ r. ⌜ ((lent : NodeLists) (st : State singles) (seeds : ℕ → Bool) (given : List Row)
+        → Grows s (now (logs .entry)) (now (counts .entry))
+        (flat (now (props .entry)) (now (tok .entry)) (now (res .entry)))
         (nodesNow (words .entry) (values .entry) (costs .entry))
         (queueNow («queue_words» .entry) («queue_values» .entry) («queue_gains» .entry)) tree more lent st seeds given
-        → FinishedTo (flat (now (props .entry)) (now (tok .entry)) (now (res .entry))) (flat (now (props .exit)) (now (tok .exit)) (now (res .exit)))
+        → FinishedTo
+        (flat (now (props .entry)) (now (tok .entry)) (now (res .entry)))
+        (flat (now (props .exit)) (now (tok .exit)) (now (res .exit)))
         (nodesNow (words .exit) (values .exit) (costs .exit)) r lent
         (finished (jobIn s (now (logs .entry)) (flat (now (props .entry)) (now (tok .entry)) (now (res .entry))))
-        (steps (jobIn s (now (logs .entry)) (flat (now (props .entry)) (now (tok .entry)) (now (res .entry)))) more st) «flat_bits»)) ⌝ }
-    ensures { λ _. ⌜ now (counts .exit) ≡ now (counts .entry) ⌝ }
-    ensures { λ _. ⌜ queueNow («queue_words» .exit) («queue_values» .exit) («queue_gains» .exit)
+        (steps (jobIn s (now (logs .entry)) (flat (now (props .entry)) (now (tok .entry)) (now (res .entry)))) more st)
+        «flat_bits»)) ⌝ }
+    ensures zeros { λ _. ⌜ now (counts .exit) ≡ now (counts .entry) ⌝ }
+    ensures queue { λ _. ⌜ queueNow («queue_words» .exit) («queue_values» .exit) («queue_gains» .exit)
         ≡ clearQueue (queueNow («queue_words» .entry) («queue_values» .entry) («queue_gains» .entry)) ⌝ }
 {
     let grown = grow::grow_tree(

@@ -1,5 +1,5 @@
-// From the root to the finished tree (document 01, "Growth", "Pruning"; the Rust's `learn_ma_tree_in_place` from the root on): one leaf over all rows, then growth,
-// pruning and settling.
+// From the root to the finished tree (document 01, "Growth", "Pruning"; the Rust's `learn_ma_tree_in_place` from the
+// root on): one leaf over all rows, then growth, pruning and settling.
 ghost use mathlib.Core.Path.{_≡_};
 ghost use Prim.Native.Nat.{_-_};
 ghost use Rattle.model.specs.Learn.{rootState};
@@ -42,15 +42,17 @@ fn plant_root(
     s: Settings,
     rows: usize,
 ) -> Tree
-    requires { ⌜ Plantable s (now logs) (now counts) (flat (now props) (now tok) (now res)) (nodesNow words values costs)
-        (queueNow «queue_words» «queue_values» «queue_gains») rows ⌝ }
-    ensures { λ r. ⌜ Grows s (now (logs .entry)) (now (counts .exit)) (flat (now (props .entry)) (now (tok .exit)) (now (res .entry)))
+    requires { ⌜ Plantable s (now logs) (now counts) (flat (now props) (now tok) (now res))
+        (nodesNow words values costs) (queueNow «queue_words» «queue_values» «queue_gains») rows ⌝ }
+    ensures planted { λ r. ⌜ Grows s (now (logs .entry)) (now (counts .exit))
+        (flat (now (props .entry)) (now (tok .exit)) (now (res .entry)))
         (nodesNow (words .exit) (values .exit) (costs .exit))
         (queueNow («queue_words» .exit) («queue_values» .exit) («queue_gains» .exit)) r (s .«max_leaves» - 1)
         (nodesNow (words .entry) (values .entry) (costs .entry))
-        (rootState (jobIn s (now (logs .entry)) (flat (now (props .entry)) (now (tok .entry)) (now (res .entry)))) (heldIn (flat (now (props .entry)) (now (tok .entry)) (now (res .entry)))))
+        (rootState (jobIn s (now (logs .entry)) (flat (now (props .entry)) (now (tok .entry)) (now (res .entry))))
+        (heldIn (flat (now (props .entry)) (now (tok .entry)) (now (res .entry)))))
         noSeeds (heldIn (flat (now (props .entry)) (now (tok .entry)) (now (res .entry)))) ⌝ }
-    ensures { λ _. ⌜ now (counts .exit) ≡ now (counts .entry) ⌝ }
+    ensures zeros { λ _. ⌜ now (counts .exit) ≡ now (counts .entry) ⌝ }
 {
     let root = leaf::make_leaf(
         props,
@@ -92,15 +94,17 @@ pub fn grow_from_root(
     rows: usize,
     flat_bits: f64,
 ) -> Finished
-    requires { ⌜ Plantable s (now logs) (now counts) (flat (now props) (now tok) (now res)) (nodesNow words values costs)
-        (queueNow «queue_words» «queue_values» «queue_gains») rows ⌝ }
+    requires { ⌜ Plantable s (now logs) (now counts) (flat (now props) (now tok) (now res))
+        (nodesNow words values costs) (queueNow «queue_words» «queue_values» «queue_gains») rows ⌝ }
     requires { ⌜ «flat_bits» ≡ flatBits (settingsOf s) (now logs) (heldIn (flat (now props) (now tok) (now res))) ⌝ }
-    ensures { λ r. ⌜ FinishedTo (flat (now (props .entry)) (now (tok .entry)) (now (res .entry))) (flat (now (props .exit)) (now (tok .exit)) (now (res .exit)))
+    ensures finished { λ r. ⌜ FinishedTo
+        (flat (now (props .entry)) (now (tok .entry)) (now (res .entry)))
+        (flat (now (props .exit)) (now (tok .exit)) (now (res .exit)))
         (nodesNow (words .exit) (values .exit) (costs .exit)) r
         (nodesNow (words .entry) (values .entry) (costs .entry))
         (resultIn s (now (logs .entry)) (flat (now (props .entry)) (now (tok .entry)) (now (res .entry)))) ⌝ }
-    ensures { λ _. ⌜ now (counts .exit) ≡ now (counts .entry) ⌝ }
-    ensures { λ _. ⌜ queueNow («queue_words» .exit) («queue_values» .exit) («queue_gains» .exit)
+    ensures zeros { λ _. ⌜ now (counts .exit) ≡ now (counts .entry) ⌝ }
+    ensures queue { λ _. ⌜ queueNow («queue_words» .exit) («queue_values» .exit) («queue_gains» .exit)
         ≡ clearQueue (queueNow («queue_words» .entry) («queue_values» .entry) («queue_gains» .entry)) ⌝ }
 {
     let root = plant_root(

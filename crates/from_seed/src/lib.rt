@@ -20,7 +20,7 @@ fn leaves_left(limit: usize, nodes: usize) -> usize
     requires { ⌜ nodes ≤ maxNodes ⌝ }
     ensures { λ r. ⌜ r ≡ limit - (nodes + 1) / 2 ⌝ }
 {
-    let leaves = (nodes + 1) / 2;
+    let leaves = layout::leaves_of(nodes);
     if leaves < limit { limit - leaves } else { 0 }
 }
 
@@ -45,13 +45,13 @@ pub fn grow_from_seed(
     requires { ⌜ Seedable s (now logs) (now counts) (flat (now props) (now tok) (now res))
         (nodesNow words values costs) (queueNow «queue_words» «queue_values» «queue_gains») rows count ⌝ }
     requires { ⌜ «flat_bits» ≡ flatBits (settingsOf s) (now logs) (heldIn (flat (now props) (now tok) (now res))) ⌝ }
-    ensures { λ r. ⌜ FinishedTo (flat (now (props .entry)) (now (tok .entry)) (now (res .entry)))
+    ensures finished { λ r. ⌜ FinishedTo (flat (now (props .entry)) (now (tok .entry)) (now (res .entry)))
         (flat (now (props .exit)) (now (tok .exit)) (now (res .exit)))
         (nodesNow (words .exit) (values .exit) (costs .exit)) r (nodesNow (words .entry) (values .entry) (costs .entry))
         (deepenedIn s (now (logs .entry)) count (flat (now (props .entry)) (now (tok .entry)) (now (res .entry)))
         (nodesNow (words .entry) (values .entry) (costs .entry))) ⌝ }
-    ensures { λ _. ⌜ now (counts .exit) ≡ now (counts .entry) ⌝ }
-    ensures { λ _. ⌜ queueNow («queue_words» .exit) («queue_values» .exit) («queue_gains» .exit)
+    ensures zeros { λ _. ⌜ now (counts .exit) ≡ now (counts .entry) ⌝ }
+    ensures queue { λ _. ⌜ queueNow («queue_words» .exit) («queue_values» .exit) («queue_gains» .exit)
         ≡ clearQueue (queueNow («queue_words» .entry) («queue_values» .entry) («queue_gains» .entry)) ⌝ }
 {
     let planted = plant::plant_seed(

@@ -26,10 +26,12 @@ pub fn learn_ma_tree_in_place(
 ) -> Finished
     requires { ⌜ Learnable s (now logs) (listsNow props tok res words values costs
         «queue_words» «queue_values» «queue_gains» counts) rows ⌝ }
-    ensures finished { λ r. ⌜ (let x = listsNow (props .entry) (tok .entry) (res .entry) (words .entry) (values .entry) (costs .entry)
+    ensures finished { λ r. ⌜ (let x = listsNow (props .entry) (tok .entry) (res .entry)
+        (words .entry) (values .entry) (costs .entry)
         («queue_words» .entry) («queue_values» .entry) («queue_gains» .entry) (counts .entry) in
         LearnedAs (resultIn s (now (logs .entry)) (x .rows)) r) ⌝ }
-    ensures lists { λ _. ⌜ (let x = listsNow (props .entry) (tok .entry) (res .entry) (words .entry) (values .entry) (costs .entry)
+    ensures lists { λ _. ⌜ (let x = listsNow (props .entry) (tok .entry) (res .entry)
+        (words .entry) (values .entry) (costs .entry)
         («queue_words» .entry) («queue_values» .entry) («queue_gains» .entry) (counts .entry) in
         let y = listsNow (props .exit) (tok .exit) (res .exit) (words .exit) (values .exit) (costs .exit)
         («queue_words» .exit) («queue_values» .exit) («queue_gains» .exit) (counts .exit) in
