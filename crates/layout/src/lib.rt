@@ -4,7 +4,7 @@
 ghost use mathlib.Core.Path.{_≡_};
 ghost use mathlib.Core.Bool.{true};
 ghost use Prim.Native.Nat.{_+_, _*_, _/_, _^_, _≤_, _<_, min};
-ghost use lib.ListN.{length, set};
+ghost use lib.ListN.{set};
 ghost use lib.Seq.{paste};
 ghost use lib.Dec.{eqb};
 ghost use Rattle.model.specs.Settings.{maxNodes, maxRows};

@@ -1,7 +1,7 @@
 // The number lists of learning and deepening as one value (specs/), how many waiting leaves the queue has room for, and
 // what both answer.
 ghost use mathlib.Core.Path.{_≡_};
-ghost use Prim.Native.Nat.{_/_, _≤_};
+ghost use Prim.Native.Nat.{_≤_};
 ghost use Rattle.model.specs.Settings.{maxNodes};
 ghost use Rattle.model.specs.Operations.{accepted};
 ghost use Rattle.lent.specs.Lists.{leavesLent};

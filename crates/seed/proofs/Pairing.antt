@@ -1,12 +1,12 @@
 -- Spans copied pair by pair. Assumes nothing.
 use mathlib.Core.Path.{_≡_, refl, _∙_}
 use mathlib.Core.List.{List}
-use Prim.Native.Nat.{ℕ, _+_, _*_, _≤_, _<_}
+use Prim.Native.Nat.{ℕ, _+_, _<_}
 use native.Mathlib.Decide.{decLt}
 use native.Mathlib.Nat.{mul-le-mul-right}
 use native.Mathlib.Omega.{arith}
-use lib.ListN.{length, getD}
-use Rattle.layout.specs.Layout.{wordsPerNode, firstAt, endAt, putSpan, HasWords}
+use lib.ListN.{getD}
+use Rattle.layout.specs.Layout.{wordsPerNode, putSpan, HasWords}
 use Rattle.layout.proofs.Spans.{span-long, span-here, span-other, span-elsewhere, span-past}
 use Rattle.seed.specs.Ordered.{Paired, Pairs}
 
