@@ -6,7 +6,7 @@ ghost use mathlib.Core.Bool.{true, false};
 ghost use mathlib.Core.List.{List, map};
 ghost use lib.ListN.{length};
 ghost use lib.Ieee.{Float};
-ghost use Prim.Native.Nat.{ℕ, _*_, _≤_};
+ghost use Prim.Native.Nat.{ℕ, _≤_};
 ghost use Rattle.model.specs.Operations.{refused, accepted, leafContexts};
 ghost use Rattle.checks.specs.Given.{settingsOf};
 ghost use Rattle.records.specs.Records.{filled};
@@ -15,7 +15,7 @@ ghost use Rattle.layout.specs.declared.MaNode.{MaNode};
 ghost use Rattle.layout.specs.declared.Span.{Span};
 ghost use Rattle.lent.specs.Answer.{answerOf};
 ghost use Rattle.lent.specs.Lists.{leavesLent};
-ghost use Rattle.layout.specs.Layout.{wordsPerNode, valuesPerNode};
+ghost use Rattle.layout.specs.Layout.{HasWords, HasValues};
 ghost use Rattle.model.specs.Settings.{maxNodes};
 ghost use Rattle.answers.specs.Answers.{countIn, treeIn};
 ghost use Rattle.numbers.specs.Lists.{listsWith, contextsNow, Worked};
@@ -297,8 +297,8 @@ pub fn contexts_on<'a, 'b>(
     contexts: &'a mut [u32],
     queue: &'a mut [u32],
 ) -> Count
-    requires { ⌜ n * wordsPerNode ≤ length (now words) ⌝ }
-    requires { ⌜ n * valuesPerNode ≤ length (now values) ⌝ }
+    requires { ⌜ n ≤ maxNodes ⌝ }
+    requires { ⌜ HasWords (now words) n × HasValues (now values) n ⌝ }
     ensures answer { λ r. ⌜ ((nodes : List MaNode) (costs : List Float)
         → Numbered n nodes (now (words .entry)) (now (values .entry)) costs → n ≡ copied true count (length nodes)
         → (let x = contextsNow (contexts .entry) (queue .entry) in
@@ -308,9 +308,11 @@ pub fn contexts_on<'a, 'b>(
         → (let x = contextsNow (contexts .entry) (queue .entry) in
         contextsNow (contexts .exit) (queue .exit) ≡ leafContexts (map storedOf nodes) count x .lent)) ⌝ }
 {
+    let words_end = layout::words_for(n);
+    let values_end = layout::values_for(n);
     answers::contexts_answer(contexts::leaf_contexts(
-        &words[..n * layout::NODE_WORDS],
-        &values[..n * layout::NODE_VALUES],
+        &words[..words_end],
+        &values[..values_end],
         count,
         contexts,
         queue,

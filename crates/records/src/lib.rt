@@ -19,9 +19,9 @@ pub fn from_records<'n, 'a>(
 )
     requires { ⌜ n ≤ length (now nodes) ⌝ }
     requires { ⌜ HasNodes n (now words) (now values) (now costs) ⌝ }
-    ensures { λ _. ⌜ now (words .exit) ≡ wordsFrom (now (nodes .entry)) n (now (words .entry)) ⌝ }
-    ensures { λ _. ⌜ now (values .exit) ≡ valuesFrom (now (nodes .entry)) n (now (values .entry)) ⌝ }
-    ensures { λ _. ⌜ now (costs .exit) ≡ costsFrom (now (nodes .entry)) n (now (costs .entry)) ⌝ }
+    ensures words { λ _. ⌜ now (words .exit) ≡ wordsFrom (now (nodes .entry)) n (now (words .entry)) ⌝ }
+    ensures values { λ _. ⌜ now (values .exit) ≡ valuesFrom (now (nodes .entry)) n (now (values .entry)) ⌝ }
+    ensures costs { λ _. ⌜ now (costs .exit) ≡ costsFrom (now (nodes .entry)) n (now (costs .entry)) ⌝ }
 {
     let mut i: usize = 0;
     while i < n {

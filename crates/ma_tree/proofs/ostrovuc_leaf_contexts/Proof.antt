@@ -140,7 +140,7 @@ module _ {M : Type 1} (𝓤 : URA M) (H : Heap 𝓤) (A : Atoms 𝓤) (W : Given
     asked : ent 𝓤 (⋆ 𝓤 H A ((‵ (flft (μ ∷ []) fullShare) ⊛ ‵ (flft κ′ q′)) ∷ ‵ Lent ∷ ‵ Nums ∷ [])) (ContextsOn 𝓤 H A mem run .pre to)
     asked =
         let enough = has-places (copied-long zeros-long (x .now) n) most in
-        qed W ((‵ (flft (μ ∷ []) fullShare) ⊛ ‵ (flft κ′ q′)) ∷ ‵ Lent ∷ ‵ Nums ∷ []) ∵ says-two ! (enough .words-there) (enough .values-there) $
+        qed W ((‵ (flft (μ ∷ []) fullShare) ⊛ ‵ (flft κ′ q′)) ∷ ‵ Lent ∷ ‵ Nums ∷ []) ∵ says-two ! most (enough .words-there, enough .values-there) $
         split ! $ nothing ! $ move ! (2 ∷ 0 ∷ []) $ join ! $ move ! (1 ∷ 0 ∷ []) $ join ! $ frame ! $ fsplit ! $ move ! (1 ∷ []) $ fsplit ! $ move ! (1 ∷ []) $ drop ! $
         move ! (0 ∷ 2 ∷ []) $ fjoin ! $ move ! (1 ∷ 0 ∷ []) $ fjoin ! $ owned ! u32 (Is u32) (uint-makes 𝓤 H A W w32) count _ (refl, count-fits) $ fjoin ! $
         owned ! usize (Is usize) (uint-makes 𝓤 H A W w64) n _ (refl, most-fits most) $ fjoin ! $ done !
