@@ -2,7 +2,6 @@ use mathlib.Core.Path.{subst, sym}
 use mathlib.Core.List.{List, []}
 use Prim.Native.Nat.{ℕ, _-_}
 use native.Mathlib.Omega.{arith}
-use borrow.Author.Needs.{needs}
 use Rattle.model.specs.Learn.{rootState}
 use Rattle.model.specs.Kept.{noSeeds}
 use Rattle.layout.specs.Tree.{NodeLists, nodeLists}
