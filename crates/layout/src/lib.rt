@@ -19,10 +19,10 @@ ghost use Rattle.layout.specs.Waiting.{wordsPerLeaf, queueLists, QueueRo
 
 // How many words a node has: kind, property, gt, le and predictor, and then its span, the first row and the row behind
 // the last.
-pub const NODE_WORDS: usize = 7;
+const NODE_WORDS: usize = 7;
 
 // How many values a node has: threshold and offset.
-pub const NODE_VALUES: usize = 2;
+const NODE_VALUES: usize = 2;
 
 // How many words a waiting leaf has: node, property and depth.
 const LEAF_WORDS: usize = 3;

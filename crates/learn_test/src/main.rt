@@ -1,4 +1,5 @@
-// Learning on rows with known answers: document 01's rows about limits and refusals, and the smallest job on which equal gains matter.
+// Learning on rows with known answers: document 01's rows about limits and refusals, and the smallest job on which
+// equal gains matter.
 // It prints how many cases of each kind were tried, how many came out wrong, and the first of these.
 ghost use Prim.Native.Nat.{_≤_};
 ghost use lib.ListN.{length};

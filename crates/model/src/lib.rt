@@ -1,4 +1,5 @@
-// The numbers of document 01 that every crate goes by, and the answers that the definitions of specs/ and the code share.
+// The numbers of document 01 that every crate goes by, and the answers that the definitions of specs/ and the code
+// share.
 
 // The properties of a row.
 pub const NUM_MA_PROPS: usize = 24;

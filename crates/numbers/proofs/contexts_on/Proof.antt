@@ -19,14 +19,14 @@ use Rattle.numbers.proofs.Reading.{contexts-alike}
 use Rattle.numbers.proofs.contexts_on.Statement.{statement}
 use Rattle.numbers.proofs.contexts_on.Tie as tie
 
-mul-leaf-contexts : tie.Need-mul-leaf-contexts
-mul-leaf-contexts c = search needs
+words-for-requires : tie.Need-words-for-requires
+words-for-requires c κs = search needs
+
+values-for-requires : tie.Need-values-for-requires
+values-for-requires c κs = search needs
 
 slice-aggregate-leaf-contexts : tie.Need-slice-aggregate-leaf-contexts
 slice-aggregate-leaf-contexts c = let start = c .before .before .before .before in sym (length-take-le (start .args .n * wordsPerNode) (start .args .words .now) (start .pre .0))
-
-mul-leaf-contexts-2 : tie.Need-mul-leaf-contexts-2
-mul-leaf-contexts-2 c = search needs
 
 slice-aggregate-leaf-contexts-2 : tie.Need-slice-aggregate-leaf-contexts-2
 slice-aggregate-leaf-contexts-2 c = let start = c .before .before .before .before .before in sym (length-take-le (start .args .n * valuesPerNode) (start .args .values .now) (start .pre .1))
@@ -67,9 +67,9 @@ pub contexts-on-spec : {M : Type 1} → statement M
 contexts-on-spec =
     tie.close
     (tie.spec
-    mul-leaf-contexts
+    words-for-requires
+    values-for-requires
     slice-aggregate-leaf-contexts
-    mul-leaf-contexts-2
     slice-aggregate-leaf-contexts-2
     leaf-contexts-requires
     contexts-answer-requires
