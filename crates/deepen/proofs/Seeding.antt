@@ -22,8 +22,8 @@ use Rattle.tree.proofs.Entries.{tree-each}
 use Rattle.rows.specs.Flat.{flat}
 use Rattle.rows.proofs.Cells.{length-held}
 use Rattle.lent.specs.Lists.{storedQueue}
-use Rattle.state.specs.Grows.{jobIn}
-use Rattle.start.proofs.Accepting.{accepted-plantable}
+use Rattle.lent.specs.Grows.{jobIn}
+use Rattle.lent.proofs.Accepting.{accepted-plantable}
 use Rattle.seed.specs.Ordered.{seedIn}
 use Rattle.plant.specs.Seeded.{Seedable}
 use Rattle.plant.proofs.SeedLists.{seed-each}

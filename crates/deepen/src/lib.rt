@@ -39,7 +39,7 @@ pub fn deepen_ma_tree(
         y ≡ listsAfter (deepenedIn s (now (logs .entry)) count (x .rows) (x .nodes)) x) ⌝ }
 {
     lists::clear_u32(counts);
-    let flat_bits = start::flat_bits(props, tok, counts, logs, s, rows);
+    let flat_bits = lent::flat_bits(props, tok, counts, logs, s, rows);
     from_seed::grow_from_seed(
         props,
         tok,

@@ -44,11 +44,11 @@ use Rattle.rows.proofs.Cells.{length-held}
 use Rattle.rows.proofs.Shapes.{size-same, size-then, count-still}
 use Rattle.layout.specs.Waiting.{QueueListsOf, QueueLists, SameQueue}
 use Rattle.layout.proofs.Held.{room-fewer}
-use Rattle.state.specs.Fitting.{usesOf, Fitting}
-use Rattle.state.specs.Grows.{jobIn, Number, Grows}
+use Rattle.lent.specs.Fitting.{usesOf, Fitting}
+use Rattle.lent.specs.Grows.{jobIn, Number, Grows}
 use Rattle.grow.specs.Grown.{GrownTo}
 use Rattle.finish.specs.Finished.{cutTree, cutBits, withVacated, Cut, Grew, FinishedTo}
-use Rattle.state.proofs.Numbers.{nought-number, evaluated-number, job-fits}
+use Rattle.lent.proofs.Numbers.{nought-number, evaluated-number, job-fits}
 use Rattle.leaf.proofs.Making.{residuals-given, uses-still}
 
 -- ---- pruning, or not

@@ -21,8 +21,8 @@ use Rattle.layout.specs.Tree.{NodeLists, holding, HasRoom}
 use Rattle.lent.specs.declared.Finished.{Finished}
 use Rattle.lent.specs.Lists.{nodesAfter}
 use Rattle.rows.specs.Flat.{Flat, flat, heldIn, rowCount, SameSize}
-use Rattle.state.specs.Fitting.{usesOf}
-use Rattle.state.specs.Grows.{Number}
+use Rattle.lent.specs.Fitting.{usesOf}
+use Rattle.lent.specs.Grows.{Number}
 use Rattle.grow.specs.Grown.{GrownTo}
 
 -- pruned, if the price is above 0: the tree and its bits

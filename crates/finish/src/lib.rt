@@ -17,7 +17,7 @@ ghost use Rattle.lent.specs.Lists.{clearQueue};
 ghost use Rattle.rows.specs.Flat.{flat, Changed};
 ghost use Rattle.prune.specs.Held.{HoldsTree, Prunable};
 ghost use Rattle.settle.specs.Leaves.{HoldsLeaves, Settleable};
-ghost use Rattle.state.specs.Grows.{jobIn, Grows, Growable};
+ghost use Rattle.lent.specs.Grows.{jobIn, Grows, Growable};
 ghost use Rattle.finish.specs.Finished.{Cut, Grew, Finishable, FinishedTo};
 use checks::Settings;
 use layout::Tree;

@@ -38,11 +38,11 @@ use Rattle.rows.specs.Cells.{span}
 use Rattle.rows.specs.Flat.{Flat, heldIn, rowCount, Spanned}
 use Rattle.rows.proofs.Cells.{length-held}
 use Rattle.rows.proofs.Shapes.{count-still}
-use Rattle.state.specs.Fitting.{usesOf, Fitting, LeafFits}
+use Rattle.lent.specs.Fitting.{usesOf, Fitting, LeafFits}
 use Rattle.leaf.specs.Made.{MadeLeaf}
-use Rattle.state.proofs.Numbers.{nought-number, evaluated-number}
-use Rattle.state.specs.Grows.{jobIn, Number, Grows}
-use Rattle.start.specs.Starts.{Plantable}
+use Rattle.lent.proofs.Numbers.{nought-number, evaluated-number}
+use Rattle.lent.specs.Grows.{jobIn, Number, Grows}
+use Rattle.lent.specs.Starts.{Plantable}
 use Rattle.leaf.proofs.Making.{uses-still, made-fitting}
 
 -- nothing waits yet

@@ -5,7 +5,7 @@ use Rattle.model.specs.Single.{singles}
 use Rattle.model.specs.Learn.{Result, learned}
 use Rattle.checks.specs.declared.Settings.{Settings}
 use Rattle.rows.specs.Flat.{Flat, heldIn}
-use Rattle.state.specs.Grows.{jobIn}
+use Rattle.lent.specs.Grows.{jobIn}
 
 -- what learning makes of the rows
 abbrev pub resultIn : Settings → List Float → Flat → Result singles

@@ -21,7 +21,7 @@ use Rattle.leaf.proofs.Making.{uses-still}
 use Rattle.finish.specs.Finished.{FinishedTo}
 use Rattle.finish.proofs.Finishing.{finished-from, flat-is}
 use Rattle.lent.specs.declared.Finished.{Finished}
-use Rattle.state.specs.Grows.{jobIn, Grows, Growable}
+use Rattle.lent.specs.Grows.{jobIn, Grows, Growable}
 use Rattle.seed.specs.Ordered.{seedIn}
 use Rattle.plant.specs.Seeded.{Seeded, splitsOf}
 use Rattle.from_seed.specs.Result.{deepenedIn}

@@ -8,7 +8,7 @@ use Rattle.model.specs.Deepen.{deepened}
 use Rattle.checks.specs.declared.Settings.{Settings}
 use Rattle.layout.specs.Tree.{NodeLists}
 use Rattle.rows.specs.Flat.{Flat, heldIn}
-use Rattle.state.specs.Grows.{jobIn}
+use Rattle.lent.specs.Grows.{jobIn}
 use Rattle.seed.specs.Ordered.{seedIn}
 
 -- what deepening makes of the seed, the first `count` nodes, and the rows

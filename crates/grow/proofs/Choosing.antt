@@ -28,7 +28,7 @@ use Rattle.rows.specs.Cells.{span}
 use Rattle.rows.specs.Flat.{Flat, rowCount}
 use Rattle.rows.proofs.Cells.{length-held}
 use Rattle.grow.specs.Parts.{RowsFit}
-use Rattle.state.specs.Grows.{jobIn, Number, Grows}
+use Rattle.lent.specs.Grows.{jobIn, Number, Grows}
 use Rattle.layout.specs.declared.Pending.{Pending}
 
 -- the rows of the state are those that the lists hold

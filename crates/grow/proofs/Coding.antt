@@ -22,7 +22,7 @@ use Rattle.layout.specs.Waiting.{QueueLists, Queued, SameQueue, queueOf, withou
 use Rattle.rows.specs.Cells.{span}
 use Rattle.rows.specs.Flat.{Flat}
 use Rattle.grow.specs.Parts.{RowsSplit, splitNodes}
-use Rattle.state.specs.Grows.{jobIn, Number, Grows}
+use Rattle.lent.specs.Grows.{jobIn, Number, Grows}
 use Rattle.layout.specs.declared.Pending.{Pending}
 use Rattle.grow.specs.declared.Sides.{Sides}
 use Rattle.grow.proofs.Choosing as choosing

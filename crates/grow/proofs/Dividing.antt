@@ -22,7 +22,7 @@ use Rattle.rows.proofs.Cells.{length-held}
 use Rattle.rows.proofs.Shapes.{size-then, count-still, shaped-still}
 use Rattle.rows.proofs.Sides.{sides-fill, gt-spanned, le-spanned}
 use Rattle.node.specs.Evaluated.{Evaluated}
-use Rattle.state.specs.Fitting.{usesOf, LeafFits}
+use Rattle.lent.specs.Fitting.{usesOf, LeafFits}
 use Rattle.leaf.specs.Made.{settledAt, MadeLeaf}
 use Rattle.grow.specs.Parts.{divided, RowsFit, RowsSplit}
 use Rattle.leaf.proofs.Making.{uses-still, made-fitting}

@@ -25,9 +25,9 @@ use Rattle.layout.proofs.Held.{SameLengths}
 use Rattle.layout.proofs.Queue.{choice-is, choice-none, same-queue}
 use Rattle.rows.specs.Flat.{Flat, SameSize}
 use Rattle.rows.proofs.Shapes.{size-same, size-then}
-use Rattle.state.specs.Fitting.{Fitting}
+use Rattle.lent.specs.Fitting.{Fitting}
 use Rattle.leaf.proofs.Making.{uses-still}
-use Rattle.state.specs.Grows.{jobIn, Grows, Growable}
+use Rattle.lent.specs.Grows.{jobIn, Grows, Growable}
 use Rattle.grow.specs.Grown.{Splits, GrownTo}
 
 -- ---- the loop's test

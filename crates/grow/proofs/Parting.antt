@@ -18,7 +18,7 @@ use Rattle.rows.specs.Flat.{Flat, heldIn, rowCount}
 use Rattle.rows.specs.Parted.{Partitioned, parted}
 use Rattle.rows.proofs.Cells.{length-held, tok-held}
 use Rattle.rows.proofs.Shapes.{shaped-still}
-use Rattle.state.specs.Fitting.{Fitting}
+use Rattle.lent.specs.Fitting.{Fitting}
 use Rattle.leaf.proofs.Making.{fitting-still}
 
 -- ---- whatever holds of each row holds of each row of either part

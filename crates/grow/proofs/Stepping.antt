@@ -39,12 +39,12 @@ use Rattle.layout.proofs.Held.{room-fewer, SameCells, put-same, put-more, put-s
 use Rattle.layout.proofs.Queue.{StandsIn, queue-split, fewer-room, same-room}
 use Rattle.rows.specs.Flat.{Flat, heldIn, rowCount}
 use Rattle.rows.proofs.Shapes.{count-still}
-use Rattle.state.specs.Fitting.{usesOf}
+use Rattle.lent.specs.Fitting.{usesOf}
 use Rattle.leaf.proofs.Making.{uses-still}
 use Rattle.grow.specs.Parts.{gtOf, leOf, divided, RowsSplit, splitNodes}
-use Rattle.state.specs.Grows.{jobIn, Number, Grows}
+use Rattle.lent.specs.Grows.{jobIn, Number, Grows}
 use Rattle.grow.specs.declared.Sides.{Sides}
-use Rattle.state.proofs.Numbers.{growth-number, evaluated-within, evaluated-number, job-fits, offered-shallow}
+use Rattle.lent.proofs.Numbers.{growth-number, evaluated-within, evaluated-number, job-fits, offered-shallow}
 use Rattle.grow.proofs.Choosing as choosing
 
 -- a leaf that the code made holds the cells of the model's

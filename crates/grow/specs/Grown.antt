@@ -11,8 +11,8 @@ use Rattle.layout.specs.declared.Tree.{Tree}
 use Rattle.layout.specs.Tree.{NodeLists, holding}
 use Rattle.layout.specs.Waiting.{QueueLists, firstBest}
 use Rattle.rows.specs.Flat.{Flat, heldIn, SameSize}
-use Rattle.state.specs.Fitting.{Fitting}
-use Rattle.state.specs.Grows.{Growable}
+use Rattle.lent.specs.Fitting.{Fitting}
+use Rattle.lent.specs.Grows.{Growable}
 
 -- place k of the queue has the greatest gain, and there is one more split to make
 pub record Splits (s : Settings) (logs : List Float) (counts : List ℕ) (x : Flat) (lists : NodeLists) (q : QueueLists)

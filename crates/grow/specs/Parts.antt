@@ -16,7 +16,7 @@ use Rattle.layout.specs.Tree.{NodeLists, put, leafWith, putSplit}
 use Rattle.rows.specs.Flat.{Flat, heldIn, Changed}
 use Rattle.rows.specs.Parted.{Divisible}
 use Rattle.node.specs.Evaluated.{Evaluated}
-use Rattle.state.specs.Fitting.{usesOf, Fitting}
+use Rattle.lent.specs.Fitting.{usesOf, Fitting}
 use Rattle.grow.specs.declared.Sides.{Sides}
 
 -- ---- the rows

@@ -16,7 +16,7 @@ ghost use Rattle.layout.specs.Waiting.{queueNow, Queued, QueueRoom, SameQueue, 
 ghost use Rattle.rows.specs.Cells.{span};
 ghost use Rattle.rows.specs.Flat.{flat};
 ghost use Rattle.grow.specs.Parts.{RowsFit, RowsSplit, splitNodes};
-ghost use Rattle.state.specs.Grows.{jobIn, Number, Grows, Growable};
+ghost use Rattle.lent.specs.Grows.{jobIn, Number, Grows, Growable};
 ghost use Rattle.grow.specs.Grown.{Splits, GrownTo};
 use checks::Settings;
 use layout::Leaf;

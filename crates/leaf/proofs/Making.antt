@@ -32,7 +32,7 @@ use Rattle.model.proofs.Settled.{put-same}
 use Rattle.rows.proofs.Cells.{length-held}
 use Rattle.rows.proofs.Shapes.{shaped-still, count-still, residuals-still}
 use Rattle.node.specs.Evaluated.{Evaluated, Evaluable}
-use Rattle.state.specs.Fitting.{usesOf, Fitting}
+use Rattle.lent.specs.Fitting.{usesOf, Fitting}
 use Rattle.leaf.specs.Made.{settledAt, MadeLeaf}
 
 pub residuals-given : (modal : Bool) (l : List ℤ) → (modal && not (isEmpty l)) ≡ true → 0 < length l

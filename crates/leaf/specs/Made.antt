@@ -11,7 +11,7 @@ use Rattle.checks.specs.declared.Settings.{Settings}
 use Rattle.layout.specs.declared.Leaf.{Leaf}
 use Rattle.rows.specs.Flat.{Flat, heldIn, Changed}
 use Rattle.node.specs.Evaluated.{Evaluated}
-use Rattle.state.specs.Fitting.{usesOf}
+use Rattle.lent.specs.Fitting.{usesOf}
 
 -- the rows of the span with their own mode's tokens; the rest stays
 abbrev pub settledAt : Bool → Span → List Row → List Row

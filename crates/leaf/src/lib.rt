@@ -2,7 +2,7 @@
 ghost use mathlib.Core.Path.{_≡_};
 ghost use Rattle.rows.specs.Cells.{span};
 ghost use Rattle.rows.specs.Flat.{flat};
-ghost use Rattle.state.specs.Fitting.{LeafFits};
+ghost use Rattle.lent.specs.Fitting.{LeafFits};
 ghost use Rattle.leaf.specs.Made.{MadeLeaf};
 use checks::Settings;
 use layout::Leaf;

@@ -5,7 +5,7 @@ use lib.ListN.{length, replicate}
 use lib.Ieee.{Float}
 use Rattle.checks.specs.declared.Settings.{Settings}
 use Rattle.lent.specs.Lists.{Lists}
-use Rattle.start.specs.Starts.{Plantable}
+use Rattle.lent.specs.Starts.{Plantable}
 
 -- once the count space is cleared, a tree can be grown from the root over so many rows
 pub record Learnable (s : Settings) (logs : List Float) (x : Lists) (rows : ℕ) : Type 0 where

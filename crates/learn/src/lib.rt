@@ -38,7 +38,7 @@ pub fn learn_ma_tree_in_place(
         y ≡ listsAfter (resultIn s (now (logs .entry)) (x .rows)) x) ⌝ }
 {
     lists::clear_u32(counts);
-    let flat_bits = start::flat_bits(props, tok, counts, logs, s, rows);
+    let flat_bits = lent::flat_bits(props, tok, counts, logs, s, rows);
     from_root::grow_from_root(
         props,
         tok,

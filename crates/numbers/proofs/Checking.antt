@@ -37,9 +37,9 @@ use Rattle.lent.specs.Answer.{LearnedAs, answerOf}
 use Rattle.lent.specs.declared.Finished.{Finished}
 use Rattle.from_root.specs.Result.{resultIn}
 use Rattle.from_seed.specs.Result.{deepenedIn}
-use Rattle.start.proofs.Accepting.{accepted-plantable}
+use Rattle.lent.proofs.Accepting.{accepted-plantable}
 use Rattle.seed.specs.Ordered.{seedIn}
-use Rattle.state.specs.Grows.{jobIn}
+use Rattle.lent.specs.Grows.{jobIn}
 use Rattle.rows.specs.Flat.{Flat, heldIn}
 use Rattle.layout.specs.Waiting.{QueueLists}
 use Rattle.learn.specs.Learns.{Learnable}

@@ -43,8 +43,8 @@ use Rattle.rows.specs.Flat.{Flat, heldIn, rowCount, Spanned}
 use Rattle.rows.proofs.Cells.{span-length}
 use Rattle.rows.proofs.Shapes.{size-same}
 use Rattle.layout.specs.Kept.{infoAt, keptNode}
-use Rattle.state.proofs.Numbers.{evaluated-number}
-use Rattle.state.specs.Fitting.{usesOf, Fitting}
+use Rattle.lent.proofs.Numbers.{evaluated-number}
+use Rattle.lent.specs.Fitting.{usesOf, Fitting}
 use Rattle.leaf.specs.Made.{settledAt, MadeLeaf}
 use Rattle.plant.specs.Sown.{Sown, LeafPlanted, NextIs, NodePlanted}
 use Rattle.leaf.proofs.Making.{uses-still, made-fitting}

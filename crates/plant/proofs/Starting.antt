@@ -51,12 +51,12 @@ use Rattle.rows.specs.Cells.{span}
 use Rattle.rows.specs.Flat.{Flat, heldIn, rowCount, SameSize}
 use Rattle.rows.proofs.Cells.{length-held, tok-held}
 use Rattle.rows.proofs.Shapes.{size-then, count-still}
-use Rattle.state.proofs.Numbers.{evaluated-number}
-use Rattle.state.specs.Fitting.{usesOf, Fitting}
-use Rattle.state.specs.Grows.{jobIn, Number, Grows}
+use Rattle.lent.proofs.Numbers.{evaluated-number}
+use Rattle.lent.specs.Fitting.{usesOf, Fitting}
+use Rattle.lent.specs.Grows.{jobIn, Number, Grows}
 use Rattle.seed.specs.Ordered.{seedIn, numbersIn, Orderable, OrderedBy}
 use Rattle.seed.proofs.Same as unseen
-use Rattle.plant.specs.Sown.{seededTo, Plants, Plantable, PlantedTo}
+use Rattle.plant.specs.Sown.{seededTo, Plants, Sowable, PlantedTo}
 use Rattle.plant.specs.Seeded.{splitsOf, Seedable, Seeded}
 use Rattle.leaf.proofs.Making.{uses-still, fitting-still}
 use Rattle.plant.proofs.SeedLists.{seed-length, nodes-length, nodes-in, sound-tree, seed-few}
@@ -243,8 +243,8 @@ module _ {s : Settings} {logs : List Float} {counts : List ℕ} {x : Flat} {n : 
           room-queue (omega (arith, leaves-are, told)) (same-itself q) (c .queue-room);
     }
 
-    pub plantable : Plantable s logs counts1 y n1 q count scored
-    plantable = record { given = heldIn x; plants = plants }
+    pub sowable : Sowable s logs counts1 y n1 q count scored
+    sowable = record { given = heldIn x; plants = plants }
 
     -- ---- all nodes are planted
     module _ {counts2 : List ℕ} {z : Flat} {n2 : NodeLists} {q2 : QueueLists} {r : Tree}

@@ -41,7 +41,7 @@ use Rattle.rows.proofs.Shapes.{size-same, size-then, count-still}
 use Rattle.tree.specs.Trees.{OfTree, SoundTree}
 use Rattle.layout.specs.Kept.{infoAt}
 use Rattle.tree.proofs.Entries.{nodes-each}
-use Rattle.state.specs.Fitting.{usesOf}
+use Rattle.lent.specs.Fitting.{usesOf}
 use Rattle.seed.specs.Ordered.{seedIn}
 use Rattle.plant.specs.Sown.{seededTo, Sown, NodeFits, NextIs, NodePlanted, Plants, PlantedTo}
 use Rattle.plant.proofs.SeedLists.{seed-length, nodes-in, nodes-length, record-in, node-in, sound-tree, seed-few}

@@ -16,8 +16,8 @@ use Rattle.layout.specs.declared.Tree.{Tree}
 use Rattle.layout.specs.Tree.{NodeLists, HasRoom}
 use Rattle.layout.specs.Waiting.{QueueLists, QueueRoom, SameQueue}
 use Rattle.rows.specs.Flat.{Flat, heldIn, rowCount, SameSize}
-use Rattle.state.specs.Fitting.{Fitting}
-use Rattle.state.specs.Grows.{jobIn, Grows}
+use Rattle.lent.specs.Fitting.{Fitting}
+use Rattle.lent.specs.Grows.{jobIn, Grows}
 use Rattle.seed.specs.Ordered.{seedIn}
 
 -- what the checks of deepening ensure: 1 to 7, the rooms of a seed of `count` nodes, and a sound seed

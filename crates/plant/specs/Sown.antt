@@ -33,7 +33,7 @@ use Rattle.order.specs.Leaves.{leafNumbers}
 use Rattle.rows.specs.Cells.{span}
 use Rattle.rows.specs.Flat.{Flat, heldIn, rowCount, Spanned, SameSize}
 use Rattle.layout.specs.Kept.{infoAt}
-use Rattle.state.specs.Fitting.{usesOf, Fitting}
+use Rattle.lent.specs.Fitting.{usesOf, Fitting}
 use Rattle.leaf.specs.Made.{MadeLeaf}
 use Rattle.seed.specs.Ordered.{seedIn}
 
@@ -127,7 +127,7 @@ pub record Plants (s : Settings) (logs : List Float) (counts : List ℕ) (x : Fl
   pub queue-room : scored ≡ true → QueueRoom (leafCount (nodesOf (seedIn count n))) q
 
 -- there are such rows
-pub record Plantable (s : Settings) (logs : List Float) (counts : List ℕ) (x : Flat) (n : NodeLists) (q : QueueLists) (count : ℕ) (scored : Bool) : Type 0 where
+pub record Sowable (s : Settings) (logs : List Float) (counts : List ℕ) (x : Flat) (n : NodeLists) (q : QueueLists) (count : ℕ) (scored : Bool) : Type 0 where
   pub given : List Row
   pub plants : Plants s logs counts x n q count scored given
 

@@ -6,7 +6,7 @@ ghost use Rattle.model.specs.Rows.{Row};
 ghost use Rattle.layout.specs.Tree.{nodesNow};
 ghost use Rattle.layout.specs.Waiting.{queueNow};
 ghost use Rattle.rows.specs.Flat.{flat};
-ghost use Rattle.plant.specs.Sown.{LeafReady, LeafPlanted, NodeFits, NodePlanted, Plants, Plantable, PlantedTo};
+ghost use Rattle.plant.specs.Sown.{LeafReady, LeafPlanted, NodeFits, NodePlanted, Plants, Sowable, PlantedTo};
 ghost use Rattle.plant.specs.Seeded.{Seedable, Seeded};
 use checks::Settings;
 use layout::Tree;
@@ -155,7 +155,7 @@ fn plant_nodes(
     count: usize,
     score_split: bool,
 ) -> Tree
-    requires { ⌜ Plantable s (now logs) (now counts) (flat (now props) (now tok) (now res))
+    requires { ⌜ Sowable s (now logs) (now counts) (flat (now props) (now tok) (now res))
         (nodesNow words values costs) (queueNow «queue_words» «queue_values» «queue_gains») count «score_split» ⌝ }
     ensures { λ r. ⌜ ((given : List Row)
         → Plants s (now (logs .entry)) (now (counts .entry))

@@ -7,7 +7,7 @@ use Rattle.layout.specs.Tree.{nodeLists}
 use Rattle.layout.specs.Waiting.{queueLists}
 use Rattle.rows.specs.Flat.{flat}
 use Rattle.lent.specs.Lists.{Lists, lists}
-use Rattle.start.proofs.Flatly.{flattened-from}
+use Rattle.lent.proofs.Flatly.{flattened-from}
 use Rattle.finish.proofs.Made.{made-lists, learned-as}
 use Rattle.plant.specs.Seeded.{Seedable}
 use Rattle.from_seed.specs.Result.{deepenedIn}

@@ -10,7 +10,7 @@ use Rattle.layout.specs.Tree.{NodeLists, nodeLists}
 use Rattle.rows.specs.Flat.{flat, Changed}
 use Rattle.settle.proofs.Settling.{settleable}
 use Rattle.settle.specs.Leaves.{HoldsLeaves}
-use Rattle.state.specs.Fitting.{usesOf}
+use Rattle.lent.specs.Fitting.{usesOf}
 use Rattle.finish.specs.Finished.{cutTree, Cut}
 use Rattle.checks.proofs.Ranges.{given}
 use Rattle.finish.proofs.Finishing.{grew-holds, grew-prunable, clear-counts, cut-leaves, behind, finished-lists}

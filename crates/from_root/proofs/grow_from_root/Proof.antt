@@ -8,7 +8,7 @@ use Rattle.model.specs.Learn.{rootState, learned}
 use Rattle.model.specs.Kept.{noSeeds}
 use Rattle.layout.specs.Tree.{nodeLists}
 use Rattle.rows.specs.Flat.{flat, heldIn}
-use Rattle.state.specs.Grows.{jobIn}
+use Rattle.lent.specs.Grows.{jobIn}
 use Rattle.finish.proofs.Finishing.{finished-from, flat-is, clear-same}
 use Rattle.from_root.proofs.grow_from_root.Statement.{statement}
 use Rattle.from_root.proofs.grow_from_root.Tie as tie

@@ -9,7 +9,7 @@ use Rattle.layout.specs.Waiting.{QueueLists, queueLists}
 use Rattle.layout.proofs.Held.{room-fewer}
 use Rattle.layout.proofs.Queue.{fewer-room}
 use Rattle.rows.specs.Flat.{Flat, flat, heldIn}
-use Rattle.state.specs.Grows.{jobIn, Grows}
+use Rattle.lent.specs.Grows.{jobIn, Grows}
 use Rattle.from_root.proofs.Planting.{none-queued, root-fits, root-number, planted}
 use Rattle.from_root.proofs.plant_root.Statement.{statement}
 use Rattle.from_root.proofs.plant_root.Tie as tie

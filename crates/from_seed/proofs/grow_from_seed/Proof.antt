@@ -5,7 +5,7 @@ use borrow.Author.Needs.{needs}
 use Rattle.model.specs.Deepen.{seedState}
 use Rattle.layout.specs.Tree.{nodeLists}
 use Rattle.rows.specs.Flat.{flat, heldIn}
-use Rattle.state.specs.Grows.{jobIn}
+use Rattle.lent.specs.Grows.{jobIn}
 use Rattle.finish.proofs.Finishing.{clear-same}
 use Rattle.seed.specs.Ordered.{seedIn}
 use Rattle.plant.specs.Seeded.{splitsOf}

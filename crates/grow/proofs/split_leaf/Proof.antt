@@ -13,7 +13,7 @@ use Rattle.layout.specs.Waiting.{QueueLists, queueLists}
 use Rattle.rows.specs.Cells.{span}
 use Rattle.rows.specs.Flat.{Flat, flat}
 use Rattle.grow.specs.Parts.{RowsSplit, splitNodes}
-use Rattle.state.specs.Grows.{Grows, Growable}
+use Rattle.lent.specs.Grows.{Grows, Growable}
 use Rattle.layout.specs.declared.Pending.{Pending}
 use Rattle.layout.specs.declared.Span.{Span}
 use Rattle.grow.proofs.Choosing as choosing

@@ -9,7 +9,7 @@ use mir.ValLaws.{toZ-ofZ}
 use Rattle.rows.specs.Cells.{span}
 use Rattle.rows.specs.Flat.{Flat, flat}
 use Rattle.rows.specs.Parted.{Partitioned}
-use Rattle.state.specs.Fitting.{LeafFits}
+use Rattle.lent.specs.Fitting.{LeafFits}
 use Rattle.grow.proofs.Dividing.{gt-fits, le-fits, rows-split}
 use borrow.Author.Needs.{needs}
 use Rattle.grow.proofs.split_rows.Statement.{statement}

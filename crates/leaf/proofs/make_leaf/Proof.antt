@@ -13,7 +13,7 @@ use Rattle.model.specs.Mode.{spanMode}
 use Rattle.model.specs.Rows.{within}
 use Rattle.mode.specs.Column.{stepMode}
 use Rattle.checks.proofs.Ranges.{given}
-use Rattle.state.specs.Fitting.{usesOf}
+use Rattle.lent.specs.Fitting.{usesOf}
 use Rattle.leaf.proofs.Making.{steppable, mode-stepped, Stepped, after-step, evaluable, made}
 use Rattle.leaf.proofs.make_leaf.Statement.{statement}
 use Rattle.leaf.proofs.make_leaf.Tie as tie

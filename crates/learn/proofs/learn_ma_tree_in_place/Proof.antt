@@ -7,9 +7,9 @@ use Rattle.layout.specs.Tree.{nodeLists}
 use Rattle.layout.specs.Waiting.{queueLists}
 use Rattle.rows.specs.Flat.{flat}
 use Rattle.lent.specs.Lists.{Lists, lists}
-use Rattle.start.proofs.Flatly.{flattened-from}
+use Rattle.lent.proofs.Flatly.{flattened-from}
 use Rattle.finish.proofs.Made.{made-lists, learned-as}
-use Rattle.start.specs.Starts.{Plantable}
+use Rattle.lent.specs.Starts.{Plantable}
 use Rattle.from_root.specs.Result.{resultIn}
 use Rattle.learn.proofs.learn_ma_tree_in_place.Statement.{statement}
 use Rattle.learn.proofs.learn_ma_tree_in_place.Tie as tie

@@ -1,7 +1,7 @@
 -- `plant::plant_seed` meets its contract: the rows ordered by leaf, and then the nodes planted. Assumes nothing.
 use mathlib.Core.Path.{_∙_}
 use Rattle.model.specs.Rows.{rowsHeld}
-use Rattle.plant.proofs.Starting.{orderable, seed-fits, plantable, plants, seeded, seeded-zeros}
+use Rattle.plant.proofs.Starting.{orderable, seed-fits, sowable, plants, seeded, seeded-zeros}
 use borrow.Author.Needs.{needs}
 use Rattle.plant.proofs.plant_seed.Statement.{statement}
 use Rattle.plant.proofs.plant_seed.Tie as tie
@@ -31,7 +31,7 @@ order-by-leaf-requires c κs =
 plant-nodes-requires : tie.Need-plant-nodes-requires
 plant-nodes-requires c κs =
     let ordered = ordering c .order-by-leaf .ensures in
-    plantable (entry (ordering c) .pre) (ordered .1) (ordered .0) (counting (ordering c) .leaves-of .ensures)
+    sowable (entry (ordering c) .pre) (ordered .1) (ordered .0) (counting (ordering c) .leaves-of .ensures)
 
 abbrev after-order-by-leaf : tie.After-slice-known15 → tie.After-order-by-leaf
 after-order-by-leaf c = c .before .before .before .before .before .before .before .before .before .before .before .before .before .before .before .before .before .before .before .before .before .before .before .before .before .before .before .before .before .before .before .before .before

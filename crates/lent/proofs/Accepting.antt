@@ -24,9 +24,9 @@ use Rattle.layout.specs.Tree.{NodeLists, HasRoom}
 use Rattle.layout.specs.Waiting.{QueueLists, QueueRoom}
 use Rattle.layout.proofs.Held.{room-fewer}
 use Rattle.rows.specs.Flat.{Flat, flat, rowCount}
 use Rattle.lent.specs.Lists.{storedQueue, waitingAt, leavesLent}
-use Rattle.state.specs.Fitting.{usesOf, Fitting}
-use Rattle.start.specs.Starts.{Plantable}
+use Rattle.lent.specs.Fitting.{usesOf, Fitting}
+use Rattle.lent.specs.Starts.{Plantable}
 
 module _ {s : Settings} {logs : List Float} (x : Lent singles) {rows : ℕ} (a : Accepted s logs x rows) where
   -- the rows, and the count space once it is cleared

@@ -21,7 +21,7 @@ use Rattle.layout.specs.declared.Tree.{Tree}
 use Rattle.layout.specs.Tree.{NodeLists, holding, HasRoom}
 use Rattle.layout.specs.Waiting.{QueueLists, Queued, QueueRoom, queueOf}
 use Rattle.rows.specs.Flat.{Flat, heldIn, rowCount}
-use Rattle.state.specs.Fitting.{usesOf, Fitting}
+use Rattle.lent.specs.Fitting.{usesOf, Fitting}
 
 -- the job of these settings, logarithms and rows
 abbrev pub jobIn : Settings → List Float → Flat → Job singles

@@ -29,8 +29,8 @@ use Rattle.cost.proofs.Bounded.{log-within}
 use Rattle.checks.specs.Given.{settingsOf}
 use Rattle.checks.specs.declared.Settings.{Settings}
 use Rattle.rows.specs.Flat.{Flat, rowCount}
-use Rattle.state.specs.Fitting.{Fitting}
-use Rattle.state.specs.Grows.{Number}
+use Rattle.lent.specs.Fitting.{Fitting}
+use Rattle.lent.specs.Grows.{Number}
 
 -- ---- a finite number less a number is a number
 odd-number : (d : ℕ) (s : Bool) (q k l : ℕ) → Number (odd d s q k l)

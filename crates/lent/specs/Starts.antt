@@ -9,8 +9,8 @@ use Rattle.checks.specs.declared.Settings.{Settings}
 use Rattle.layout.specs.Tree.{NodeLists, HasRoom}
 use Rattle.layout.specs.Waiting.{QueueLists, QueueRoom}
 use Rattle.rows.specs.Flat.{Flat, flat, rowCount}
-use Rattle.state.specs.Fitting.{Fitting}
-use Rattle.state.specs.Grows.{jobIn}
+use Rattle.lent.specs.Fitting.{Fitting}
+use Rattle.lent.specs.Grows.{jobIn}
 
 -- the lists have room for a tree of so many leaves
 pub record Plantable (s : Settings) (logs : List Float) (counts : List ℕ) (x : Flat) (n : NodeLists) (q : QueueLists) (rows : ℕ) : Type 0 where

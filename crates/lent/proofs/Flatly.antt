@@ -13,8 +13,8 @@ use Rattle.cost.specs.Predictors.{Uses}
 use Rattle.cost.proofs.Bridge.{usable-is}
 use Rattle.flat.specs.Flat.{FlatFits}
 use Rattle.rows.specs.Flat.{Flat, rowCount}
-use Rattle.state.specs.Fitting.{Fitting}
-use Rattle.start.specs.Starts.{Flattened}
+use Rattle.lent.specs.Fitting.{Fitting}
+use Rattle.lent.specs.Starts.{Flattened}
 
 take-zeros : (n m : ℕ) → n ≤ m → take {A = ℕ} n (replicate m 0) ≡ replicate n 0
 take-zeros zero m h = refl

@@ -1,4 +1,4 @@
--- `start::flat_bits` meets its contract. Assumes nothing.
+-- `lent::flat_bits` meets its contract. Assumes nothing.
 use mathlib.Core.Path.{sym, ap, _∙_}
 use Prim.Native.Nat.{ℕ, _*_}
 use borrow.Author.Needs.{needs}
@@ -6,9 +6,9 @@ use lib.Seq.{length-take-le}
 use Rattle.model.specs.Flat.{flatBits}
 use Rattle.model.specs.Rows.{rowsOf}
 use Rattle.checks.specs.Given.{settingsOf}
-use Rattle.start.proofs.Flatly.{enough, flat-asked, uses-settings, counts-back}
-use Rattle.start.proofs.flat_bits.Statement.{statement}
-use Rattle.start.proofs.flat_bits.Tie as tie
+use Rattle.lent.proofs.Flatly.{enough, flat-asked, uses-settings, counts-back}
+use Rattle.lent.proofs.flat_bits.Statement.{statement}
+use Rattle.lent.proofs.flat_bits.Tie as tie
 
 cast-alphabet : tie.Need-cast-alphabet
 cast-alphabet c = search needs

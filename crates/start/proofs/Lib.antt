@@ -1,3 +1,0 @@
--- `Accepting`: what the checks ensure. `Flatly`: flat bits.
-pub mod Accepting
-pub mod Flatly

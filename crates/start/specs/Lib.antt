@@ -1,2 +1,0 @@
--- `Starts`: what the parts ask for.
-pub mod Starts
