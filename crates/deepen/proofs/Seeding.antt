@@ -12,8 +12,8 @@ use Rattle.model.specs.Single.{singles}
 use Rattle.model.specs.Tree.{faultOf}
 use Rattle.model.specs.Lent.{Lent, treeIn}
 use Rattle.model.specs.Accepting.{SeedRooms, singleSmall, JobFits}
-use Rattle.checks.specs.declared.Settings.{Settings}
-use Rattle.checks.specs.Accepted.{Accepted}
+use Rattle.refuse.specs.declared.Settings.{Settings}
+use Rattle.refuse.specs.Accepted.{Accepted}
 use Rattle.layout.specs.Layout.{storedInOf}
 use Rattle.layout.specs.Tree.{NodeListsOf, NodeLists, HasRoom}
 use Rattle.layout.specs.Waiting.{QueueLists}
@@ -24,9 +24,9 @@ use Rattle.rows.proofs.Cells.{length-held}
 use Rattle.lent.specs.Lists.{storedQueue}
 use Rattle.lent.specs.Grows.{jobIn}
 use Rattle.lent.proofs.Accepting.{accepted-plantable}
-use Rattle.seed.specs.Ordered.{seedIn}
-use Rattle.plant.specs.Seeded.{Seedable}
-use Rattle.plant.proofs.SeedLists.{seed-each}
+use Rattle.seed_rows.specs.Ordered.{seedIn}
+use Rattle.seed_leaves.specs.Seeded.{Seedable}
+use Rattle.seed_leaves.proofs.SeedLists.{seed-each}
 
 pub accepted-seedable : {s : Settings} {logs : List Float} (x : Lent singles) {rows count : ℕ} → Accepted s logs x rows → SeedRooms count x → count ≤ maxNodes
     → (n : NodeLists) (q : QueueLists) → x .queue ≡ storedQueue q → HasRoom maxNodes n → faultOf (seedIn count n) ≡ none

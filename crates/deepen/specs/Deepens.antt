@@ -3,9 +3,9 @@ use Prim.Native.Nat.{ℕ}
 use mathlib.Core.List.{List}
 use lib.ListN.{length, replicate}
 use lib.Ieee.{Float}
-use Rattle.checks.specs.declared.Settings.{Settings}
+use Rattle.refuse.specs.declared.Settings.{Settings}
 use Rattle.lent.specs.Lists.{Lists}
-use Rattle.plant.specs.Seeded.{Seedable}
+use Rattle.seed_leaves.specs.Seeded.{Seedable}
 
 -- once the count space is cleared, a tree can be grown from the first `count` nodes over so many rows
 pub record Deepenable (s : Settings) (logs : List Float) (x : Lists) (rows count : ℕ) : Type 0 where

@@ -5,8 +5,8 @@ ghost use Rattle.lent.specs.Lists.{listsNow, listsAfter};
 ghost use Rattle.lent.specs.Answer.{LearnedAs};
 ghost use Rattle.from_seed.specs.Result.{deepenedIn};
 ghost use Rattle.deepen.specs.Deepens.{Deepenable};
-use checks::Settings;
 use lent::Finished;
+use refuse::Settings;
 
 // Deepens the tree of the first `count` nodes.
 pub fn deepen_ma_tree(

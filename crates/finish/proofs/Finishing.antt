@@ -29,8 +29,8 @@ use Rattle.model.proofs.Steps.{steps-keep}
 use Rattle.model.proofs.SingleLawful.{single-lawful}
 use Rattle.model.proofs.Sound.{Rooted}
 use Rattle.model.proofs.Tally.{tree-count}
-use Rattle.checks.specs.Given.{settingsOf}
-use Rattle.checks.specs.declared.Settings.{Settings}
+use Rattle.refuse.specs.Given.{settingsOf}
+use Rattle.refuse.specs.declared.Settings.{Settings}
 use Rattle.layout.specs.declared.Tree.{Tree}
 use Rattle.layout.specs.Tree.{laid, entryWords, NodeListsOf, NodeLists, holding}
 use Rattle.lent.specs.declared.Finished.{Finished}

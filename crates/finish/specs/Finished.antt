@@ -15,7 +15,7 @@ use Rattle.model.specs.Prune.{prunedTree, prunedBits}
 use Rattle.model.specs.Learn.{Result}
 use Rattle.model.specs.Accepting.{singleSmall}
 use Rattle.model.specs.Kept.{Invariant, Healthy, Sized}
-use Rattle.checks.specs.declared.Settings.{Settings}
+use Rattle.refuse.specs.declared.Settings.{Settings}
 use Rattle.layout.specs.declared.Tree.{Tree}
 use Rattle.layout.specs.Tree.{NodeLists, holding, HasRoom}
 use Rattle.lent.specs.declared.Finished.{Finished}

@@ -19,9 +19,9 @@ ghost use Rattle.prune.specs.Held.{HoldsTree, Prunable};
 ghost use Rattle.settle.specs.Leaves.{HoldsLeaves, Settleable};
 ghost use Rattle.lent.specs.Grows.{jobIn, Grows, Growable};
 ghost use Rattle.finish.specs.Finished.{Cut, Grew, Finishable, FinishedTo};
-use checks::Settings;
 use layout::Tree;
 use lent::Finished;
+use refuse::Settings;
 
 // Prunes if the price is above 0.
 fn prune_if(

@@ -26,8 +26,8 @@ use Rattle.model.proofs.Root.{root-keeps}
 use Rattle.model.proofs.Health.{root-healthy}
 use Rattle.model.proofs.Growing.{root-sized}
 use Rattle.model.proofs.SingleLawful.{single-lawful}
-use Rattle.checks.specs.Given.{settingsOf}
-use Rattle.checks.specs.declared.Settings.{Settings}
+use Rattle.refuse.specs.Given.{settingsOf}
+use Rattle.refuse.specs.declared.Settings.{Settings}
 use Rattle.layout.specs.declared.Leaf.{Leaf}
 use Rattle.layout.specs.Values.{infoIs, offerIs}
 use Rattle.layout.specs.Tree.{NodeLists, holding, HasRoom, put, leafWith}

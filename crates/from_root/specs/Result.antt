@@ -3,7 +3,7 @@ use mathlib.Core.List.{List}
 use lib.Ieee.{Float}
 use Rattle.model.specs.Single.{singles}
 use Rattle.model.specs.Learn.{Result, learned}
-use Rattle.checks.specs.declared.Settings.{Settings}
+use Rattle.refuse.specs.declared.Settings.{Settings}
 use Rattle.rows.specs.Flat.{Flat, heldIn}
 use Rattle.lent.specs.Grows.{jobIn}
 

@@ -5,7 +5,7 @@ ghost use Prim.Native.Nat.{_-_};
 ghost use Rattle.model.specs.Learn.{rootState};
 ghost use Rattle.model.specs.Flat.{flatBits};
 ghost use Rattle.model.specs.Kept.{noSeeds};
-ghost use Rattle.checks.specs.Given.{settingsOf};
+ghost use Rattle.refuse.specs.Given.{settingsOf};
 ghost use Rattle.layout.specs.Tree.{nodesNow};
 ghost use Rattle.layout.specs.Waiting.{queueNow};
 ghost use Rattle.lent.specs.Lists.{clearQueue};
@@ -14,9 +14,9 @@ ghost use Rattle.lent.specs.Grows.{jobIn, Number, Grows};
 ghost use Rattle.finish.specs.Finished.{FinishedTo};
 ghost use Rattle.lent.specs.Starts.{Plantable};
 ghost use Rattle.from_root.specs.Result.{resultIn};
-use checks::Settings;
 use layout::Tree;
 use lent::Finished;
+use refuse::Settings;
 
 // A cost as a total: each single-precision number is one of double precision.
 fn as_total(bits: f32) -> f64

@@ -5,7 +5,7 @@ use mathlib.Core.List.{List}
 use Prim.Native.Nat.{ℕ, _+_, _-_, _/_, _≤_}
 use native.Mathlib.Omega.{arith}
 use lib.Ieee.{Float}
-use Rattle.checks.specs.declared.Settings.{Settings}
+use Rattle.refuse.specs.declared.Settings.{Settings}
 use Rattle.rows.specs.Flat.{Flat, heldIn}
 use Rattle.model.specs.Settings.{maxNodes}
 use Rattle.model.specs.Profile.{single, jobOf}
@@ -13,7 +13,7 @@ use Rattle.model.specs.Tree.{nodesOf}
 use Rattle.model.specs.Grow.{steps}
 use Rattle.model.specs.Learn.{leafCount, finished}
 use Rattle.model.specs.Deepen.{seedState, deepened}
-use Rattle.checks.specs.Given.{settingsOf}
+use Rattle.refuse.specs.Given.{settingsOf}
 use Rattle.layout.specs.declared.Tree.{Tree}
 use Rattle.layout.specs.Tree.{NodeLists}
 use Rattle.layout.specs.Waiting.{QueueLists}
@@ -22,8 +22,8 @@ use Rattle.finish.specs.Finished.{FinishedTo}
 use Rattle.finish.proofs.Finishing.{finished-from, flat-is}
 use Rattle.lent.specs.declared.Finished.{Finished}
 use Rattle.lent.specs.Grows.{jobIn, Grows, Growable}
-use Rattle.seed.specs.Ordered.{seedIn}
-use Rattle.plant.specs.Seeded.{Seeded, splitsOf}
+use Rattle.seed_rows.specs.Ordered.{seedIn}
+use Rattle.seed_leaves.specs.Seeded.{Seeded, splitsOf}
 use Rattle.from_seed.specs.Result.{deepenedIn}
 
 pub seed-few : {s : Settings} {logs : List Float} {counts : List ℕ} {x y : Flat} {n n' : NodeLists} {q q' : QueueLists} {count : ℕ} {r : Tree} → Seeded s logs counts x y n n' q q' count r → r .nodes ≤ maxNodes

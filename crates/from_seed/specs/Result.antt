@@ -5,11 +5,11 @@ use lib.Ieee.{Float}
 use Rattle.model.specs.Single.{singles}
 use Rattle.model.specs.Learn.{Result}
 use Rattle.model.specs.Deepen.{deepened}
-use Rattle.checks.specs.declared.Settings.{Settings}
+use Rattle.refuse.specs.declared.Settings.{Settings}
 use Rattle.layout.specs.Tree.{NodeLists}
 use Rattle.rows.specs.Flat.{Flat, heldIn}
 use Rattle.lent.specs.Grows.{jobIn}
-use Rattle.seed.specs.Ordered.{seedIn}
+use Rattle.seed_rows.specs.Ordered.{seedIn}
 
 -- what deepening makes of the seed, the first `count` nodes, and the rows
 abbrev pub deepenedIn : Settings → List Float → ℕ → Flat → NodeLists → Result singles

@@ -4,16 +4,16 @@ ghost use mathlib.Core.Path.{_≡_};
 ghost use Prim.Native.Nat.{_+_, _-_, _/_, _≤_};
 ghost use Rattle.model.specs.Settings.{maxNodes};
 ghost use Rattle.model.specs.Flat.{flatBits};
-ghost use Rattle.checks.specs.Given.{settingsOf};
+ghost use Rattle.refuse.specs.Given.{settingsOf};
 ghost use Rattle.layout.specs.Tree.{nodesNow};
 ghost use Rattle.layout.specs.Waiting.{queueNow};
 ghost use Rattle.lent.specs.Lists.{clearQueue};
 ghost use Rattle.rows.specs.Flat.{flat, heldIn};
 ghost use Rattle.finish.specs.Finished.{FinishedTo};
-ghost use Rattle.plant.specs.Seeded.{Seedable};
+ghost use Rattle.seed_leaves.specs.Seeded.{Seedable};
 ghost use Rattle.from_seed.specs.Result.{deepenedIn};
-use checks::Settings;
 use lent::Finished;
+use refuse::Settings;
 
 // How many leaves the limit leaves room for: none where a seed of so many nodes has as many already.
 fn leaves_left(limit: usize, nodes: usize) -> usize
@@ -54,7 +54,7 @@ pub fn grow_from_seed(
     ensures queue { λ _. ⌜ queueNow («queue_words» .exit) («queue_values» .exit) («queue_gains» .exit)
         ≡ clearQueue (queueNow («queue_words» .entry) («queue_values» .entry) («queue_gains» .entry)) ⌝ }
 {
-    let planted = plant::plant_seed(
+    let planted = seed_leaves::plant_seed(
         props,
         tok,
         res,

@@ -16,7 +16,7 @@ use Rattle.model.specs.Lent.{Waiting, noWaiting}
 use Rattle.model.specs.Grow.{Entry, State, noEntry, splitAt, stepTo, step}
 use Rattle.model.specs.Kept.{Fine}
 use Rattle.model.proofs.Each.{each-getD}
-use Rattle.checks.specs.declared.Settings.{Settings}
+use Rattle.refuse.specs.declared.Settings.{Settings}
 use Rattle.layout.specs.declared.Tree.{Tree}
 use Rattle.layout.specs.Layout.{wordsPerNode, firstAt, endAt, HasWords}
 use Rattle.layout.specs.Tree.{NodeLists, HasRoom}

@@ -13,7 +13,7 @@ use Rattle.model.specs.Rows.{Row}
 use Rattle.model.specs.Single.{singles}
 use Rattle.model.specs.Lent.{Waiting, noWaiting}
 use Rattle.model.specs.Grow.{Entry, State, noEntry, grownBits, step}
-use Rattle.checks.specs.declared.Settings.{Settings}
+use Rattle.refuse.specs.declared.Settings.{Settings}
 use Rattle.layout.specs.declared.Tree.{Tree}
 use Rattle.layout.specs.Layout.{firstAt, endAt}
 use Rattle.layout.specs.Tree.{NodeLists, HasRoom}

@@ -12,8 +12,8 @@ use Rattle.model.specs.Rows.{Row, isAbove, within}
 use Rattle.model.specs.Mode.{spanMode, fresh}
 use Rattle.model.specs.Partition.{aboveRows, otherRows}
 use Rattle.model.proofs.Fresh.{spanMode-fresh, length-fresh}
-use Rattle.checks.specs.Given.{settingsOf}
-use Rattle.checks.specs.declared.Settings.{Settings}
+use Rattle.refuse.specs.Given.{settingsOf}
+use Rattle.refuse.specs.declared.Settings.{Settings}
 use Rattle.layout.specs.declared.Leaf.{Leaf}
 use Rattle.rows.specs.Cells.{span}
 use Rattle.rows.specs.Flat.{Flat, heldIn}
@@ -21,7 +21,7 @@ use Rattle.rows.specs.Parted.{Partitioned, parted}
 use Rattle.rows.proofs.Cells.{length-held}
 use Rattle.rows.proofs.Shapes.{size-then, count-still, shaped-still}
 use Rattle.rows.proofs.Sides.{sides-fill, gt-spanned, le-spanned}
-use Rattle.node.specs.Evaluated.{Evaluated}
+use Rattle.evaluate.specs.Evaluated.{Evaluated}
 use Rattle.lent.specs.Fitting.{usesOf, LeafFits}
 use Rattle.leaf.specs.Made.{settledAt, MadeLeaf}
 use Rattle.grow.specs.Parts.{divided, RowsFit, RowsSplit}

@@ -16,8 +16,8 @@ use Rattle.model.specs.Job.{Offer, Job}
 use Rattle.model.specs.Profile.{jobOf, single}
 use Rattle.model.specs.Grow.{State, stepTo, step, steps}
 use Rattle.model.proofs.Paths.{T→true}
-use Rattle.checks.specs.Given.{settingsOf}
-use Rattle.checks.specs.declared.Settings.{Settings}
+use Rattle.refuse.specs.Given.{settingsOf}
+use Rattle.refuse.specs.declared.Settings.{Settings}
 use Rattle.layout.specs.declared.Tree.{Tree}
 use Rattle.layout.specs.Tree.{NodeLists}
 use Rattle.layout.specs.Waiting.{QueueLists, SameQueue, queueOf, firstBest}

@@ -11,7 +11,7 @@ use Rattle.model.specs.Settings.{toksPerRow}
 use Rattle.model.specs.Rows.{Row, Span, tokOf, isAbove, within}
 use Rattle.model.specs.Partition.{second, lastFirst, inFront, atBack, parts, aboveRows, otherRows}
 use Rattle.model.proofs.Each.{each-getD, each-append}
-use Rattle.checks.specs.declared.Settings.{Settings}
+use Rattle.refuse.specs.declared.Settings.{Settings}
 use Rattle.model.specs.Promise.{noRow}
 use Rattle.model.specs.Lists.{Each}
 use Rattle.rows.specs.Flat.{Flat, heldIn, rowCount}

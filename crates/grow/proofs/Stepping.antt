@@ -29,8 +29,8 @@ use Rattle.model.proofs.Health.{steps-healthy}
 use Rattle.model.proofs.Invariant.{SplitOf, split-of, split-keeps, few-parted, none-is-no-some}
 use Rattle.model.proofs.Paths.{T→true}
 use Rattle.model.proofs.SingleLawful.{single-lawful}
-use Rattle.checks.specs.Given.{settingsOf}
-use Rattle.checks.specs.declared.Settings.{Settings}
+use Rattle.refuse.specs.Given.{settingsOf}
+use Rattle.refuse.specs.declared.Settings.{Settings}
 use Rattle.layout.specs.declared.Tree.{Tree}
 use Rattle.layout.specs.Tree.{NodeLists, holding, put, leafWith, putSplit}
 use Rattle.layout.specs.Values.{infoIs, offerIs}

@@ -9,13 +9,13 @@ use lib.Ieee.{Float}
 use Rattle.model.specs.Rows.{Row, Span, isAbove, within}
 use Rattle.model.specs.Mode.{spanMode, fresh}
 use Rattle.model.specs.Partition.{aboveRows, otherRows}
-use Rattle.checks.specs.Given.{settingsOf}
-use Rattle.checks.specs.declared.Settings.{Settings}
+use Rattle.refuse.specs.Given.{settingsOf}
+use Rattle.refuse.specs.declared.Settings.{Settings}
 use Rattle.layout.specs.declared.NodeInfo.{NodeInfo}
 use Rattle.layout.specs.Tree.{NodeLists, put, leafWith, putSplit}
 use Rattle.rows.specs.Flat.{Flat, heldIn, Changed}
 use Rattle.rows.specs.Parted.{Divisible}
-use Rattle.node.specs.Evaluated.{Evaluated}
+use Rattle.evaluate.specs.Evaluated.{Evaluated}
 use Rattle.lent.specs.Fitting.{usesOf, Fitting}
 use Rattle.grow.specs.declared.Sides.{Sides}
 

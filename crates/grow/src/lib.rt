@@ -18,11 +18,11 @@ ghost use Rattle.rows.specs.Flat.{flat};
 ghost use Rattle.grow.specs.Parts.{RowsFit, RowsSplit, splitNodes};
 ghost use Rattle.lent.specs.Grows.{jobIn, Number, Grows, Growable};
 ghost use Rattle.grow.specs.Grown.{Splits, GrownTo};
-use checks::Settings;
 use layout::Leaf;
 use layout::NodeInfo;
 use layout::Offer;
 use layout::Tree;
+use refuse::Settings;
 
 // ---- one split, part by part
 

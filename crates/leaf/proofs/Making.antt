@@ -17,9 +17,9 @@ use Rattle.model.specs.Rows.{Row, Span, within}
 use Rattle.model.specs.Mode.{zeroToken, spanMode}
 use Rattle.model.proofs.Tests.{and-true}
 use Rattle.model.proofs.Vacated.{getD-blank}
-use Rattle.checks.specs.Given.{settingsOf}
-use Rattle.checks.proofs.Ranges.{given}
-use Rattle.checks.specs.declared.Settings.{Settings}
+use Rattle.refuse.specs.Given.{settingsOf}
+use Rattle.refuse.proofs.Ranges.{given}
+use Rattle.refuse.specs.declared.Settings.{Settings}
 use Rattle.cost.specs.Counted.{LogsReach}
 use Rattle.cost.proofs.Bridge.{logs-fewer}
 use Rattle.layout.specs.declared.Leaf.{Leaf}
@@ -31,7 +31,7 @@ use Rattle.rows.specs.Flat.{Flat, flat, heldIn, rowCount, Spanned, SameSize, Ch
 use Rattle.model.proofs.Settled.{put-same}
 use Rattle.rows.proofs.Cells.{length-held}
 use Rattle.rows.proofs.Shapes.{shaped-still, count-still, residuals-still}
-use Rattle.node.specs.Evaluated.{Evaluated, Evaluable}
+use Rattle.evaluate.specs.Evaluated.{Evaluated, Evaluable}
 use Rattle.lent.specs.Fitting.{usesOf, Fitting}
 use Rattle.leaf.specs.Made.{settledAt, MadeLeaf}
 

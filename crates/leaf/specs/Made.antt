@@ -6,11 +6,11 @@ use lib.ListN.{length, getD, take, drop}
 use lib.Ieee.{Float}
 use Rattle.model.specs.Rows.{Row, Span, within}
 use Rattle.model.specs.Mode.{spanMode, fresh}
-use Rattle.checks.specs.Given.{settingsOf}
-use Rattle.checks.specs.declared.Settings.{Settings}
+use Rattle.refuse.specs.Given.{settingsOf}
+use Rattle.refuse.specs.declared.Settings.{Settings}
 use Rattle.layout.specs.declared.Leaf.{Leaf}
 use Rattle.rows.specs.Flat.{Flat, heldIn, Changed}
-use Rattle.node.specs.Evaluated.{Evaluated}
+use Rattle.evaluate.specs.Evaluated.{Evaluated}
 use Rattle.lent.specs.Fitting.{usesOf}
 
 -- the rows of the span with their own mode's tokens; the rest stays

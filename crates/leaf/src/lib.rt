@@ -4,8 +4,8 @@ ghost use Rattle.rows.specs.Cells.{span};
 ghost use Rattle.rows.specs.Flat.{flat};
 ghost use Rattle.lent.specs.Fitting.{LeafFits};
 ghost use Rattle.leaf.specs.Made.{MadeLeaf};
-use checks::Settings;
 use layout::Leaf;
+use refuse::Settings;
 
 // The mode step on the rows from first to end, and then their evaluation at the depth. Splits are scored only if asked
 // for: after the last split nothing reads them.
@@ -29,7 +29,7 @@ pub fn make_leaf(
 {
     let uses = s.modal_offsets & (0 < res.len());
     let offset = mode::mode_step(uses, tok, res, first, end, counts);
-    node::evaluate_rows(
+    evaluate::evaluate_rows(
         props,
         tok,
         counts,

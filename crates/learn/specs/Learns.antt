@@ -3,7 +3,7 @@ use Prim.Native.Nat.{ℕ}
 use mathlib.Core.List.{List}
 use lib.ListN.{length, replicate}
 use lib.Ieee.{Float}
-use Rattle.checks.specs.declared.Settings.{Settings}
+use Rattle.refuse.specs.declared.Settings.{Settings}
 use Rattle.lent.specs.Lists.{Lists}
 use Rattle.lent.specs.Starts.{Plantable}
 

@@ -5,8 +5,8 @@ ghost use Rattle.lent.specs.Lists.{listsNow, listsAfter};
 ghost use Rattle.lent.specs.Answer.{LearnedAs};
 ghost use Rattle.from_root.specs.Result.{resultIn};
 ghost use Rattle.learn.specs.Learns.{Learnable};
-use checks::Settings;
 use lent::Finished;
+use refuse::Settings;
 
 // Learns a tree from the rows.
 pub fn learn_ma_tree_in_place(

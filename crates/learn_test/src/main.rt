@@ -4,13 +4,13 @@
 ghost use Prim.Native.Nat.{_≤_};
 ghost use lib.ListN.{length};
 ghost use Rattle.layout.specs.Layout.{HasWords};
-ghost use Rattle.numbers.specs.Numbers.{Arrays};
+ghost use Rattle.border.specs.Numbers.{Arrays};
 
 mod rooms;
 
 use answers::LearnedTree;
-use checks::Settings;
 use layout::NodeNumber;
+use refuse::Settings;
 use tally::Tally;
 use tally::report;
 
@@ -55,7 +55,7 @@ fn learn_one_leaf(
     let mut queue_words = [0u32; 3];
     let mut queue_values = [0i32; 1];
     let mut queue_gains = [0.0f32; 1];
-    let work = numbers::learn_on(
+    let work = border::learn_on(
         1,
         1,
         s,
@@ -132,7 +132,7 @@ fn six_rows(
     let mut queue_gains = rooms::queue_gains();
     let mut counts = rooms::few_counts();
     let logs = rooms::true_logs();
-    let work = numbers::learn_on(
+    let work = border::learn_on(
         9,
         9,
         settings(17, max_leaves, 3, false),

@@ -17,9 +17,9 @@ use Rattle.model.specs.Lent.{Lent}
 use Rattle.model.proofs.SingleLawful.{single-lawful}
 use Rattle.model.proofs.Places.{getD-any, length-each}
 use Rattle.model.proofs.Tests.{true-T}
-use Rattle.checks.specs.Given.{settingsOf}
-use Rattle.checks.specs.declared.Settings.{Settings}
-use Rattle.checks.specs.Accepted.{Accepted}
+use Rattle.refuse.specs.Given.{settingsOf}
+use Rattle.refuse.specs.declared.Settings.{Settings}
+use Rattle.refuse.specs.Accepted.{Accepted}
 use Rattle.layout.specs.Tree.{NodeLists, HasRoom}
 use Rattle.layout.specs.Waiting.{QueueLists, QueueRoom}
 use Rattle.layout.proofs.Held.{room-fewer}

@@ -7,8 +7,8 @@ use lib.IntN.{ℤ}
 use lib.ListN.{length, take, drop, replicate, take-append-drop}
 use lib.Ieee.{Float}
 use Rattle.model.specs.Lists.{isEmpty}
-use Rattle.checks.specs.Given.{settingsOf}
-use Rattle.checks.specs.declared.Settings.{Settings}
+use Rattle.refuse.specs.Given.{settingsOf}
+use Rattle.refuse.specs.declared.Settings.{Settings}
 use Rattle.cost.specs.Predictors.{Uses}
 use Rattle.cost.proofs.Bridge.{usable-is}
 use Rattle.flat.specs.Flat.{FlatFits}

@@ -26,8 +26,8 @@ use Rattle.model.proofs.LogZero.{log-read}
 use Rattle.model.proofs.Bounded.{held, cost-within}
 use Rattle.model.proofs.SingleLawful.{single-lawful}
 use Rattle.cost.proofs.Bounded.{log-within}
-use Rattle.checks.specs.Given.{settingsOf}
-use Rattle.checks.specs.declared.Settings.{Settings}
+use Rattle.refuse.specs.Given.{settingsOf}
+use Rattle.refuse.specs.declared.Settings.{Settings}
 use Rattle.rows.specs.Flat.{Flat, rowCount}
 use Rattle.lent.specs.Fitting.{Fitting}
 use Rattle.lent.specs.Grows.{Number}

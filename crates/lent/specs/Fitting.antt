@@ -11,8 +11,8 @@ use Rattle.model.specs.Profile.{single}
 use Rattle.model.specs.Cost.{usable}
 use Rattle.model.specs.Refuse.{countsWanted}
 use Rattle.model.specs.Accepting.{InRange}
-use Rattle.checks.specs.Given.{settingsOf}
-use Rattle.checks.specs.declared.Settings.{Settings}
+use Rattle.refuse.specs.Given.{settingsOf}
+use Rattle.refuse.specs.declared.Settings.{Settings}
 use Rattle.cost.specs.Counted.{LogsReach}
 use Rattle.rows.specs.Cells.{span}
 use Rattle.rows.specs.Flat.{Flat, Shaped, Spanned, rowCount, hasResiduals}

@@ -15,8 +15,8 @@ use Rattle.model.specs.Job.{Offer, Job}
 use Rattle.model.specs.Grow.{State, noEntry}
 use Rattle.model.specs.Accepting.{singleSmall}
 use Rattle.model.specs.Kept.{Invariant, Healthy, Sized}
-use Rattle.checks.specs.Given.{settingsOf}
-use Rattle.checks.specs.declared.Settings.{Settings}
+use Rattle.refuse.specs.Given.{settingsOf}
+use Rattle.refuse.specs.declared.Settings.{Settings}
 use Rattle.layout.specs.declared.Tree.{Tree}
 use Rattle.layout.specs.Tree.{NodeLists, holding, HasRoom}
 use Rattle.layout.specs.Waiting.{QueueLists, Queued, QueueRoom, queueOf}

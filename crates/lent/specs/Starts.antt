@@ -5,7 +5,7 @@ use mathlib.Core.List.{List}
 use lib.IntN.{ℤ}
 use lib.Ieee.{Float}
 use Rattle.model.specs.Accepting.{LogsWithin, singleSmall, JobFits}
-use Rattle.checks.specs.declared.Settings.{Settings}
+use Rattle.refuse.specs.declared.Settings.{Settings}
 use Rattle.layout.specs.Tree.{NodeLists, HasRoom}
 use Rattle.layout.specs.Waiting.{QueueLists, QueueRoom}
 use Rattle.rows.specs.Flat.{Flat, flat, rowCount}

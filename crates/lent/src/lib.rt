@@ -9,11 +9,11 @@ ghost use Rattle.model.specs.Settings.{maxNodes};
 ghost use Rattle.model.specs.Flat.{flatBits};
 ghost use Rattle.model.specs.Rows.{rowsHeld};
 ghost use Rattle.model.specs.Operations.{accepted};
-ghost use Rattle.checks.specs.Given.{settingsOf};
+ghost use Rattle.refuse.specs.Given.{settingsOf};
 ghost use Rattle.lent.specs.Lists.{leavesLent};
 ghost use Rattle.lent.specs.Answer.{outcomeOf, answerOf};
 ghost use Rattle.lent.specs.Starts.{Flattened};
-use checks::Settings;
+use refuse::Settings;
 
 // The answer: how many nodes and leaves the tree has, its estimated bits and the flat bits; or a refusal, with the
 // place that it names.
@@ -62,7 +62,7 @@ pub fn flat_bits(
     ensures zeros { λ _. ⌜ now (counts .exit) ≡ now (counts .entry) ⌝ }
 {
     let alphabet = s.alphabet as usize;
-    let wide = checks::FLAT_COUNTS * alphabet;
+    let wide = refuse::FLAT_COUNTS * alphabet;
     flat::flat_cost(
         props,
         tok,

@@ -13,7 +13,7 @@ use Rattle.records.specs.Records.{wordsFrom, valuesFrom, costsFrom}
 use Rattle.layout.specs.Layout.{HasNodes}
 use Rattle.layout.specs.declared.MaNode.{MaNode}
 use Rattle.records.proofs.Copies.{length-words, length-values, length-costs, read-back}
-use Rattle.numbers.specs.Numbers.{copied, Arrays, Numbered}
+use Rattle.border.specs.Numbers.{copied, Arrays, Numbered}
 
 -- no more records are copied than there are, and than the largest tree has
 pub copied-there : (seeded : Bool) (count room : ℕ) → copied seeded count room ≤ room

@@ -37,10 +37,10 @@ use Rattle.records.proofs.Facts.{says-two}
 use Rattle.layout.proofs.MaNode as N
 use Rattle.records.proofs.Rows.{Lists, Spots, Names, SameLengths, Mutss, refs, valued, same, rows, lents, lend-all, back-all}
 use Rattle.records.proofs.from_records as from-records
-use Rattle.numbers.specs.Numbers.{copied}
+use Rattle.border.specs.Numbers.{copied}
 use Rattle.ma_tree.proofs.Copied.{most-fits, has-places}
 use Rattle.ma_tree.proofs.Zeros.{As, zeros, zeros-long, zeros-room}
-use Rattle.numbers.proofs.to_copy as to-copy
+use Rattle.border.proofs.to_copy as to-copy
 
 -- ---- the call of `to_copy`
 abbrev pub ToCopy : {M : Type 1} (𝓤 : URA M) (H : Heap 𝓤) (A : Atoms 𝓤) (mem : Memory → SProp 𝓤) (run : Routine → Fun 𝓤) → Contract 𝓤

@@ -31,18 +31,18 @@ use denote.Triple.Statement.{Contract}
 use denote.Triple.Clauses.{ensured, Lasts, lasts}
 use Rattle.rows.specs.Flat.{flat}
 use Rattle.layout.specs.Waiting.{queueLists}
-use Rattle.checks.specs.Given.{settingsOf}
-use Rattle.checks.specs.declared.Settings.{Settings}
-use Rattle.checks.proofs.Settings as S
-use Rattle.checks.proofs.Settings.Laws as S′
+use Rattle.refuse.specs.Given.{settingsOf}
+use Rattle.refuse.specs.declared.Settings.{Settings}
+use Rattle.refuse.proofs.Settings as S
+use Rattle.refuse.proofs.Settings.Laws as S′
 use Rattle.layout.specs.declared.MaNode.{MaNode}
 use Rattle.layout.specs.declared.Span.{Span}
 use Rattle.layout.proofs.MaNode as N
 use Rattle.layout.proofs.Span as P
 use Rattle.records.proofs.Rows.{Lists, Spots, Names, Mutss, refs, valued, same}
 use Rattle.answers.specs.declared.LearnedTree.{LearnedTree}
-use Rattle.numbers.specs.Lists as R
-use Rattle.numbers.specs.Lists.{lists, Worked}
+use Rattle.border.specs.Lists as R
+use Rattle.border.specs.Lists.{lists, Worked}
 use Rattle.answers.proofs.LearnedTree as L
 use Rattle.answers.proofs.LearnedTree.Laws as L′
 use Rattle.ma_tree.proofs.work as work

@@ -30,7 +30,7 @@ use Rattle.layout.specs.Layout.{wordsPerNode, valuesPerNode}
 use Rattle.records.proofs.LocalArrays.{repeat-typed, array-row, row-room}
 use Rattle.records.proofs.Locals.{Blocks, block}
 use Rattle.records.proofs.Rows.{Lists, Spots, Rooms, SameLengths, rows}
-use Rattle.numbers.specs.Numbers.{Arrays}
+use Rattle.border.specs.Numbers.{Arrays}
 
 abbrev pub As : List RattleType
 As = u32 ∷ i32 ∷ f32 ∷ []

@@ -11,8 +11,8 @@ use Rattle.model.specs.Token.{encodedOf}
 use Rattle.model.specs.declared.Encoded.{Encoded}
 use Rattle.model.specs.Profile.{single}
 use Rattle.model.specs.Operations.{ContextLists, learn, deepen, lookup, leafContexts, sample, tokenAnswer}
-use Rattle.checks.specs.Given.{settingsOf}
-use Rattle.checks.specs.declared.Settings.{Settings}
+use Rattle.refuse.specs.Given.{settingsOf}
+use Rattle.refuse.specs.declared.Settings.{Settings}
 use Rattle.layout.specs.Records.{storedOf}
 use Rattle.layout.specs.declared.MaNode.{MaNode}
 use Rattle.layout.specs.declared.Span.{Span}
@@ -21,7 +21,7 @@ use Rattle.answers.specs.declared.Count.{Count}
 use Rattle.answers.specs.declared.Leaf.{Leaf}
 use Rattle.answers.specs.declared.LearnedTree.{LearnedTree}
 use Rattle.answers.specs.declared.Read.{Read}
-use Rattle.numbers.specs.Lists.{Lists, listsWith, lentIn, learnRecords, deepenRecords}
+use Rattle.border.specs.Lists.{Lists, listsWith, lentIn, learnRecords, deepenRecords}
 
 -- what the lists lent to learning or deepening hold, in the order of the parameters
 abbrev pub listsNow : RefT (List MaNode) → RefT (List Span) → RefT (List ℤ) → RefT (List ℕ) → RefT (List ℤ)

@@ -3,25 +3,25 @@
 // crosses over to C as two arguments, pointer and length.
 //
 // A function that sees a slice of records is walked by hand, so it does little: it copies records to the core's
-// number lists (crate `numbers`) and back, or reads one record after another (crate `ways`).
+// number lists (crate `border`) and back, or reads one record after another (crate `lookup`).
 ghost use mathlib.Core.Path.{_≡_};
 ghost use mathlib.Core.List.{map};
 ghost use Rattle.model.specs.Pack.{packed};
 ghost use Rattle.model.specs.Token.{encodedOf};
 ghost use Rattle.model.specs.Operations.{lookup, tokenAnswer};
-ghost use Rattle.checks.specs.Given.{settingsOf};
+ghost use Rattle.refuse.specs.Given.{settingsOf};
 ghost use Rattle.layout.specs.Records.{storedOf};
 ghost use Rattle.answers.specs.Answers.{valueIn, foundIn};
-ghost use Rattle.numbers.specs.Lists.{Worked, contextsNow};
+ghost use Rattle.border.specs.Lists.{Worked, contextsNow};
 ghost use Rattle.ma_tree.specs.Runs.{listsNow, Learning, Deepening, Numbering, Sampling};
 use answers::Count;
 use answers::Leaf;
 use answers::LearnedTree;
 use answers::Read;
-use checks::Settings;
 use layout::MaNode;
 use layout::Span;
 use model::Encoded;
+use refuse::Settings;
 
 // ---- packing, tokens, even sampling
 
@@ -87,9 +87,9 @@ fn work<'n, 'a>(
     let mut costs = [0f32; layout::MAX_NODES];
     let node_room = nodes.len();
     let span_room = spans.len();
-    let n = numbers::to_copy(node_room, seeded, count);
+    let n = border::to_copy(node_room, seeded, count);
     records::from_records(nodes, n, &mut words[..], &mut values[..], &mut costs[..]);
-    let done = numbers::work_on(
+    let done = border::work_on(
         node_room,
         span_room,
         s,
@@ -198,10 +198,10 @@ pub extern "C" fn ostrovuc_deepen<'n, 'a>(
 pub extern "C" fn ostrovuc_lookup<'n, 'a>(nodes: &'n [MaNode], count: u32, props: &'a [i32]) -> Leaf
     ensures { λ r. ⌜ r ≡ foundIn (lookup (map storedOf (now (nodes .entry))) count (now (props .entry))) ⌝ }
 {
-    let mut way = ways::begin(nodes.len(), count, props);
+    let mut way = lookup::begin(nodes.len(), count, props);
     while way.on {
         let m = nodes[way.node.0 as usize];
-        way = ways::step(m, way.node, count, props);
+        way = lookup::step(m, way.node, count, props);
     }
     way.end
 }
@@ -221,7 +221,7 @@ pub extern "C" fn ostrovuc_leaf_contexts<'n, 'a>(
     let mut words = [0u32; layout::MAX_WORDS];
     let mut values = [0i32; layout::MAX_VALUES];
     let mut costs = [0f32; layout::MAX_NODES];
-    let n = numbers::to_copy(nodes.len(), true, count);
+    let n = border::to_copy(nodes.len(), true, count);
     records::from_records(nodes, n, &mut words[..], &mut values[..], &mut costs[..]);
-    numbers::contexts_on(n, count, &words[..], &values[..], contexts, queue)
+    border::contexts_on(n, count, &words[..], &values[..], contexts, queue)
 }

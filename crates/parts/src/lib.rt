@@ -25,7 +25,7 @@ ghost use Rattle.model.specs.Settings.{toksPerRow};
 ghost use Rattle.model.specs.Score.{scoreOf};
 ghost use Rattle.model.specs.Rows.{rowsOf, within};
 ghost use Rattle.cost.specs.Histograms.{SpanFits, CountsSpan, spanOf};
-ghost use Rattle.windows.specs.Windows.{Windowable, Windows};
+ghost use Rattle.score_windows.specs.Windows.{Windowable, Windows};
 ghost use Rattle.score.specs.Scored.{Scorable, Spare};
 ghost use Rattle.parts.specs.Answers.{scoreOut};
 
@@ -160,7 +160,7 @@ pub extern "C" fn ostrovuc_set_windows(
     ensures { λ _. ⌜ Windows (now (node .entry)) alphabet
         (now (preds .entry)) (now (firsts .exit)) (now (offs .exit)) ⌝ }
 {
-    windows::set_windows(node, alphabet, preds, firsts, offs)
+    score_windows::set_windows(node, alphabet, preds, firsts, offs)
 }
 
 // The best of the candidates of a property over the rows from first to end.

@@ -7,14 +7,14 @@ use Rattle.model.specs.Single.{singles}
 use Rattle.model.specs.Profile.{single}
 use Rattle.model.specs.Refuse.{Refusal, learnRefusal, deepenRefusal, lookupRefusal, contextsRefusal, sampleRefusal, tokenRefusal}
 use Rattle.model.specs.Operations.{Outcome, refused, accepted, Tree, unless, outcomeOf, learn, deepen, lookup, leafContexts, sample, tokenAnswer}
-use Rattle.checks.specs.Given.{settingsOf}
+use Rattle.refuse.specs.Given.{settingsOf}
 use Rattle.layout.specs.Records.{storedOf}
 use Rattle.answers.specs.Answers.{treeIn, foundIn, countIn, valueIn}
 use Rattle.answers.specs.declared.Count.{Count}
 use Rattle.answers.specs.declared.Leaf.{Leaf}
 use Rattle.answers.specs.declared.LearnedTree.{LearnedTree}
 use Rattle.answers.specs.declared.Read.{Read}
-use Rattle.numbers.specs.Lists.{lentIn, learnRecords, deepenRecords}
+use Rattle.border.specs.Lists.{lentIn, learnRecords, deepenRecords}
 use Rattle.promises.specs.Demand1.{Told, Answered, Demand1}
 use Rattle.promises.proofs.Numbered.{Numbered, learn-numbered, deepen-numbered, lookup-numbered, contexts-numbered, sample-numbered, token-numbered}
 

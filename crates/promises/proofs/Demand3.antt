@@ -15,12 +15,12 @@ use Rattle.model.specs.Operations.{accepted, After, unless, outcomeOf, Tree, Fo
 use Rattle.model.proofs.Accepted.{learnedFrom, deepenedFrom}
 use Rattle.model.proofs.Promises.{demand3 as model3}
 use Rattle.lent.specs.Lists.{clearQueue}
-use Rattle.checks.specs.Given.{settingsOf}
-use Rattle.checks.specs.declared.Settings.{Settings}
+use Rattle.refuse.specs.Given.{settingsOf}
+use Rattle.refuse.specs.declared.Settings.{Settings}
 use Rattle.answers.specs.Answers.{treeIn, foundIn}
 use Rattle.answers.specs.declared.LearnedTree.{LearnedTree}
 use Rattle.answers.specs.declared.Leaf.{Leaf}
-use Rattle.numbers.specs.Lists.{Lists, lentIn, listsAfter, learnRecords, deepenRecords}
+use Rattle.border.specs.Lists.{Lists, lentIn, listsAfter, learnRecords, deepenRecords}
 use Rattle.ma_tree.specs.Runs.{Learning, Deepening, LookingUp}
 use Rattle.promises.specs.Demand3.{answered, Demand3}
 use Rattle.promises.proofs.Numbered.{Numbered, no-nought, learn-numbered, deepen-numbered, lookup-numbered}

@@ -14,10 +14,10 @@ use Rattle.model.specs.Promise.{Unpruned}
 use Rattle.model.proofs.SingleLawful.{single-lawful}
 use Rattle.model.proofs.SettledPlain.{learn-refusal-plain, deepen-refusal-plain, learned-plain, deepened-plain, unless-same}
 use Rattle.model.proofs.Promises.{seeds-kept, settled-plain}
-use Rattle.checks.specs.Given.{settingsOf}
-use Rattle.checks.specs.declared.Settings.{Settings}
+use Rattle.refuse.specs.Given.{settingsOf}
+use Rattle.refuse.specs.declared.Settings.{Settings}
 use Rattle.answers.specs.Answers.{treeIn}
-use Rattle.numbers.specs.Lists.{Lists, lentIn, listsAfter, learnRecords, deepenRecords}
+use Rattle.border.specs.Lists.{Lists, lentIn, listsAfter, learnRecords, deepenRecords}
 use Rattle.ma_tree.specs.Runs.{Learning, Deepening}
 use Rattle.promises.specs.Laws.{Laws}
 use Rattle.promises.proofs.Demand3.{deepened}

@@ -9,15 +9,15 @@ use lib.Ieee.{Float}
 use Rattle.model.specs.Profile.{single}
 use Rattle.model.specs.Refuse.{Refusal, learnRefusal, deepenRefusal, lookupRefusal, contextsRefusal, sampleRefusal, tokenRefusal}
 use Rattle.model.specs.Operations.{ContextLists}
-use Rattle.checks.specs.Given.{settingsOf}
-use Rattle.checks.specs.declared.Settings.{Settings}
+use Rattle.refuse.specs.Given.{settingsOf}
+use Rattle.refuse.specs.declared.Settings.{Settings}
 use Rattle.layout.specs.Records.{storedOf}
 use Rattle.layout.specs.declared.MaNode.{MaNode}
 use Rattle.answers.specs.declared.Count.{Count}
 use Rattle.answers.specs.declared.Leaf.{Leaf}
 use Rattle.answers.specs.declared.LearnedTree.{LearnedTree}
 use Rattle.answers.specs.declared.Read.{Read}
-use Rattle.numbers.specs.Lists.{Lists, lentIn}
+use Rattle.border.specs.Lists.{Lists, lentIn}
 use Rattle.ma_tree.specs.Runs.{Learning, Deepening, LookingUp, Numbering, Sampling, Reading}
 
 -- number and place of an answer are the refusal's, which is one of 1 to 10, and the lists are as they were; or both are 0 where nothing is refused

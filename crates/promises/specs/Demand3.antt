@@ -10,10 +10,10 @@ use Rattle.model.specs.Single.{singles}
 use Rattle.model.specs.Profile.{single}
 use Rattle.model.specs.Operations.{Tree, Found, accepted, lookup}
 use Rattle.model.specs.Promise.{Unpruned, Kept, OneMoreOrAlike}
-use Rattle.checks.specs.Given.{settingsOf}
-use Rattle.checks.specs.declared.Settings.{Settings}
+use Rattle.refuse.specs.Given.{settingsOf}
+use Rattle.refuse.specs.declared.Settings.{Settings}
 use Rattle.answers.specs.Answers.{treeIn, foundIn}
-use Rattle.numbers.specs.Lists.{Lists, lentIn}
+use Rattle.border.specs.Lists.{Lists, lentIn}
 use Rattle.answers.specs.declared.LearnedTree.{LearnedTree}
 use Rattle.ma_tree.specs.Runs.{Learning, Deepening, LookingUp}
 

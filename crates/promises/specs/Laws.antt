@@ -9,10 +9,10 @@ use Rattle.model.specs.Profile.{single}
 use Rattle.model.specs.Operations.{Tree}
 use Rattle.model.specs.Promise.{Unpruned}
 use Rattle.model.specs.SeedKept.{SeedKept}
-use Rattle.checks.specs.Given.{settingsOf}
-use Rattle.checks.specs.declared.Settings.{Settings}
+use Rattle.refuse.specs.Given.{settingsOf}
+use Rattle.refuse.specs.declared.Settings.{Settings}
 use Rattle.answers.specs.declared.LearnedTree.{LearnedTree}
-use Rattle.numbers.specs.Lists.{Lists, lentIn}
+use Rattle.border.specs.Lists.{Lists, lentIn}
 use Rattle.ma_tree.specs.Runs.{Learning, Deepening}
 use Rattle.promises.specs.Demand3.{answered}
 

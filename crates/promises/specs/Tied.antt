@@ -13,7 +13,7 @@ use denote.Ref.{RefT}
 use denote.Triple.Entry.{Args, Res}
 use denote.Triple.Clauses.{Ended, Clauses, Lasts, atExit}
 use Rattle.model.specs.declared.Encoded.{Encoded}
-use Rattle.checks.specs.declared.Settings.{Settings}
+use Rattle.refuse.specs.declared.Settings.{Settings}
 use Rattle.rows.specs.Flat.{flat}
 use Rattle.layout.specs.Waiting.{queueLists}
 use Rattle.layout.specs.declared.MaNode.{MaNode}
@@ -22,7 +22,7 @@ use Rattle.answers.specs.declared.Count.{Count}
 use Rattle.answers.specs.declared.Leaf.{Leaf}
 use Rattle.answers.specs.declared.LearnedTree.{LearnedTree}
 use Rattle.answers.specs.declared.Read.{Read}
-use Rattle.numbers.specs.Lists.{Lists, lists, contextsNow}
+use Rattle.border.specs.Lists.{Lists, lists, contextsNow}
 use Rattle.ma_tree.specs.Runs.{listsNow, Learning, Deepening, LookingUp, Numbering, Sampling, Packing, Encoding, Reading}
 
 -- what a run of an operation may be: its arguments at entry, its answer, and the last values of what it was lent to write

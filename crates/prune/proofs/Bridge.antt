@@ -24,8 +24,8 @@ use Rattle.layout.specs.Layout.{wordsPerNode, valuesPerNode, kindAt, propAt, gt
 use Rattle.layout.specs.Tree.{NodeListsOf, NodeLists, holding, HasRoom, entryWords, entryValues, nodeWords, nodeVal}
 use Rattle.layout.specs.Kept.{infoAt}
 use Rattle.preorder.specs.Order.{ShownAs, ShowsNodes, Walkable, Ordered}
-use Rattle.moves.specs.Moves.{nodeFrom, entryFrom, entriesFrom, compacted, AllMovable}
-use Rattle.moves.proofs.Moving.{length-entries, entry-at}
+use Rattle.compact.specs.Moves.{nodeFrom, entryFrom, entriesFrom, compacted, AllMovable}
+use Rattle.compact.proofs.Moving.{length-entries, entry-at}
 use Rattle.prune.specs.Prices.{AllPriceable, ShowsTree, PricedAs}
 use Rattle.prune.specs.Held.{HoldsTreeOf, HoldsTree, prunedEntries}
 use Rattle.layout.proofs.Held.{SameCells, same-cells, room-same, holding-lengths, held-word, held-value, held-cost, held-first, held-end}

@@ -1,5 +1,5 @@
 // Pruning of a grown tree in flat lists of numbers, after the Rust's prune_tree: prices from the last node back, the
-// new order from the root by `preorder`, and the lists moved into that order by `moves`.
+// new order from the root by `preorder`, and the lists moved into that order by `compact`.
 ghost use mathlib.Core.Path.{_≡_};
 ghost use mathlib.Core.List.{List};
 ghost use Prim.Native.Nat.{ℕ, _≤_, _<_};
@@ -148,7 +148,7 @@ pub fn prune_tree(
     let mut order = [0u32; layout::MAX_NODES];
     let mut places = [0u32; layout::MAX_NODES];
     let nodes = preorder::order_nodes(words, &splits, count, &mut order, &mut places);
-    moves::move_nodes(words, values, costs, &splits, &order, &places, nodes, count);
+    compact::move_nodes(words, values, costs, &splits, &order, &places, nodes, count);
     Tree {
         nodes,
         waiting: 0,

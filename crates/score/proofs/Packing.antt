@@ -16,11 +16,11 @@ use Rattle.model.specs.Promise.{noRow}
 use Rattle.model.proofs.Places.{each-at}
 use Rattle.cost.specs.Histograms.{part, spanOf}
 use Rattle.cost.proofs.Histograms.{histograms-part}
-use Rattle.windows.specs.Windows.{windowAt, packed, Windows, widthOf}
-use Rattle.windows.proofs.Windowing.{window-holds}
-use Rattle.bins.specs.Bins.{Lanes}
-use Rattle.bins.proofs.Lanes.{count-some}
-use Rattle.bins.proofs.Binning.{held}
+use Rattle.score_windows.specs.Windows.{windowAt, packed, Windows, widthOf}
+use Rattle.score_windows.proofs.Windowing.{window-holds}
+use Rattle.score_bins.specs.Bins.{Lanes}
+use Rattle.score_bins.proofs.Lanes.{count-some}
+use Rattle.score_bins.proofs.Binning.{held}
 use Rattle.score.specs.Scored.{Scorable}
 
 pub histogram-at : (alphabet p : ℕ) (rows : List Row) (t : ℕ) → t < alphabet → getD (histogram alphabet p rows) t 0 ≡ countIf (hasToken p t) rows

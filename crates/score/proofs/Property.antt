@@ -22,14 +22,14 @@ use Rattle.cost.specs.Counted.{rowsIn}
 use Rattle.cost.specs.Histograms.{part, spanOf}
 use Rattle.cost.proofs.Blocks.{part-end}
 use Rattle.cost.proofs.Histograms.{histogram-length, histogram-rows, histograms-length}
-use Rattle.windows.specs.Windows.{packed, windowAt, Windows, widthOf}
-use Rattle.windows.proofs.Windowing.{Holds, window-holds, packed-le}
-use Rattle.bins.specs.Bins.{talliedRows, summed, binCell, Low, Lanes, RowsThere, SumsLow}
-use Rattle.bins.proofs.Tallies.{rows-length, rows-low, summed-length}
-use Rattle.bins.proofs.Lanes.{lane-ends}
-use Rattle.bins.proofs.Binning.{Held, held, left-counts, bin-room, sums-low}
-use Rattle.sides.specs.declared.Sides.{Sides}
-use Rattle.sides.specs.Lowest.{run, laneAt, lowestTo}
+use Rattle.score_windows.specs.Windows.{packed, windowAt, Windows, widthOf}
+use Rattle.score_windows.proofs.Windowing.{Holds, window-holds, packed-le}
+use Rattle.score_bins.specs.Bins.{talliedRows, summed, binCell, Low, Lanes, RowsThere, SumsLow}
+use Rattle.score_bins.proofs.Tallies.{rows-length, rows-low, summed-length}
+use Rattle.score_bins.proofs.Lanes.{lane-ends}
+use Rattle.score_bins.proofs.Binning.{Held, held, left-counts, bin-room, sums-low}
+use Rattle.score_sides.specs.declared.Sides.{Sides}
+use Rattle.score_sides.specs.Lowest.{run, laneAt, lowestTo}
 use Rattle.score.specs.Scored.{scoredSides, sizeAt, scoredAt, scoredTo, ExtrasFit, Extras, Binned, Scorable, Spare}
 use Rattle.score.proofs.Packing.{histogram-at, node-part, token-below, width-is, lanes, tops}
 use Rattle.score.proofs.Counting.{length-sides, all-keep, histogram-counts}

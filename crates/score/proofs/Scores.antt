@@ -23,10 +23,10 @@ use Rattle.cost.specs.Counted.{rowsIn}
 use Rattle.cost.specs.Histograms.{part}
 use Rattle.cost.proofs.Sums.{entropy-zeros}
 use Rattle.cost.proofs.Histograms.{histogram-length, histogram-rows}
-use Rattle.sides.specs.declared.Sides.{Sides}
-use Rattle.sides.specs.Sides.{rest, costsOf, lowerCost, SideCounted}
-use Rattle.sides.specs.Lowest.{run, laneAt, lowestTo}
-use Rattle.sides.proofs.Sweeps.{rest-length, rest-at}
+use Rattle.score_sides.specs.declared.Sides.{Sides}
+use Rattle.score_sides.specs.Sides.{rest, costsOf, lowerCost, SideCounted}
+use Rattle.score_sides.specs.Lowest.{run, laneAt, lowestTo}
+use Rattle.score_sides.proofs.Sweeps.{rest-length, rest-at}
 use Rattle.score.specs.declared.Score as answer
 use Rattle.score.specs.declared.Score.the-variants.{Nothing, Threshold}
 use Rattle.score.specs.Scored.{scoreIs, scoredSides, sizeAt, scoredAt, scoredTo, Extras}

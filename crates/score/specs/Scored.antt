@@ -14,9 +14,9 @@ use Rattle.model.specs.Cost.{logOf, extraFrom}
 use Rattle.model.specs.Score as model
 use Rattle.cost.specs.Counted.{rowsIn, LogsReach}
 use Rattle.cost.specs.Histograms.{part, SpanFits, CountsSpan}
-use Rattle.bins.specs.Bins.{Ascends}
-use Rattle.sides.specs.declared.Sides.{Sides}
-use Rattle.sides.specs.Lowest.{run, laneAt, lowestTo, Ready}
+use Rattle.score_bins.specs.Bins.{Ascends}
+use Rattle.score_sides.specs.declared.Sides.{Sides}
+use Rattle.score_sides.specs.Lowest.{run, laneAt, lowestTo, Ready}
 use Rattle.score.specs.declared.Score.{Score}
 use Rattle.score.specs.declared.Score.the-variants.{Nothing, Threshold}
 

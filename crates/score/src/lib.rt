@@ -11,7 +11,7 @@ ghost use Rattle.model.specs.Rows.{rowsOf, within};
 ghost use Rattle.model.specs.Score.{lower, scoreOf};
 ghost use Rattle.cost.specs.Counted.{rowsIn};
 ghost use Rattle.cost.specs.Histograms.{spanOf};
-ghost use Rattle.windows.specs.Windows.{Windows};
+ghost use Rattle.score_windows.specs.Windows.{Windows};
 ghost use Rattle.score.specs.Scored.{scoreIs, scoredAt, scoredTo, ExtrasFit, Extras, Binned, Scorable, Spare};
 
 // Nothing to offer, or a threshold with its cost in bits.
@@ -78,7 +78,7 @@ fn score_at(
     }
     let log_le = logs[size as usize];
     let log_gt = logs[(total - size) as usize];
-    let sides = sides::lowest_sides(
+    let sides = score_sides::lowest_sides(
         cells,
         node,
         alphabet,
@@ -144,7 +144,7 @@ fn set_extras(node: &[u32], alphabet: usize, preds: &[u32], extras: &mut [u32])
     for j in 0..preds.len() {
         let start = preds[j] as usize * alphabet;
         let end = start + alphabet;
-        extras[j] = sides::window_extra(&node[start..end], 0);
+        extras[j] = score_sides::window_extra(&node[start..end], 0);
     }
 }
 
@@ -176,7 +176,7 @@ fn score_in(
     ensures zeros { λ _. ⌜ now (room .exit) ≡ now (room .entry) ⌝ }
 {
     let rows = end - first;
-    bins::scan_split_plan(
+    score_bins::scan_split_plan(
         props,
         tok,
         first,
@@ -189,7 +189,7 @@ fn score_in(
         stride,
         room,
     );
-    bins::accumulate(room, stride, cands.len() * stride);
+    score_bins::accumulate(room, stride, cands.len() * stride);
     let mut extras = [0u32; model::NUM_MA_PREDS];
     set_extras(node, alphabet, preds, &mut extras);
     let score = score_split_plan(

@@ -9,7 +9,7 @@ use Rattle.rows.specs.Flat.{flat}
 use Rattle.lent.specs.Lists.{Lists, lists}
 use Rattle.lent.proofs.Flatly.{flattened-from}
 use Rattle.finish.proofs.Made.{made-lists, learned-as}
-use Rattle.plant.specs.Seeded.{Seedable}
+use Rattle.seed_leaves.specs.Seeded.{Seedable}
 use Rattle.from_seed.specs.Result.{deepenedIn}
 use Rattle.deepen.proofs.deepen_ma_tree.Statement.{statement}
 use Rattle.deepen.proofs.deepen_ma_tree.Tie as tie

@@ -12,7 +12,7 @@ use Rattle.settle.proofs.Settling.{settleable}
 use Rattle.settle.specs.Leaves.{HoldsLeaves}
 use Rattle.lent.specs.Fitting.{usesOf}
 use Rattle.finish.specs.Finished.{cutTree, Cut}
-use Rattle.checks.proofs.Ranges.{given}
+use Rattle.refuse.proofs.Ranges.{given}
 use Rattle.finish.proofs.Finishing.{grew-holds, grew-prunable, clear-counts, cut-leaves, behind, finished-lists}
 use Rattle.finish.proofs.finish_tree.Statement.{statement}
 use Rattle.finish.proofs.finish_tree.Tie as tie

@@ -7,8 +7,8 @@ use Rattle.layout.specs.Tree.{nodeLists}
 use Rattle.rows.specs.Flat.{flat, heldIn}
 use Rattle.lent.specs.Grows.{jobIn}
 use Rattle.finish.proofs.Finishing.{clear-same}
-use Rattle.seed.specs.Ordered.{seedIn}
-use Rattle.plant.specs.Seeded.{splitsOf}
+use Rattle.seed_rows.specs.Ordered.{seedIn}
+use Rattle.seed_leaves.specs.Seeded.{splitsOf}
 use Rattle.from_seed.proofs.FromSeed.{seed-few, seed-growable, seed-grows, seed-finished}
 use Rattle.from_seed.proofs.grow_from_seed.Statement.{statement}
 use Rattle.from_seed.proofs.grow_from_seed.Tie as tie

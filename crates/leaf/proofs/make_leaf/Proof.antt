@@ -12,7 +12,7 @@ use Rattle.rows.specs.Flat.{Flat, flat, heldIn, rowCount}
 use Rattle.model.specs.Mode.{spanMode}
 use Rattle.model.specs.Rows.{within}
 use Rattle.mode.specs.Column.{stepMode}
-use Rattle.checks.proofs.Ranges.{given}
+use Rattle.refuse.proofs.Ranges.{given}
 use Rattle.lent.specs.Fitting.{usesOf}
 use Rattle.leaf.proofs.Making.{steppable, mode-stepped, Stepped, after-step, evaluable, made}
 use Rattle.leaf.proofs.make_leaf.Statement.{statement}

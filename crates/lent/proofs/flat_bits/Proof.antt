@@ -5,7 +5,7 @@ use borrow.Author.Needs.{needs}
 use lib.Seq.{length-take-le}
 use Rattle.model.specs.Flat.{flatBits}
 use Rattle.model.specs.Rows.{rowsOf}
-use Rattle.checks.specs.Given.{settingsOf}
+use Rattle.refuse.specs.Given.{settingsOf}
 use Rattle.lent.proofs.Flatly.{enough, flat-asked, uses-settings, counts-back}
 use Rattle.lent.proofs.flat_bits.Statement.{statement}
 use Rattle.lent.proofs.flat_bits.Tie as tie

@@ -54,7 +54,7 @@ use Rattle.records.proofs.from_records.Symbol.{name as #from-records}
 use Rattle.records.proofs.from_records.Met as from-records-thm
 use Rattle.answers.specs.declared.Count.{Count}
 use Rattle.answers.specs.Answers.{countIn}
-use Rattle.numbers.specs.Numbers.{copied, Numbered}
+use Rattle.border.specs.Numbers.{copied, Numbered}
 use Rattle.ma_tree.proofs.Copied.{copied-there, copied-most, most-fits, copied-long, has-places, numbered}
 use Rattle.ma_tree.proofs.Copying.{ToCopy, of-room, counts, counted, FromRecords, to-take, holding, holding-lens, copies-in, comes-out}
 use Rattle.ma_tree.proofs.Said.{all-said, SaidPost, SaidWalks, said-ends, said-meets, unasked}
@@ -63,13 +63,13 @@ use Rattle.ma_tree.proofs.Zeros.{As, allWords, allValues, zeros, zeros-
 use Rattle.ma_tree.proofs.Zeros.{rows-rooms}
 use Rattle.answers.proofs.Count as C
 use Rattle.answers.proofs.Count.Laws as C′
-use Rattle.numbers.proofs.to_copy.Symbol as to-copy-def
-use Rattle.numbers.proofs.to_copy.Symbol.{name as #to-copy}
-use Rattle.numbers.proofs.to_copy.Met as to-copy-thm
-use Rattle.numbers.proofs.contexts_on as contexts-on
-use Rattle.numbers.proofs.contexts_on.Symbol as contexts-on-def
-use Rattle.numbers.proofs.contexts_on.Symbol.{name as #contexts-on}
-use Rattle.numbers.proofs.contexts_on.Met as contexts-on-thm
+use Rattle.border.proofs.to_copy.Symbol as to-copy-def
+use Rattle.border.proofs.to_copy.Symbol.{name as #to-copy}
+use Rattle.border.proofs.to_copy.Met as to-copy-thm
+use Rattle.border.proofs.contexts_on as contexts-on
+use Rattle.border.proofs.contexts_on.Symbol as contexts-on-def
+use Rattle.border.proofs.contexts_on.Symbol.{name as #contexts-on}
+use Rattle.border.proofs.contexts_on.Met as contexts-on-thm
 use Rattle.ma_tree.proofs.ostrovuc_leaf_contexts.Key.{name as #leaf-contexts}
 use Rattle.ma_tree.proofs.ostrovuc_leaf_contexts as f
 use Rattle.ma_tree.proofs.ostrovuc_leaf_contexts.Statement as stated
@@ -262,6 +262,6 @@ ostrovuc-leaf-contexts-spec 𝓤 H 𝓜 𝓖 𝓡 =
     (tables 𝓤 H 𝓜 𝓡 code.env .C) (tables 𝓤 H 𝓜 𝓡 code.env .Λ) #leaf-contexts code.function (code.unfolded 𝓤 H 𝓜 𝓡)
     (said-meets 𝓤 H (𝓖 .A) f.ended (f.clauses 𝓤 H (𝓖 .A) (𝓜 .mem) (𝓡 .run)) (givenOf 𝓤 H 𝓜 𝓖) (tablesOf 𝓤 H 𝓜 (tables 𝓤 H 𝓜 𝓡 code.env)) code.function
     (walks 𝓤 H (𝓖 .A) (givenOf 𝓤 H 𝓜 𝓖) (𝓜 .mem) (𝓡 .run) (tablesOf 𝓤 H 𝓜 (tables 𝓤 H 𝓜 𝓡 code.env))
-    (cited 𝓤 H (ToCopy 𝓤 H (𝓖 .A) (𝓜 .mem) (𝓡 .run)) 𝓜 𝓡 code.env #to-copy to-copy-def.routine code.calls-numbers·to-copy (to-copy-thm.met 𝓤 H 𝓜 𝓖 𝓡))
+    (cited 𝓤 H (ToCopy 𝓤 H (𝓖 .A) (𝓜 .mem) (𝓡 .run)) 𝓜 𝓡 code.env #to-copy to-copy-def.routine code.calls-border·to-copy (to-copy-thm.met 𝓤 H 𝓜 𝓖 𝓡))
     (cited 𝓤 H (FromRecords 𝓤 H (𝓖 .A) (𝓜 .mem) (𝓡 .run)) 𝓜 𝓡 code.env #from-records from-records-def.routine code.calls-records·from-records (from-records-thm.met 𝓤 H 𝓜 𝓖 𝓡))
-    (cited 𝓤 H (ContextsOn 𝓤 H (𝓖 .A) (𝓜 .mem) (𝓡 .run)) 𝓜 𝓡 code.env #contexts-on contexts-on-def.routine code.calls-numbers·contexts-on (contexts-on-thm.met 𝓤 H 𝓜 𝓖 𝓡))))
+    (cited 𝓤 H (ContextsOn 𝓤 H (𝓖 .A) (𝓜 .mem) (𝓡 .run)) 𝓜 𝓡 code.env #contexts-on contexts-on-def.routine code.calls-border·contexts-on (contexts-on-thm.met 𝓤 H 𝓜 𝓖 𝓡))))

@@ -34,9 +34,9 @@ use denote.Triple.Statement.{Triple}
 use denote.Triple.Call.{calls-at}
 use denote.Triple.Table.{entered, cited}
 use denote.Triple.Walked.{says, walked}
-use Rattle.checks.specs.declared.Settings.{Settings}
-use Rattle.checks.proofs.Settings as S
-use Rattle.checks.proofs.Settings.Laws as S′
+use Rattle.refuse.specs.declared.Settings.{Settings}
+use Rattle.refuse.proofs.Settings as S
+use Rattle.refuse.proofs.Settings.Laws as S′
 use Rattle.layout.specs.declared.MaNode.{MaNode}
 use Rattle.layout.specs.declared.Span.{Span}
 use Rattle.layout.proofs.MaNode as N

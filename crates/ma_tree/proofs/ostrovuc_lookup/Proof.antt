@@ -59,26 +59,26 @@ use Rattle.layout.specs.declared.MaNode.{MaNode}
 use Rattle.layout.proofs.MaNode as N
 use Rattle.layout.proofs.MaNode.Laws as N′
 use Rattle.answers.specs.Answers.{foundIn}
-use Rattle.ways.specs.Ways.{begun, stepped}
+use Rattle.lookup.specs.Ways.{begun, stepped}
 use Rattle.layout.specs.declared.NodeNumber.{NodeNumber}
 use Rattle.answers.specs.declared.Leaf.{Leaf}
-use Rattle.ways.specs.declared.Way.{Way}
+use Rattle.lookup.specs.declared.Way.{Way}
 use Rattle.records.proofs.Locals.{Blocks, block, env, States, cells, enters, leaves, local-at, to-local, gives, start-of, count-of}
-use Rattle.ways.proofs.Looking.{Going, going-first, going-on, going-none, going-end}
+use Rattle.lookup.proofs.Looking.{Going, going-first, going-on, going-none, going-end}
 use Rattle.layout.proofs.NodeNumber as I
 use Rattle.layout.proofs.NodeNumber.Laws as I′
 use Rattle.answers.proofs.Leaf as L
 use Rattle.answers.proofs.Leaf.Laws as L′
-use Rattle.ways.proofs.Way as Y
-use Rattle.ways.proofs.Way.Laws as Y′
-use Rattle.ways.proofs.begin as begin
-use Rattle.ways.proofs.begin.Symbol as begin-def
-use Rattle.ways.proofs.begin.Symbol.{name as #begin}
-use Rattle.ways.proofs.begin.Met as begin-thm
-use Rattle.ways.proofs.step as step
-use Rattle.ways.proofs.step.Symbol as step-def
-use Rattle.ways.proofs.step.Symbol.{name as #step}
-use Rattle.ways.proofs.step.Met as step-thm
+use Rattle.lookup.proofs.Way as Y
+use Rattle.lookup.proofs.Way.Laws as Y′
+use Rattle.lookup.proofs.begin as begin
+use Rattle.lookup.proofs.begin.Symbol as begin-def
+use Rattle.lookup.proofs.begin.Symbol.{name as #begin}
+use Rattle.lookup.proofs.begin.Met as begin-thm
+use Rattle.lookup.proofs.step as step
+use Rattle.lookup.proofs.step.Symbol as step-def
+use Rattle.lookup.proofs.step.Symbol.{name as #step}
+use Rattle.lookup.proofs.step.Met as step-thm
 use Rattle.ma_tree.proofs.ostrovuc_lookup.Key.{name as #lookup}
 use Rattle.ma_tree.proofs.ostrovuc_lookup as f
 use Rattle.ma_tree.proofs.ostrovuc_lookup.Statement as stated
@@ -356,5 +356,5 @@ ostrovuc-lookup-spec 𝓤 H 𝓜 𝓖 𝓡 =
     entered 𝓤 H (tripleOf 𝓤 H (𝓖 .A) f.signature (f.spec 𝓤 H (𝓖 .A) (𝓜 .mem) (𝓡 .run)))
     (tables 𝓤 H 𝓜 𝓡 code.env .C) (tables 𝓤 H 𝓜 𝓡 code.env .Λ) #lookup code.function (code.unfolded 𝓤 H 𝓜 𝓡)
     (meets 𝓤 H (𝓖 .A) (givenOf 𝓤 H 𝓜 𝓖) (𝓜 .mem) (𝓡 .run) (tablesOf 𝓤 H 𝓜 (tables 𝓤 H 𝓜 𝓡 code.env))
-    (cited 𝓤 H (Begin 𝓤 H (𝓖 .A) (𝓜 .mem) (𝓡 .run)) 𝓜 𝓡 code.env #begin begin-def.routine code.calls-ways·begin (begin-thm.met 𝓤 H 𝓜 𝓖 𝓡))
-    (cited 𝓤 H (Step 𝓤 H (𝓖 .A) (𝓜 .mem) (𝓡 .run)) 𝓜 𝓡 code.env #step step-def.routine code.calls-ways·step (step-thm.met 𝓤 H 𝓜 𝓖 𝓡)))
+    (cited 𝓤 H (Begin 𝓤 H (𝓖 .A) (𝓜 .mem) (𝓡 .run)) 𝓜 𝓡 code.env #begin begin-def.routine code.calls-lookup·begin (begin-thm.met 𝓤 H 𝓜 𝓖 𝓡))
+    (cited 𝓤 H (Step 𝓤 H (𝓖 .A) (𝓜 .mem) (𝓡 .run)) 𝓜 𝓡 code.env #step step-def.routine code.calls-lookup·step (step-thm.met 𝓤 H 𝓜 𝓖 𝓡)))

@@ -43,10 +43,10 @@ use denote.Triple.Clauses.{ensured, Lasts, lasts}
 use denote.Triple.Table.{entered, cited}
 use denote.Triple.Walked.{says, walked}
 use Rattle.model.specs.Settings.{maxNodes}
-use Rattle.checks.specs.Given.{settingsOf}
-use Rattle.checks.specs.declared.Settings.{Settings}
-use Rattle.checks.proofs.Settings as S
-use Rattle.checks.proofs.Settings.Laws as S′
+use Rattle.refuse.specs.Given.{settingsOf}
+use Rattle.refuse.specs.declared.Settings.{Settings}
+use Rattle.refuse.proofs.Settings as S
+use Rattle.refuse.proofs.Settings.Laws as S′
 use Rattle.layout.specs.declared.MaNode.{MaNode}
 use Rattle.layout.specs.declared.Span.{Span}
 use Rattle.records.specs.Records.{filled}
@@ -68,9 +68,9 @@ use Rattle.records.proofs.to_spans as to-spans
 use Rattle.records.proofs.to_spans.Symbol as to-spans-def
 use Rattle.records.proofs.to_spans.Symbol.{name as #to-spans}
 use Rattle.records.proofs.to_spans.Met as to-spans-thm
-use Rattle.numbers.specs.Lists.{Worked}
-use Rattle.numbers.specs.declared.Work.{Work}
-use Rattle.numbers.specs.Numbers.{copied, Arrays, Numbered}
+use Rattle.border.specs.Lists.{Worked}
+use Rattle.border.specs.declared.Work.{Work}
+use Rattle.border.specs.Numbers.{copied, Arrays, Numbered}
 use Rattle.ma_tree.proofs.Copied.{copied-there, copied-most, most-fits, copied-long, has-places, numbered}
 use Rattle.ma_tree.proofs.Copying.{ToCopy, of-room, counts, counted, FromRecords, to-take, Seen, holding, holding-lens, copies-in, comes-out}
 use Rattle.ma_tree.proofs.Passing.{Es, listed}
@@ -80,15 +80,15 @@ use Rattle.ma_tree.proofs.Zeros.{As, allWords, allValues, zeros, zeros-
 use Rattle.ma_tree.proofs.Zeros.{vacant, rows-rooms}
 use Rattle.answers.proofs.LearnedTree as L
 use Rattle.answers.proofs.LearnedTree.Laws as L′
-use Rattle.numbers.proofs.Work as D
-use Rattle.numbers.proofs.Work.Laws as D′
-use Rattle.numbers.proofs.to_copy.Symbol as to-copy-def
-use Rattle.numbers.proofs.to_copy.Symbol.{name as #to-copy}
-use Rattle.numbers.proofs.to_copy.Met as to-copy-thm
-use Rattle.numbers.proofs.work_on as work-on
-use Rattle.numbers.proofs.work_on.Symbol as work-on-def
-use Rattle.numbers.proofs.work_on.Symbol.{name as #work-on}
-use Rattle.numbers.proofs.work_on.Met as work-on-thm
+use Rattle.border.proofs.Work as D
+use Rattle.border.proofs.Work.Laws as D′
+use Rattle.border.proofs.to_copy.Symbol as to-copy-def
+use Rattle.border.proofs.to_copy.Symbol.{name as #to-copy}
+use Rattle.border.proofs.to_copy.Met as to-copy-thm
+use Rattle.border.proofs.work_on as work-on
+use Rattle.border.proofs.work_on.Symbol as work-on-def
+use Rattle.border.proofs.work_on.Symbol.{name as #work-on}
+use Rattle.border.proofs.work_on.Met as work-on-thm
 use Rattle.ma_tree.proofs.work.Key.{name as #work}
 use Rattle.ma_tree.proofs.work as f
 use Rattle.ma_tree.proofs.work.Statement as stated
@@ -503,8 +503,8 @@ work-spec 𝓤 H 𝓜 𝓖 𝓡 =
     (tables 𝓤 H 𝓜 𝓡 code.env .C) (tables 𝓤 H 𝓜 𝓡 code.env .Λ) #work code.function (code.unfolded 𝓤 H 𝓜 𝓡)
     (said-meets 𝓤 H (𝓖 .A) f.ended (f.clauses 𝓤 H (𝓖 .A) (𝓜 .mem) (𝓡 .run)) (givenOf 𝓤 H 𝓜 𝓖) (tablesOf 𝓤 H 𝓜 (tables 𝓤 H 𝓜 𝓡 code.env)) code.function
     (walks 𝓤 H (𝓖 .A) (givenOf 𝓤 H 𝓜 𝓖) (𝓜 .mem) (𝓡 .run) (tablesOf 𝓤 H 𝓜 (tables 𝓤 H 𝓜 𝓡 code.env))
-    (cited 𝓤 H (ToCopy 𝓤 H (𝓖 .A) (𝓜 .mem) (𝓡 .run)) 𝓜 𝓡 code.env #to-copy to-copy-def.routine code.calls-numbers·to-copy (to-copy-thm.met 𝓤 H 𝓜 𝓖 𝓡))
+    (cited 𝓤 H (ToCopy 𝓤 H (𝓖 .A) (𝓜 .mem) (𝓡 .run)) 𝓜 𝓡 code.env #to-copy to-copy-def.routine code.calls-border·to-copy (to-copy-thm.met 𝓤 H 𝓜 𝓖 𝓡))
     (cited 𝓤 H (FromRecords 𝓤 H (𝓖 .A) (𝓜 .mem) (𝓡 .run)) 𝓜 𝓡 code.env #from-records from-records-def.routine code.calls-records·from-records (from-records-thm.met 𝓤 H 𝓜 𝓖 𝓡))
-    (cited 𝓤 H (WorkOn 𝓤 H (𝓖 .A) (𝓜 .mem) (𝓡 .run)) 𝓜 𝓡 code.env #work-on work-on-def.routine code.calls-numbers·work-on (work-on-thm.met 𝓤 H 𝓜 𝓖 𝓡))
+    (cited 𝓤 H (WorkOn 𝓤 H (𝓖 .A) (𝓜 .mem) (𝓡 .run)) 𝓜 𝓡 code.env #work-on work-on-def.routine code.calls-border·work-on (work-on-thm.met 𝓤 H 𝓜 𝓖 𝓡))
     (cited 𝓤 H (ToRecords 𝓤 H (𝓖 .A) (𝓜 .mem) (𝓡 .run)) 𝓜 𝓡 code.env #to-records to-records-def.routine code.calls-records·to-records (to-records-thm.met 𝓤 H 𝓜 𝓖 𝓡))
     (cited 𝓤 H (ToSpans 𝓤 H (𝓖 .A) (𝓜 .mem) (𝓡 .run)) 𝓜 𝓡 code.env #to-spans to-spans-def.routine code.calls-records·to-spans (to-spans-thm.met 𝓤 H 𝓜 𝓖 𝓡))))
