@@ -2,10 +2,10 @@
 // call was accepted, and any other number is document 01's, with its place; the rest of a refusal is 0.
 ghost use mathlib.Core.Path.{_≡_};
 ghost use Rattle.model.specs.Operations.{answerOf};
-ghost use Rattle.sampling.specs.Sampled.{outcomeOf};
+ghost use Rattle.sampling.specs.Sampled.{sampleOutcome};
 ghost use Rattle.contexts.specs.Answers.{contextsCounted};
-ghost use Rattle.lent.specs.Answer.{outcomeOf as treeOutcome};
-ghost use Rattle.answers.specs.Answers.{valueIn, countIn, treeIn};
+ghost use Rattle.lent.specs.Answer.{treeOutcome};
+ghost use Rattle.answers.specs.Answers.{valueIn, countIn, learnedIn};
 use contexts::Contexts;
 use lent::Learned;
 use model::TokenValue;
@@ -21,7 +21,7 @@ pub struct Read {
 
 // The leaf of a lookup and its predictor.
 #[repr(C)]
-pub struct Leaf {
+pub struct FoundLeaf {
     pub number: u32,
     pub place: u32,
     pub leaf: u32,
@@ -82,7 +82,7 @@ pub fn contexts_answer(r: Contexts) -> Count
 }
 
 pub fn sampled_answer(r: Sampled) -> Count
-    ensures { λ a. ⌜ a ≡ countIn (outcomeOf r) ⌝ }
+    ensures { λ a. ⌜ a ≡ countIn (sampleOutcome r) ⌝ }
 {
     match r {
         Sampled::Picked(count) => Count {
@@ -99,7 +99,7 @@ pub fn sampled_answer(r: Sampled) -> Count
 }
 
 pub fn learned_answer(r: Learned) -> LearnedTree
-    ensures { λ a. ⌜ a ≡ treeIn (treeOutcome r) ⌝ }
+    ensures { λ a. ⌜ a ≡ learnedIn (treeOutcome r) ⌝ }
 {
     match r {
         Learned::Grown {

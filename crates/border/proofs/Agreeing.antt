@@ -21,8 +21,8 @@ use Rattle.lent.proofs.Read.{queue-read}
 use Rattle.layout.specs.Records.{storedOf, spanIs, spanRecord}
 use Rattle.layout.specs.declared.Span.{Span}
 use Rattle.answers.specs.declared.LearnedTree.{LearnedTree}
-use Rattle.answers.specs.Answers.{treeIn as treeAnswer}
-use Rattle.border.specs.Lists.{Lists, lentIn, nodeRecord, listsAfter, readAfter, learnRecords, deepenRecords, workOf, workRecords, Worked}
+use Rattle.answers.specs.Answers.{learnedIn}
+use Rattle.border.specs.Lists.{Records, lentIn, nodeRecord, recordsAfter, readAfter, learnRecords, deepenRecords, workOf, workRecords, Worked}
 
 -- ---- lists written over
 module _ {A B : Type 0} (f : A → B) where
@@ -39,7 +39,7 @@ module _ {A B : Type 0} (f : A → B) where
   map-written new l = map-append new (drop (length new) l) ∙ rw (map-drop (length new) l, length-map new f)
 
 -- ---- the lists after acceptance
-nodes-agree : (rs : List (Record singles)) (x : Lists) → map storedOf (writtenOver (map nodeRecord rs) (x .nodes)) ≡ writtenOver (map stored rs) (map storedOf (x .nodes))
+nodes-agree : (rs : List (Record singles)) (x : Records) → map storedOf (writtenOver (map nodeRecord rs) (x .nodes)) ≡ writtenOver (map stored rs) (map storedOf (x .nodes))
 nodes-agree rs x = map-written storedOf (map nodeRecord rs) (x .nodes) ∙ rw (map-map storedOf nodeRecord rs)
 
 -- spans made records and read again
@@ -47,15 +47,15 @@ spans-again : (l : List RowSpan) → map spanIs (map spanRecord l) ≡ l
 spans-again [] = refl
 spans-again (s ∷ l) = ap (λ (r : List RowSpan). s ∷ r) (spans-again l)
 
-spans-agree : (l : List RowSpan) (x : Lists) → map spanIs (writtenOver (map spanRecord l) (x .spans)) ≡ writtenOver l (map spanIs (x .spans))
+spans-agree : (l : List RowSpan) (x : Records) → map spanIs (writtenOver (map spanRecord l) (x .spans)) ≡ writtenOver l (map spanIs (x .spans))
 spans-agree l x = map-written spanIs (map spanRecord l) (x .spans) ∙ ap (λ (r : List RowSpan). writtenOver r (map spanIs (x .spans))) (spans-again l)
 
-lists-agree : (r : Result singles) (x : Lists) → lentIn (listsAfter r x) ≡ lentAfter r (lentIn x)
-unfolding listsAfter lentAfter
+lists-agree : (r : Result singles) (x : Records) → lentIn (recordsAfter r x) ≡ lentAfter r (lentIn x)
+unfolding recordsAfter lentAfter
 lists-agree r x = rw (nodes-agree (r .records) x, spans-agree (r .spans) x, queue-read (x .queue))
 
 -- ---- the operations
-module _ (t : Settings singles) (logs : List Float) (x : Lists) where
+module _ (t : Settings singles) (logs : List Float) (x : Records) where
   -- refused, or with this result
   abbrev pub refusal : Bool → ℕ → Option Refusal
   refusal seeded count = cond seeded (deepenRefusal single t logs count (lentIn x)) (learnRefusal single t logs (lentIn x))
@@ -65,7 +65,7 @@ module _ (t : Settings singles) (logs : List Float) (x : Lists) where
 
   -- record by record, and in the model's words
   by-records : (seeded : Bool) (count : ℕ)
-      → workRecords t logs seeded count x ≡ unless (refusal seeded count) x (treeOf (result seeded count)) (listsAfter (result seeded count) x)
+      → workRecords t logs seeded count x ≡ unless (refusal seeded count) x (treeOf (result seeded count)) (recordsAfter (result seeded count) x)
   unfolding learnRecords deepenRecords
   by-records true count = refl
   by-records false count = refl
@@ -77,7 +77,7 @@ module _ (t : Settings singles) (logs : List Float) (x : Lists) where
   by-model false count = refl
 
   -- the model reads the one as the other
-  read-unless : (o : Option Refusal) (r : Result singles) → readAfter (unless o x (treeOf r) (listsAfter r x)) ≡ unless o (lentIn x) (treeOf r) (lentAfter r (lentIn x))
+  read-unless : (o : Option Refusal) (r : Result singles) → readAfter (unless o x (treeOf r) (recordsAfter r x)) ≡ unless o (lentIn x) (treeOf r) (lentAfter r (lentIn x))
   read-unless (some f) r = refl
   read-unless none r = ap (λ (y : Lent singles). record { outcome = accepted (treeOf r); lent = y }) (lists-agree r x)
 
@@ -85,29 +85,29 @@ module _ (t : Settings singles) (logs : List Float) (x : Lists) where
   work-agrees seeded count = ap readAfter (by-records seeded count) ∙ read-unless (refusal seeded count) (result seeded count) ∙ sym (by-model seeded count)
 
   -- one equation of the answer and the lists at exit says all
-  module _ (seeded : Bool) (count : ℕ) {r : LearnedTree} {exit : Lists} where
-    worked : (o : Outcome (Tree singles)) → r ≡ treeAnswer o → _≡_ {A = After (Tree singles) Lists} (record { outcome = o; lent = exit }) (workRecords t logs seeded count x)
+  module _ (seeded : Bool) (count : ℕ) {r : LearnedTree} {exit : Records} where
+    worked : (o : Outcome (Tree singles)) → r ≡ learnedIn o → _≡_ {A = After (Tree singles) Records} (record { outcome = o; lent = exit }) (workRecords t logs seeded count x)
         → Worked t logs seeded count x exit r
     worked o is e =
         let agrees = work-agrees seeded count in
-        let answer : r ≡ treeAnswer (workRecords t logs seeded count x .outcome) = is ∙ ap (λ (z : After (Tree singles) Lists). treeAnswer (z .outcome)) e in
-        let left : exit ≡ workRecords t logs seeded count x .lent = ap (λ (z : After (Tree singles) Lists). z .lent) e in
+        let answer : r ≡ learnedIn (workRecords t logs seeded count x .outcome) = is ∙ ap (λ (z : After (Tree singles) Records). learnedIn (z .outcome)) e in
+        let left : exit ≡ workRecords t logs seeded count x .lent = ap (λ (z : After (Tree singles) Records). z .lent) e in
         record {
           answer = answer;
           lent = left;
-          answer-read = answer ∙ ap (λ (z : After (Tree singles) (Lent singles)). treeAnswer (z .outcome)) agrees;
+          answer-read = answer ∙ ap (λ (z : After (Tree singles) (Lent singles)). learnedIn (z .outcome)) agrees;
           lent-read = ap lentIn left ∙ ap (λ (z : After (Tree singles) (Lent singles)). z .lent) agrees;
         }
 
-    pub refused-worked : (f : Refusal) → refusal seeded count ≡ some f → r ≡ treeAnswer (refused f) → exit ≡ x → Worked t logs seeded count x exit r
+    pub refused-worked : (f : Refusal) → refusal seeded count ≡ some f → r ≡ learnedIn (refused f) → exit ≡ x → Worked t logs seeded count x exit r
     refused-worked f told is same =
         worked (refused f) is
-        (ap (λ (y : Lists). record { outcome = refused f; lent = y }) same
-        ∙ sym (by-records seeded count ∙ ap (λ (o : Option Refusal). unless o x (treeOf (result seeded count)) (listsAfter (result seeded count) x)) told))
+        (ap (λ (y : Records). record { outcome = refused f; lent = y }) same
+        ∙ sym (by-records seeded count ∙ ap (λ (o : Option Refusal). unless o x (treeOf (result seeded count)) (recordsAfter (result seeded count) x)) told))
 
-    pub accepted-worked : refusal seeded count ≡ none → r ≡ treeAnswer (accepted (treeOf (result seeded count))) → exit ≡ listsAfter (result seeded count) x
+    pub accepted-worked : refusal seeded count ≡ none → r ≡ learnedIn (accepted (treeOf (result seeded count))) → exit ≡ recordsAfter (result seeded count) x
         → Worked t logs seeded count x exit r
     accepted-worked told is same =
         worked (accepted (treeOf (result seeded count))) is
-        (ap (λ (y : Lists). record { outcome = accepted (treeOf (result seeded count)); lent = y }) same
-        ∙ sym (by-records seeded count ∙ ap (λ (o : Option Refusal). unless o x (treeOf (result seeded count)) (listsAfter (result seeded count) x)) told))
+        (ap (λ (y : Records). record { outcome = accepted (treeOf (result seeded count)); lent = y }) same
+        ∙ sym (by-records seeded count ∙ ap (λ (o : Option Refusal). unless o x (treeOf (result seeded count)) (recordsAfter (result seeded count) x)) told))

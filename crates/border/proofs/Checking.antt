@@ -45,10 +45,10 @@ use Rattle.layout.specs.Waiting.{QueueLists}
 use Rattle.learn.specs.Learns.{Learnable}
 use Rattle.deepen.specs.Deepens.{Deepenable}
 use Rattle.deepen.proofs.Seeding.{accepted-seedable}
-use Rattle.answers.specs.Answers.{treeIn as treeAnswer}
+use Rattle.answers.specs.Answers.{learnedIn}
 use Rattle.answers.specs.declared.LearnedTree.{LearnedTree}
 use Rattle.records.specs.Records.{filled}
-use Rattle.border.specs.Lists.{Lists, lists, lentIn, Worked}
+use Rattle.border.specs.Lists.{Records, records, lentIn, Worked}
 use Rattle.border.specs.declared.Work.{Work}
 use Rattle.border.specs.Numbers.{copied, Numbered}
 use Rattle.border.proofs.Rooms.{too-many}
@@ -57,7 +57,7 @@ use Rattle.border.proofs.Written.{Fitted, lists-back}
 use Rattle.border.proofs.Agreeing.{refusal, result, refused-worked, accepted-worked}
 
 -- the rooms that the code counts are those that the model reads
-pub lends-records : (x : Lists) (room : Rooms) → room .nodes ≡ length (x .nodes) → room .spans ≡ length (x .spans)
+pub lends-records : (x : Records) (room : Rooms) → room .nodes ≡ length (x .nodes) → room .spans ≡ length (x .spans)
     → room .queue ≡ leavesLent (x .queue .words) (x .queue .values) (x .queue .gains) → room .counts ≡ length (x .counts) → Lends (x .rows .props) (x .rows .toks) (x .rows .res) room (lentIn x)
 unfolding storedQueue
 lends-records x room n s q c =
@@ -74,10 +74,10 @@ lends-records x room n s q c =
     }
 
 -- a finished tree that is the model's result is its answer
-same-answer : {r : Finished} (made : Result singles) → LearnedAs made r → treeAnswer (accepted (answerOf r)) ≡ treeAnswer (accepted (treeOf made))
-same-answer made l = λ i. treeAnswer (accepted (record { nodes = l .counted i; leaves = l .leaves i; bits = l .summed i; flat = l .flat i }))
+same-answer : {r : Finished} (made : Result singles) → LearnedAs made r → learnedIn (accepted (answerOf r)) ≡ learnedIn (accepted (treeOf made))
+same-answer made l = λ i. learnedIn (accepted (record { nodes = l .counted i; leaves = l .leaves i; bits = l .summed i; flat = l .flat i }))
 
-module _ (s : Settings) (logs : List Float) (x : Lists) {rows : ℕ} where
+module _ (s : Settings) (logs : List Float) (x : Records) {rows : ℕ} where
   -- ---- learning
   module _ (a : Accepted s logs (lentIn x) rows) where
     pub learnable : (n : NodeLists) → HasRoom maxNodes n → Learnable s logs (core.lists (x .rows) n (x .queue) (x .counts)) rows
@@ -143,13 +143,13 @@ module _ (s : Settings) (logs : List Float) (x : Lists) {rows : ℕ} where
             record { paired = paired; nodes-fit = omega arith; spans-fit = omega arith; few = omega arith }
 
 -- ---- what the core made, copied back
-module _ (t : Job singles) (logs : List Float) (x : Lists) (seeded : Bool) (count : ℕ) (passes : refusal t logs x seeded count ≡ none)
+module _ (t : Job singles) (logs : List Float) (x : Records) (seeded : Bool) (count : ℕ) (passes : refusal t logs x seeded count ≡ none)
     (fits : Fitted (result t logs x seeded count) (length (x .nodes)) (length (x .spans))) where
   pub work-done : (made : Result singles) → made ≡ result t logs x seeded count → (n n′ : NodeLists) {rows′ : Flat} {queue′ : QueueLists} {counts′ : List ℕ} {fin : Finished}
       → LearnedAs made fin → core.lists rows′ n′ queue′ counts′ ≡ core.listsAfter made (core.lists (x .rows) n (x .queue) (x .counts))
-      → (w : Work) → w .tree ≡ treeAnswer (accepted (answerOf fin)) → w .written ≡ fin .written
+      → (w : Work) → w .tree ≡ learnedIn (accepted (answerOf fin)) → w .written ≡ fin .written
       → Worked t logs seeded count x
-      (lists rows′ (filled (nodeOf (n′ .words) (n′ .values) (n′ .costs)) (w .written) (x .nodes)) (filled (spanIn (n′ .words)) (w .written) (x .spans)) queue′ counts′) (w .tree)
+      (records rows′ (filled (nodeOf (n′ .words) (n′ .values) (n′ .costs)) (w .written) (x .nodes)) (filled (spanIn (n′ .words)) (w .written) (x .spans)) queue′ counts′) (w .tree)
   work-done made same n n′ {rows′} {queue′} {counts′} {fin} learned left w told many =
       let r = result t logs x seeded count in
       let l = subst (λ (m : Result singles). LearnedAs m fin) same learned in
@@ -167,14 +167,14 @@ module _ (t : Job singles) (logs : List Float) (x : Lists) (seeded : Bool) (coun
       (omega arith, omega arith, omega arith)
 
 -- ---- a refusal writes nothing
-module _ (t : Job singles) (logs : List Float) (x : Lists) (seeded : Bool) (count : ℕ) where
-  pub work-refused : (f : Refusal) → refusal t logs x seeded count ≡ some f → (n : NodeLists) (w : Work) → w ≡ record { tree = treeAnswer (refused f); written = 0 }
+module _ (t : Job singles) (logs : List Float) (x : Records) (seeded : Bool) (count : ℕ) where
+  pub work-refused : (f : Refusal) → refusal t logs x seeded count ≡ some f → (n : NodeLists) (w : Work) → w ≡ record { tree = learnedIn (refused f); written = 0 }
       → Worked t logs seeded count x
-      (lists (x .rows) (filled (nodeOf (n .words) (n .values) (n .costs)) (w .written) (x .nodes)) (filled (spanIn (n .words)) (w .written) (x .spans)) (x .queue) (x .counts)) (w .tree)
+      (records (x .rows) (filled (nodeOf (n .words) (n .values) (n .costs)) (w .written) (x .nodes)) (filled (spanIn (n .words)) (w .written) (x .spans)) (x .queue) (x .counts)) (w .tree)
   work-refused f told n w is =
       let none-written = ap (λ (v : Work). v .written) is in
       refused-worked t logs x seeded count f told (ap (λ (v : Work). v .tree) is)
-      (ap (λ (k : ℕ). lists (x .rows) (filled (nodeOf (n .words) (n .values) (n .costs)) k (x .nodes)) (filled (spanIn (n .words)) k (x .spans)) (x .queue) (x .counts)) none-written)
+      (ap (λ (k : ℕ). records (x .rows) (filled (nodeOf (n .words) (n .values) (n .costs)) k (x .nodes)) (filled (spanIn (n .words)) k (x .spans)) (x .queue) (x .counts)) none-written)
 
 pub none-written : (w : Work) {tree : LearnedTree} (a b : ℕ) → w ≡ record { tree = tree; written = 0 } → (w .written ≤ maxNodes) × (w .written ≤ a) × (w .written ≤ b)
 none-written w a b is =

@@ -22,7 +22,7 @@ use Rattle.records.specs.Records.{filled}
 use Rattle.layout.specs.Records.{recordOf, nodeOf, spanRecord, spanIn}
 use Rattle.layout.specs.declared.MaNode.{MaNode}
 use Rattle.layout.specs.declared.Span.{Span}
-use Rattle.border.specs.Lists.{Lists, lists, nodeRecord, listsAfter}
+use Rattle.border.specs.Lists.{Records, records, nodeRecord, recordsAfter}
 
 -- ---- a list filled from the front
 module _ {X : Type 0} (f : ℕ → X) (l : List X) where
@@ -66,10 +66,10 @@ pub record Fitted (r : Result singles) (nodes spans : ℕ) : Type 0 where
   pub few : length (r .spans) ≤ maxNodes
 
 -- the lists at exit
-pub lists-back : (r : Result singles) (x : Lists) (n n′ : NodeLists) (rows′ : Flat) (queue′ : QueueLists) (counts′ : List ℕ) (written : ℕ) → Fitted r (length (x .nodes)) (length (x .spans))
+pub lists-back : (r : Result singles) (x : Records) (n n′ : NodeLists) (rows′ : Flat) (queue′ : QueueLists) (counts′ : List ℕ) (written : ℕ) → Fitted r (length (x .nodes)) (length (x .spans))
     → written ≡ length (r .spans) → core.lists rows′ n′ queue′ counts′ ≡ core.listsAfter r (core.lists (x .rows) n (x .queue) (x .counts))
-    → lists rows′ (filled (nodeOf (n′ .words) (n′ .values) (n′ .costs)) written (x .nodes)) (filled (spanIn (n′ .words)) written (x .spans)) queue′ counts′ ≡ listsAfter r x
-unfolding core.listsAfter listsAfter
+    → records rows′ (filled (nodeOf (n′ .words) (n′ .values) (n′ .costs)) written (x .nodes)) (filled (spanIn (n′ .words)) written (x .spans)) queue′ counts′ ≡ recordsAfter r x
+unfolding core.listsAfter recordsAfter
 lists-back r x n n′ rows′ queue′ counts′ written f is e =
     let many : written ≡ length (r .records) = is ∙ f .paired in
     let p = f .paired in

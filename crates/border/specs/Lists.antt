@@ -25,31 +25,31 @@ use Rattle.layout.specs.Records.{storedOf, recordOf, spanIs, spanRecord}
 use Rattle.layout.specs.declared.MaNode.{MaNode}
 use Rattle.layout.specs.declared.Span.{Span}
 use Rattle.answers.specs.declared.LearnedTree.{LearnedTree}
-use Rattle.answers.specs.Answers.{treeIn as treeAnswer}
+use Rattle.answers.specs.Answers.{learnedIn}
 
 -- rows; node records; span records; queue; count space
-pub record Lists : Type 0 where
+pub record Records : Type 0 where
   pub rows : Flat
   pub nodes : List MaNode
   pub spans : List Span
   pub queue : QueueLists
   pub counts : List ℕ
 
-abbrev pub lists : Flat → List MaNode → List Span → QueueLists → List ℕ → Lists
-lists rows nodes spans queue counts = record { rows = rows; nodes = nodes; spans = spans; queue = queue; counts = counts }
+abbrev pub records : Flat → List MaNode → List Span → QueueLists → List ℕ → Records
+records rows nodes spans queue counts = record { rows = rows; nodes = nodes; spans = spans; queue = queue; counts = counts }
 
 -- what lent lists hold, with these records
-abbrev pub listsWith : List MaNode → List Span → RefT (List ℤ) → RefT (List ℕ) → RefT (List ℤ) → RefT (List ℕ) → RefT (List ℤ)
-    → RefT (List Float) → RefT (List ℕ) → Lists
-listsWith nodes spans props tok res queueWords queueValues queueGains counts =
-    lists (flat (now props) (now tok) (now res)) nodes spans (queueNow queueWords queueValues queueGains) (now counts)
+abbrev pub recordsWith : List MaNode → List Span → RefT (List ℤ) → RefT (List ℕ) → RefT (List ℤ) → RefT (List ℕ) → RefT (List ℤ)
+    → RefT (List Float) → RefT (List ℕ) → Records
+recordsWith nodes spans props tok res queueWords queueValues queueGains counts =
+    records (flat (now props) (now tok) (now res)) nodes spans (queueNow queueWords queueValues queueGains) (now counts)
 
 -- and those lent to contexts
 abbrev pub contextsNow : RefT (List ℕ) → RefT (List ℕ) → ContextLists
 contextsNow contexts queue = record { contexts = now contexts; queue = now queue }
 
 -- what the model reads in them
-abbrev pub lentIn : Lists → Lent singles
+abbrev pub lentIn : Records → Lent singles
 lentIn x =
     record {
       props = x .rows .props;
@@ -66,8 +66,8 @@ abbrev pub nodeRecord : Record singles → MaNode
 nodeRecord r = recordOf (stored r)
 
 -- after acceptance: the rows in their new order, the nodes and spans written, and what lies past them unchanged; queue and count space hold zeros
-unfoldable pub listsAfter : Result singles → Lists → Lists
-listsAfter r x =
+unfoldable pub recordsAfter : Result singles → Records → Records
+recordsAfter r x =
     record {
       rows = flatOf (hasResiduals (x .rows)) (r .rows);
       nodes = writtenOver (map nodeRecord (r .records)) (x .nodes);
@@ -77,35 +77,35 @@ listsAfter r x =
     }
 
 -- what the model reads in the lists at exit
-abbrev pub readAfter : {A : Type 0} → After A Lists → After A (Lent singles)
+abbrev pub readAfter : {A : Type 0} → After A Records → After A (Lent singles)
 readAfter a = record { outcome = a .outcome; lent = lentIn (a .lent) }
 
 -- ---- the operations, record by record: a refusal leaves every list as it was
 module _ (t : Settings singles) (logs : List Float) where
-  unfoldable pub learnRecords : Lists → After (Tree singles) Lists
+  unfoldable pub learnRecords : Records → After (Tree singles) Records
   learnRecords x =
       let r = learned (jobOf single t logs (usesModes t (lentIn x))) (t .limit) (rowsIn (lentIn x)) in
       let answer = treeOf r in
-      let exit = listsAfter r x in
+      let exit = recordsAfter r x in
       unless (learnRefusal single t logs (lentIn x)) x answer exit
 
-  unfoldable pub deepenRecords : ℕ → Lists → After (Tree singles) Lists
+  unfoldable pub deepenRecords : ℕ → Records → After (Tree singles) Records
   deepenRecords count x =
       let r = deepened (jobOf single t logs (usesModes t (lentIn x))) (t .limit) (treeIn count (lentIn x .nodes)) (rowsIn (lentIn x)) in
       let answer = treeOf r in
-      let exit = listsAfter r x in
+      let exit = recordsAfter r x in
       unless (deepenRefusal single t logs count (lentIn x)) x answer exit
 
   -- deepening of the first `count` nodes if there is a seed, else learning; the model's operation, and the same record by record
   abbrev pub workOf : Bool → ℕ → Lent singles → After (Tree singles) (Lent singles)
   workOf seeded count x = cond seeded (deepen single t logs count x) (learn single t logs x)
 
-  abbrev pub workRecords : Bool → ℕ → Lists → After (Tree singles) Lists
+  abbrev pub workRecords : Bool → ℕ → Records → After (Tree singles) Records
   workRecords seeded count x = cond seeded (deepenRecords count x) (learnRecords x)
 
   -- the answer and the lists at exit are the operation's, record by record and in the model's words
-  pub record Worked (seeded : Bool) (count : ℕ) (entry exit : Lists) (r : LearnedTree) : Type 0 where
-    pub answer : r ≡ treeAnswer (workRecords seeded count entry .outcome)
+  pub record Worked (seeded : Bool) (count : ℕ) (entry exit : Records) (r : LearnedTree) : Type 0 where
+    pub answer : r ≡ learnedIn (workRecords seeded count entry .outcome)
     pub lent : exit ≡ workRecords seeded count entry .lent
-    pub answer-read : r ≡ treeAnswer (workOf seeded count (lentIn entry) .outcome)
+    pub answer-read : r ≡ learnedIn (workOf seeded count (lentIn entry) .outcome)
     pub lent-read : lentIn exit ≡ workOf seeded count (lentIn entry) .lent

@@ -17,8 +17,8 @@ ghost use Rattle.lent.specs.Answer.{answerOf};
 ghost use Rattle.lent.specs.Lists.{leavesLent};
 ghost use Rattle.layout.specs.Layout.{HasWords, HasValues};
 ghost use Rattle.model.specs.Settings.{maxNodes};
-ghost use Rattle.answers.specs.Answers.{countIn, treeIn};
-ghost use Rattle.border.specs.Lists.{listsWith, contextsNow, Worked};
+ghost use Rattle.answers.specs.Answers.{countIn, learnedIn};
+ghost use Rattle.border.specs.Lists.{recordsWith, contextsNow, Worked};
 ghost use Rattle.border.specs.Numbers.{copied, Arrays, Numbered};
 use answers::Count;
 use answers::LearnedTree;
@@ -71,7 +71,8 @@ fn rooms_of(
 
 // A refusal writes nothing.
 fn refused(number: u32, place: u32) -> Work
-    ensures { λ r. ⌜ r ≡ record { tree = treeIn (refused (record { number = number; place = place })); written = 0 } ⌝ }
+    ensures { λ r. ⌜ r
+        ≡ record { tree = learnedIn (refused (record { number = number; place = place })); written = 0 } ⌝ }
 {
     Work {
         tree: answers::learned_answer(Learned::Refused { number, place }),
@@ -82,7 +83,7 @@ fn refused(number: u32, place: u32) -> Work
 // What a finished tree comes to.
 fn finished(tree: Finished) -> Work
     requires { ⌜ tree .nodes ≤ maxNodes ⌝ }
-    ensures told { λ r. ⌜ r .tree ≡ treeIn (accepted (answerOf tree)) ⌝ }
+    ensures told { λ r. ⌜ r .tree ≡ learnedIn (accepted (answerOf tree)) ⌝ }
     ensures many { λ r. ⌜ r .written ≡ tree .written ⌝ }
 {
     Work {
@@ -112,9 +113,9 @@ pub fn learn_on<'a, 'b>(
     ensures few { λ r. ⌜ (r .written ≤ maxNodes) × (r .written ≤ «node_room») × (r .written ≤ «span_room») ⌝ }
     ensures worked { λ r. ⌜ ((nodes : List MaNode) (given : List Span) (count : ℕ)
         → «node_room» ≡ length nodes → «span_room» ≡ length given
-        → (let x = listsWith nodes given (props .entry) (tok .entry) (res .entry)
+        → (let x = recordsWith nodes given (props .entry) (tok .entry) (res .entry)
         («queue_words» .entry) («queue_values» .entry) («queue_gains» .entry) (counts .entry) in
-        let y = listsWith
+        let y = recordsWith
         (filled (nodeOf (now (words .exit)) (now (values .exit)) (now (costs .exit))) (r .written) nodes)
         (filled (spanIn (now (words .exit))) (r .written) given) (props .exit) (tok .exit) (res .exit)
         («queue_words» .exit) («queue_values» .exit) («queue_gains» .exit) (counts .exit) in
@@ -173,9 +174,9 @@ pub fn deepen_on<'a, 'b>(
         → Numbered (copied true count (length nodes)) nodes
         (now (words .entry)) (now (values .entry)) (now (costs .entry))
         → «node_room» ≡ length nodes → «span_room» ≡ length given
-        → (let x = listsWith nodes given (props .entry) (tok .entry) (res .entry)
+        → (let x = recordsWith nodes given (props .entry) (tok .entry) (res .entry)
         («queue_words» .entry) («queue_values» .entry) («queue_gains» .entry) (counts .entry) in
-        let y = listsWith
+        let y = recordsWith
         (filled (nodeOf (now (words .exit)) (now (values .exit)) (now (costs .exit))) (r .written) nodes)
         (filled (spanIn (now (words .exit))) (r .written) given) (props .exit) (tok .exit) (res .exit)
         («queue_words» .exit) («queue_values» .exit) («queue_gains» .exit) (counts .exit) in
@@ -243,9 +244,9 @@ pub fn work_on<'a, 'b>(
         → Numbered (copied seeded count (length nodes)) nodes
         (now (words .entry)) (now (values .entry)) (now (costs .entry))
         → «node_room» ≡ length nodes → «span_room» ≡ length given
-        → (let x = listsWith nodes given (props .entry) (tok .entry) (res .entry)
+        → (let x = recordsWith nodes given (props .entry) (tok .entry) (res .entry)
         («queue_words» .entry) («queue_values» .entry) («queue_gains» .entry) (counts .entry) in
-        let y = listsWith
+        let y = recordsWith
         (filled (nodeOf (now (words .exit)) (now (values .exit)) (now (costs .exit))) (r .written) nodes)
         (filled (spanIn (now (words .exit))) (r .written) given) (props .exit) (tok .exit) (res .exit)
         («queue_words» .exit) («queue_values» .exit) («queue_gains» .exit) (counts .exit) in

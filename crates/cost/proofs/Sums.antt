@@ -13,7 +13,7 @@ use lib.Seq.{drop-cons}
 use lib.Ieee.{Float, binary32, add, sub, mul, inFloat}
 use Rattle.model.specs.Settings.{maxRows}
 use Rattle.model.specs.Token.{extraCount}
-use Rattle.model.specs.Single.{single, singles}
+use Rattle.model.specs.Single.{singleOf, singles}
 use Rattle.model.specs.Cost.{logOf, withCount, entropyFrom, extraFrom}
 use Rattle.model.proofs.Places.{getD-any}
 use Rattle.model.proofs.Histogram.{sumOf, extraFrom-le}
@@ -45,10 +45,10 @@ module _ (logs : List Float) (top : Float) where
   withCount-none bits (suc c) h = absurd (omega arith)
 
   pub withCount-some : (bits : Float) (c : ℕ) (d : Float) → (c ≡ 0 → ⊥) → c < length logs
-      → withCount singles logs top bits c ≡ add binary32 bits (mul binary32 (single c) (sub binary32 top (getD logs c d)))
+      → withCount singles logs top bits c ≡ add binary32 bits (mul binary32 (singleOf c) (sub binary32 top (getD logs c d)))
   unfolding withCount logOf
   withCount-some bits zero d h l = absurd (h refl)
-  withCount-some bits (suc c) d h l = ap (λ (x : Float). add binary32 bits (mul binary32 (single (suc c)) (sub binary32 top x))) (getD-any logs (suc c) (singles .nought) d l)
+  withCount-some bits (suc c) d h l = ap (λ (x : Float). add binary32 bits (mul binary32 (singleOf (suc c)) (sub binary32 top x))) (getD-any logs (suc c) (singles .nought) d l)
 
   -- a turn of the loop that adds count i: the sum so far, with what is left, stays the whole
   pub entropy-turn : (hist : List ℕ) (i : ℕ) (bits next whole : Float) → i < length hist → next ≡ withCount singles logs top bits (getD hist i 0)

@@ -11,9 +11,9 @@ use Rattle.lent.specs.declared.Learned.{Learned}
 use Rattle.lent.specs.declared.Learned.the-variants.{Grown, Refused}
 
 -- node count, leaf count, estimated bits and flat bits, or the number of the refusal and its place
-abbrev pub outcomeOf : Learned → Outcome (Tree singles)
-outcomeOf (Grown nodes leaves bits flat) = accepted (record { nodes = nodes; leaves = leaves; bits = bits; flat = flat })
-outcomeOf (Refused number place) = refused (record { number = number; place = place })
+abbrev pub treeOutcome : Learned → Outcome (Tree singles)
+treeOutcome (Grown nodes leaves bits flat) = accepted (record { nodes = nodes; leaves = leaves; bits = bits; flat = flat })
+treeOutcome (Refused number place) = refused (record { number = number; place = place })
 
 -- a finished tree, which has one leaf more than splits
 abbrev pub answerOf : Finished → Tree singles
@@ -21,7 +21,7 @@ answerOf r = record { nodes = r .nodes; leaves = (r .nodes + 1) / 2; bits = r .b
 
 -- the answer, and what the lent lists hold at exit
 abbrev pub after : {L : Type 0} → Learned → L → After (Tree singles) L
-after r x = record { outcome = outcomeOf r; lent = x }
+after r x = record { outcome = treeOutcome r; lent = x }
 
 -- the finished tree is the model's result: its nodes and leaves, how many entries were written, and its bits
 pub record LearnedAs (made : Result singles) (r : Finished) : Type 0 where

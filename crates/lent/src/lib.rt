@@ -11,7 +11,7 @@ ghost use Rattle.model.specs.Rows.{rowsHeld};
 ghost use Rattle.model.specs.Operations.{accepted};
 ghost use Rattle.refuse.specs.Given.{settingsOf};
 ghost use Rattle.lent.specs.Lists.{leavesLent};
-ghost use Rattle.lent.specs.Answer.{outcomeOf, answerOf};
+ghost use Rattle.lent.specs.Answer.{treeOutcome, answerOf};
 ghost use Rattle.lent.specs.Starts.{Flattened};
 use refuse::Settings;
 
@@ -78,7 +78,7 @@ pub fn flat_bits(
 // The answer for a finished tree.
 pub fn answer(tree: Finished) -> Learned
     requires { ⌜ tree .nodes ≤ maxNodes ⌝ }
-    ensures { λ r. ⌜ outcomeOf r ≡ accepted (answerOf tree) ⌝ }
+    ensures { λ r. ⌜ treeOutcome r ≡ accepted (answerOf tree) ⌝ }
 {
     let nodes = tree.nodes;
     Learned::Grown {

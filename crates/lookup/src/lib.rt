@@ -5,7 +5,7 @@ ghost use mathlib.Core.Bool.{true, false};
 ghost use mathlib.Core.List.{List};
 ghost use lib.IntN.{ℤ};
 ghost use Rattle.lookup.specs.Ways.{isSplit, goesOn, refusedAt, begun, stepped, OneRow};
-use answers::Leaf;
+use answers::FoundLeaf;
 use layout::MaNode;
 use layout::NodeNumber;
 
@@ -16,7 +16,7 @@ const SPLIT: u32 = 1;
 pub struct Way {
     pub on: bool,
     pub node: NodeNumber,
-    pub end: Leaf,
+    pub end: FoundLeaf,
 }
 
 fn go_on(node: NodeNumber) -> Way
@@ -25,7 +25,7 @@ fn go_on(node: NodeNumber) -> Way
     Way {
         on: true,
         node,
-        end: Leaf {
+        end: FoundLeaf {
             number: 0,
             place: 0,
             leaf: 0,
@@ -41,7 +41,7 @@ fn refuse(number: u32, node: NodeNumber) -> Way
     Way {
         on: false,
         node,
-        end: Leaf {
+        end: FoundLeaf {
             number,
             place: node.0,
             leaf: 0,
@@ -75,7 +75,7 @@ fn end_at(m: MaNode, node: NodeNumber) -> Way
     Way {
         on: false,
         node,
-        end: Leaf {
+        end: FoundLeaf {
             number: 0,
             place: 0,
             leaf: node.0,

@@ -42,7 +42,7 @@ use Rattle.layout.proofs.Span as P
 use Rattle.records.proofs.Rows.{Lists, Spots, Names, Mutss, refs, valued, same}
 use Rattle.answers.specs.declared.LearnedTree.{LearnedTree}
 use Rattle.border.specs.Lists as R
-use Rattle.border.specs.Lists.{lists, Worked}
+use Rattle.border.specs.Lists.{records, Worked}
 use Rattle.answers.proofs.LearnedTree as L
 use Rattle.answers.proofs.LearnedTree.Laws as L′
 use Rattle.ma_tree.proofs.work as work
@@ -54,7 +54,7 @@ Es = i32 ∷ u8 ∷ i32 ∷ u32 ∷ i32 ∷ f32 ∷ u32 ∷ []
 -- all that is lent as one value
 abbrev pub listed : List MaNode → List Span → Lists Es → R.Lists
 listed ms ss zs =
-    lists (flat (zs .0) (zs .1 .0) (zs .1 .1 .0)) ms ss (queueLists (zs .1 .1 .1 .0) (zs .1 .1 .1 .1 .0) (zs .1 .1 .1 .1 .1 .0)) (zs .1 .1 .1 .1 .1 .1 .0)
+    records (flat (zs .0) (zs .1 .0) (zs .1 .1 .0)) ms ss (queueLists (zs .1 .1 .1 .0) (zs .1 .1 .1 .1 .0) (zs .1 .1 .1 .1 .1 .0)) (zs .1 .1 .1 .1 .1 .1 .0)
 
 abbrev pub Work : {M : Type 1} (𝓤 : URA M) (H : Heap 𝓤) (A : Atoms 𝓤) (mem : Memory → SProp 𝓤) (run : Routine → Fun 𝓤) → Contract 𝓤
 Work 𝓤 H A mem run = tripleOf 𝓤 H A work.signature (work.spec 𝓤 H A mem run)

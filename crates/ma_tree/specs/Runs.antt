@@ -16,34 +16,34 @@ use Rattle.refuse.specs.declared.Settings.{Settings}
 use Rattle.layout.specs.Records.{storedOf}
 use Rattle.layout.specs.declared.MaNode.{MaNode}
 use Rattle.layout.specs.declared.Span.{Span}
-use Rattle.answers.specs.Answers.{valueIn, foundIn, countIn, treeIn}
+use Rattle.answers.specs.Answers.{valueIn, foundIn, countIn, learnedIn}
 use Rattle.answers.specs.declared.Count.{Count}
-use Rattle.answers.specs.declared.Leaf.{Leaf}
+use Rattle.answers.specs.declared.FoundLeaf.{FoundLeaf}
 use Rattle.answers.specs.declared.LearnedTree.{LearnedTree}
 use Rattle.answers.specs.declared.Read.{Read}
-use Rattle.border.specs.Lists.{Lists, listsWith, lentIn, learnRecords, deepenRecords}
+use Rattle.border.specs.Lists.{Records, recordsWith, lentIn, learnRecords, deepenRecords}
 
 -- what the lists lent to learning or deepening hold, in the order of the parameters
-abbrev pub listsNow : RefT (List MaNode) → RefT (List Span) → RefT (List ℤ) → RefT (List ℕ) → RefT (List ℤ)
-    → RefT (List ℕ) → RefT (List ℤ) → RefT (List Float) → RefT (List ℕ) → Lists
-listsNow nodes spans props tok res words values gains counts =
-    listsWith (now nodes) (now spans) props tok res words values gains counts
+abbrev pub recordsNow : RefT (List MaNode) → RefT (List Span) → RefT (List ℤ) → RefT (List ℕ) → RefT (List ℤ)
+    → RefT (List ℕ) → RefT (List ℤ) → RefT (List Float) → RefT (List ℕ) → Records
+recordsNow nodes spans props tok res words values gains counts =
+    recordsWith (now nodes) (now spans) props tok res words values gains counts
 
 -- ---- learning and deepening: settings s, logarithms and lists x are handed in, the answer is r, and the lists are left as y
-pub record Learning (s : Settings) (logs : List Float) (x : Lists) (r : LearnedTree) (y : Lists) : Type 0 where
-  pub answers : r ≡ treeIn (learn single (settingsOf s) logs (lentIn x) .outcome)
+pub record Learning (s : Settings) (logs : List Float) (x : Records) (r : LearnedTree) (y : Records) : Type 0 where
+  pub answers : r ≡ learnedIn (learn single (settingsOf s) logs (lentIn x) .outcome)
   pub leaves : lentIn y ≡ learn single (settingsOf s) logs (lentIn x) .lent
   -- the same, every record and every number, also those that belong to no whole waiting leaf
   pub leaves-whole : y ≡ learnRecords (settingsOf s) logs x .lent
 
 -- the seed is the first `count` nodes
-pub record Deepening (s : Settings) (logs : List Float) (count : ℕ) (x : Lists) (r : LearnedTree) (y : Lists) : Type 0 where
-  pub answers : r ≡ treeIn (deepen single (settingsOf s) logs count (lentIn x) .outcome)
+pub record Deepening (s : Settings) (logs : List Float) (count : ℕ) (x : Records) (r : LearnedTree) (y : Records) : Type 0 where
+  pub answers : r ≡ learnedIn (deepen single (settingsOf s) logs count (lentIn x) .outcome)
   pub leaves : lentIn y ≡ deepen single (settingsOf s) logs count (lentIn x) .lent
   pub leaves-whole : y ≡ deepenRecords (settingsOf s) logs count x .lent
 
 -- ---- lookup of a row's properties, and contexts, in the tree of the first `count` nodes
-abbrev pub LookingUp : List MaNode → ℕ → List ℤ → Leaf → Type 0
+abbrev pub LookingUp : List MaNode → ℕ → List ℤ → FoundLeaf → Type 0
 LookingUp nodes count ps r = r ≡ foundIn (lookup (map storedOf nodes) count ps)
 
 pub record Numbering (nodes : List MaNode) (count : ℕ) (x : ContextLists) (r : Count) (y : ContextLists) : Type 0 where

@@ -13,9 +13,9 @@ ghost use Rattle.refuse.specs.Given.{settingsOf};
 ghost use Rattle.layout.specs.Records.{storedOf};
 ghost use Rattle.answers.specs.Answers.{valueIn, foundIn};
 ghost use Rattle.border.specs.Lists.{Worked, contextsNow};
-ghost use Rattle.ma_tree.specs.Runs.{listsNow, Learning, Deepening, Numbering, Sampling};
+ghost use Rattle.ma_tree.specs.Runs.{recordsNow, Learning, Deepening, Numbering, Sampling};
 use answers::Count;
-use answers::Leaf;
+use answers::FoundLeaf;
 use answers::LearnedTree;
 use answers::Read;
 use layout::MaNode;
@@ -76,9 +76,9 @@ fn work<'n, 'a>(
     queue_gains: &'a mut [f32],
     counts: &'a mut [u32],
 ) -> LearnedTree
-    ensures { λ r. ⌜ (let x = listsNow (nodes .entry) (spans .entry) (props .entry) (tok .entry) (res .entry)
+    ensures { λ r. ⌜ (let x = recordsNow (nodes .entry) (spans .entry) (props .entry) (tok .entry) (res .entry)
         («queue_words» .entry) («queue_values» .entry) («queue_gains» .entry) (counts .entry) in
-        let y = listsNow (nodes .exit) (spans .exit) (props .exit) (tok .exit) (res .exit)
+        let y = recordsNow (nodes .exit) (spans .exit) (props .exit) (tok .exit) (res .exit)
         («queue_words» .exit) («queue_values» .exit) («queue_gains» .exit) (counts .exit) in
         Worked (settingsOf s) (now (logs .entry)) seeded count x y r) ⌝ }
 {
@@ -128,9 +128,9 @@ pub extern "C" fn ostrovuc_learn<'n, 'a>(
     queue_gains: &'a mut [f32],
     counts: &'a mut [u32],
 ) -> LearnedTree
-    ensures { λ r. ⌜ (let x = listsNow (nodes .entry) (spans .entry) (props .entry) (tok .entry) (res .entry)
+    ensures { λ r. ⌜ (let x = recordsNow (nodes .entry) (spans .entry) (props .entry) (tok .entry) (res .entry)
         («queue_words» .entry) («queue_values» .entry) («queue_gains» .entry) (counts .entry) in
-        let y = listsNow (nodes .exit) (spans .exit) (props .exit) (tok .exit) (res .exit)
+        let y = recordsNow (nodes .exit) (spans .exit) (props .exit) (tok .exit) (res .exit)
         («queue_words» .exit) («queue_values» .exit) («queue_gains» .exit) (counts .exit) in
         Learning s (now (logs .entry)) x r y) ⌝ }
 {
@@ -167,9 +167,9 @@ pub extern "C" fn ostrovuc_deepen<'n, 'a>(
     queue_gains: &'a mut [f32],
     counts: &'a mut [u32],
 ) -> LearnedTree
-    ensures { λ r. ⌜ (let x = listsNow (nodes .entry) (spans .entry) (props .entry) (tok .entry) (res .entry)
+    ensures { λ r. ⌜ (let x = recordsNow (nodes .entry) (spans .entry) (props .entry) (tok .entry) (res .entry)
         («queue_words» .entry) («queue_values» .entry) («queue_gains» .entry) (counts .entry) in
-        let y = listsNow (nodes .exit) (spans .exit) (props .exit) (tok .exit) (res .exit)
+        let y = recordsNow (nodes .exit) (spans .exit) (props .exit) (tok .exit) (res .exit)
         («queue_words» .exit) («queue_values» .exit) («queue_gains» .exit) (counts .exit) in
         Deepening s (now (logs .entry)) count x r y) ⌝ }
 {
@@ -195,7 +195,11 @@ pub extern "C" fn ostrovuc_deepen<'n, 'a>(
 // The leaf that 24 properties lead to in the tree of the first `count` nodes. Only the nodes met on the way are
 // looked at.
 #[no_mangle]
-pub extern "C" fn ostrovuc_lookup<'n, 'a>(nodes: &'n [MaNode], count: u32, props: &'a [i32]) -> Leaf
+pub extern "C" fn ostrovuc_lookup<'n, 'a>(
+    nodes: &'n [MaNode],
+    count: u32,
+    props: &'a [i32],
+) -> FoundLeaf
     ensures { λ r. ⌜ r ≡ foundIn (lookup (map storedOf (now (nodes .entry))) count (now (props .entry))) ⌝ }
 {
     let mut way = lookup::begin(nodes.len(), count, props);

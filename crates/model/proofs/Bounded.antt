@@ -17,8 +17,8 @@ use Rattle.ieee.specs.Within.{Within, Held, within-mono, add-within, sub-within
 use Rattle.model.specs.Settings.{Settings, maxRows}
 use Rattle.model.specs.Rows.{Row}
 use Rattle.model.specs.Cost.{histogram, extraFrom, logOf, withCount, entropyFrom, histogramCost, costOf}
-use Rattle.model.specs.Single.{singles, single}
-use Rattle.model.specs.Profile.{isBetween, single as learner}
+use Rattle.model.specs.Single.{singles, singleOf}
+use Rattle.model.specs.Profile.{isBetween, single}
 use Rattle.model.specs.Accepting.{LogsWithin}
 use Rattle.model.proofs.LogZero.{log-read}
 use Rattle.model.proofs.Keeping.{all-at}
@@ -39,8 +39,8 @@ count-within logs n bits (suc c) k l r h i w =
     let log = logOf singles logs (suc c) in
     let difference = sub-within binary32 top log 32 32 64 (held 64 0 (lit< tt) (lit≤ tt)) (lit≤ tt) (l n (omega arith) (omega arith)) (l (suc c) (omega arith) h) in
     let count = ofNat-within binary32 (suc c) 65536 (held 65536 0 (lit< tt) (lit≤ tt)) (omega arith) in
-    let term = mul-within binary32 (single (suc c)) (sub binary32 top log) 65536 64 (1 * 2 ^ 22) (held 1 22 (lit< tt) (lit≤ tt)) (lit≤ tt) count difference in
-    add-within binary32 bits (mul binary32 (single (suc c)) (sub binary32 top log)) (k * 2 ^ 22) (1 * 2 ^ 22) (suc k * 2 ^ 22) (held (suc k) 22 (omega arith) (lit≤ tt)) (omega arith) w term
+    let term = mul-within binary32 (singleOf (suc c)) (sub binary32 top log) 65536 64 (1 * 2 ^ 22) (held 1 22 (lit< tt) (lit≤ tt)) (lit≤ tt) count difference in
+    add-within binary32 bits (mul binary32 (singleOf (suc c)) (sub binary32 top log)) (k * 2 ^ 22) (1 * 2 ^ 22) (suc k * 2 ^ 22) (held (suc k) 22 (omega arith) (lit≤ tt)) (omega arith) w term
 
 -- with no rows every count is 0, and no logarithm is read
 entropy-within : (logs : List Float) (n : ℕ) (bits : Float) (cs : List ℕ) (k : ℕ) → LogsWithin n logs → n ≤ maxRows → sumOf cs ≤ n → k + length cs ≤ 256
@@ -60,7 +60,7 @@ counts-within hist n logs h r a l =
     let entropy = entropy-within logs n (singles .nought) hist 0 l r h (omega arith) start in
     let sum = entropyFrom singles logs (logOf singles logs n) (singles .nought) hist in
     let extra = ofNat-within binary32 (extraFrom 0 hist) (1 * 2 ^ 22) (held 1 22 (lit< tt) (lit≤ tt)) (omega (arith, extraFrom-le 0 hist (omega arith))) in
-    add-within binary32 sum (single (extraFrom 0 hist)) (256 * 2 ^ 22) (1 * 2 ^ 22) (257 * 2 ^ 22) (held 257 22 (lit< tt) (lit≤ tt)) (lit≤ tt)
+    add-within binary32 sum (singleOf (extraFrom 0 hist)) (256 * 2 ^ 22) (1 * 2 ^ 22) (257 * 2 ^ 22) (held 257 22 (lit< tt) (lit≤ tt)) (lit≤ tt)
     (within-mono sum (omega arith) entropy) extra
 
 pub cost-within : (t : Settings singles) (logs : List Float) (rows : List Row) (p : ℕ) → t .alphabet ≤ 256 → length rows ≤ maxRows → LogsWithin (length rows) logs
@@ -71,7 +71,7 @@ cost-within t logs rows p a r l =
 
 -- ---- casts
 -- a whole number up to 2 ^ 24 has its own value in single precision
-pub single-exact : (n : ℕ) → n ≤ 2 ^ 24 → HasValue (single n) false n 1
+pub single-exact : (n : ℕ) → n ≤ 2 ^ 24 → HasValue (singleOf n) false n 1
 unfolding ofInt
 single-exact n h = round-whole binary32 false n h
 
@@ -80,10 +80,10 @@ getD-le-sum [] i = omega arith
 getD-le-sum (c ∷ cs) zero = omega arith
 getD-le-sum (c ∷ cs) (suc i) = omega (arith, getD-le-sum cs i)
 
-pub count-exact : (alphabet p token : ℕ) (rows : List Row) → length rows ≤ maxRows → let n = getD (histogram alphabet p rows) token 0 in HasValue (single n) false n 1
+pub count-exact : (alphabet p token : ℕ) (rows : List Row) → length rows ≤ maxRows → let n = getD (histogram alphabet p rows) token 0 in HasValue (singleOf n) false n 1
 count-exact alphabet p token rows r = single-exact (getD (histogram alphabet p rows) token 0) (omega (arith, getD-le-sum (histogram alphabet p rows) token, histogram-sum alphabet p rows))
 
-pub extra-exact : (alphabet p : ℕ) (rows : List Row) → alphabet ≤ 256 → length rows ≤ maxRows → let n = extraFrom 0 (histogram alphabet p rows) in HasValue (single n) false n 1
+pub extra-exact : (alphabet p : ℕ) (rows : List Row) → alphabet ≤ 256 → length rows ≤ maxRows → let n = extraFrom 0 (histogram alphabet p rows) in HasValue (singleOf n) false n 1
 extra-exact alphabet p rows a r = single-exact (extraFrom 0 (histogram alphabet p rows)) (omega (arith, histogram-extra alphabet p rows a))
 
 -- ---- what the checks show
@@ -94,10 +94,10 @@ between x k t =
     let hi = le x (fin false 1 (pos k)) in
     between-within x (fin false 1 (pos k)) (2 ^ k) (refl, ap (λ (n : ℕ). n * 1) (one-mul (2 ^ k))) (and-l lo hi t) (and-r lo hi t)
 
-pub price-within : (x : Float) → T (learner .priceFits x) → Within (2 ^ 20) x
+pub price-within : (x : Float) → T (single .priceFits x) → Within (2 ^ 20) x
 price-within x t = between x 20 t
 
-pub logs-within : (n : ℕ) (logs : List Float) → n < length logs → T (learner .logsFit (take n (drop 1 logs))) → LogsWithin n logs
+pub logs-within : (n : ℕ) (logs : List Float) → n < length logs → T (single .logsFit (take n (drop 1 logs))) → LogsWithin n logs
 logs-within n logs h t c p k =
     let part = take n (drop 1 logs) in
     let z = singles .nought in

@@ -27,8 +27,8 @@ use Rattle.model.specs.Tree.{Record, blankRecord}
 use Rattle.model.specs.Job.{Offer}
 use Rattle.model.specs.Learn.{learned}
 use Rattle.model.specs.Deepen.{deepened}
-use Rattle.model.specs.Single.{singles, single}
-use Rattle.model.specs.Profile.{jobOf, single as learner}
+use Rattle.model.specs.Single.{singles, singleOf}
+use Rattle.model.specs.Profile.{jobOf, single}
 use Rattle.model.specs.Accepting.{LogsWithin}
 use Rattle.model.proofs.Keeping.{length-keep-le}
 use Rattle.model.proofs.InRange.{Offers, IsOffer, offered-is}
@@ -63,14 +63,14 @@ entropy-plus logs top bits [] h = h
 entropy-plus logs top bits (zero ∷ cs) h = entropy-plus logs top bits cs h
 entropy-plus logs top bits (suc c ∷ cs) h =
     let d = sub binary32 top (logOf singles logs (suc c)) in
-    entropy-plus logs top (add binary32 bits (mul binary32 (single (suc c)) d)) cs (plus-add bits (mul binary32 (single (suc c)) d) h (mul-fits binary32 (single (suc c)) d))
+    entropy-plus logs top (add binary32 bits (mul binary32 (singleOf (suc c)) d)) cs (plus-add bits (mul binary32 (singleOf (suc c)) d) h (mul-fits binary32 (singleOf (suc c)) d))
 
 cost-plus : (t : Settings singles) (logs : List Float) (rows : List Row) (p : ℕ) → Plus (costOf t logs rows p)
 unfolding costOf histogramCost
 cost-plus t logs rows p =
     let h = histogram (t .alphabet) p rows in
     let top = logOf singles logs (length rows) in
-    plus-add (entropyFrom singles logs top (singles .nought) h) (single (extraFrom 0 h)) (entropy-plus logs top (singles .nought) h plus-nought) (ofInt-fits binary32 (pos (extraFrom 0 h)))
+    plus-add (entropyFrom singles logs top (singles .nought) h) (singleOf (extraFrom 0 h)) (entropy-plus logs top (singles .nought) h plus-nought) (ofInt-fits binary32 (pos (extraFrom 0 h)))
 
 nought-ordinary : Ordinary (singles .nought)
 nought-ordinary = record { is-finite = tt; is-single = plus-nought .0; not-minus-zero = plus-nought .1 }
@@ -136,14 +136,14 @@ module _ (t : Settings singles) (logs : List Float) (n : ℕ) (small : t .alphab
   info-ordinary mode rows h = cost-ordinary rows (bestPredictor t logs rows) h
 
   -- each node of a learned tree, and each entry that pruning vacates
-  pub learned-ordinary : (uses : Bool) (limit : ℕ) (rows : List Row) → length rows ≤ n → (k : ℕ) → Ordinary (getD (learned (jobOf learner t logs uses) limit rows .records) k blankRecord .info .cost)
-  learned-ordinary uses limit rows h k = learned-costs Ordinary n (jobOf learner t logs uses) nought-ordinary info-ordinary limit rows h k
+  pub learned-ordinary : (uses : Bool) (limit : ℕ) (rows : List Row) → length rows ≤ n → (k : ℕ) → Ordinary (getD (learned (jobOf single t logs uses) limit rows .records) k blankRecord .info .cost)
+  learned-ordinary uses limit rows h k = learned-costs Ordinary n (jobOf single t logs uses) nought-ordinary info-ordinary limit rows h k
 
   -- after deepening only a seed's split has another: it is endless
   pub deepened-ordinary : (uses : Bool) (limit : ℕ) (seed : List (Record singles)) (rows : List Row) → length rows ≤ n
-      → (k : ℕ) → let c = getD (deepened (jobOf learner t logs uses) limit seed rows .records) k blankRecord .info .cost in Ordinary c ⊎ (c ≡ singles .endless)
+      → (k : ℕ) → let c = getD (deepened (jobOf single t logs uses) limit seed rows .records) k blankRecord .info .cost in Ordinary c ⊎ (c ≡ singles .endless)
   deepened-ordinary uses limit seed rows h k =
-      deepened-costs (λ (c : Float). Ordinary c ⊎ (c ≡ singles .endless)) n (jobOf learner t logs uses) (inl nought-ordinary) (λ mode rs l. inl (info-ordinary mode rs l)) (inr refl) limit seed rows h k
+      deepened-costs (λ (c : Float). Ordinary c ⊎ (c ≡ singles .endless)) n (jobOf single t logs uses) (inl nought-ordinary) (λ mode rs l. inl (info-ordinary mode rs l)) (inr refl) limit seed rows h k
 
   -- ---- a side, and both sides of a threshold
   side-bounded : (p : ℕ) (ps : List ℕ) (rows : List Row) → length rows ≤ n → Bounded (257 * 2 ^ 22) (sideCost t logs (p ∷ ps) rows)
@@ -159,7 +159,7 @@ module _ (t : Settings singles) (logs : List Float) (n : ℕ) (small : t .alphab
   sides-ordinary p ps le gt h k = ordinary (add binary32 (sideCost t logs (p ∷ ps) le) (sideCost t logs (p ∷ ps) gt)) (514 * 2 ^ 22) (sides-bounded p ps le gt h k)
 
   -- ---- gains, which order the waiting leaves
-  module _ (price : T (learner .priceFits (t .splitCost))) where
+  module _ (price : T (single .priceFits (t .splitCost))) where
     gain-finite : (cost bits : Float) → Within (257 * 2 ^ 22) cost → Within (514 * 2 ^ 22) bits → T (finite (sub binary32 (sub binary32 cost bits) (t .splitCost)))
     gain-finite cost bits p q =
         let d = sub-within binary32 cost bits (257 * 2 ^ 22) (514 * 2 ^ 22) (771 * 2 ^ 22) (held 771 22 (lit< tt) (lit≤ tt)) (lit≤ tt) p q in

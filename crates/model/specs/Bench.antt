@@ -17,8 +17,8 @@ use Rattle.model.specs.Candidates.{stride, candidatesOf}
 use Rattle.model.specs.Tree.{Node, split, leaf, Record, blankRecord}
 use Rattle.model.specs.Grow.{Entry}
 use Rattle.model.specs.Prune.{prunedTree, prunedBits}
-use Rattle.model.specs.Single.{singles, single}
-use Rattle.model.specs.Profile as profile
+use Rattle.model.specs.Single.{singles, singleOf}
+use Rattle.model.specs.Profile.{single}
 use Rattle.model.specs.Lent.{Stored, recordIn, storedNode, stored, Lent, noWaiting}
 use Rattle.model.specs.Operations.{Outcome, refused, accepted, After, Tree, ContextLists, learn, leafContexts, sample}
 
@@ -80,7 +80,7 @@ shownLearning a = go (a .outcome)
 
 -- ---- pruning
 abbrev pub entry : Node → ℕ → ℕ → Entry singles
-entry n cost pred = record { node = n; info = record { cost = single cost; pred = pred; offset = pos 0 }; span = noSpan; depth = 0; offer = none }
+entry n cost pred = record { node = n; info = record { cost = singleOf cost; pred = pred; offset = pos 0 }; span = noSpan; depth = 0; offer = none }
 
 -- root cost 10, leaves 4 and 5
 abbrev pub ten : List (Entry singles)
@@ -124,11 +124,11 @@ given =
     ∷ (integers (aboveRows (ltZ (pos 5)) (ints (1 ∷ 9 ∷ 2 ∷ 8 ∷ [])) ++ otherRows (ltZ (pos 5)) (ints (1 ∷ 9 ∷ 2 ∷ 8 ∷ [])))
     ++ naturals (length (aboveRows (ltZ (pos 5)) (ints (1 ∷ 9 ∷ 2 ∷ 8 ∷ []))) ∷ []))
     ∷ naturals (shownSample (sample 5 3 (7 ∷ 7 ∷ 7 ∷ [])))
-    ∷ shownLearning (learn profile.single onlyFive (fin false 0 (pos 0) ∷ []) noRows)
-    ∷ shownPruning (single 1) ten
+    ∷ shownLearning (learn single onlyFive (fin false 0 (pos 0) ∷ []) noRows)
+    ∷ shownPruning (singleOf 1) ten
     ∷ shownPruning half ten
     ∷ naturals (shownContexts (leafContexts (storedOf five) 5 (record { contexts = replicate 5 7; queue = replicate 5 7 })))
-    ∷ naturals (predsOf (prunedTree (single 1) five))
+    ∷ naturals (predsOf (prunedTree (singleOf 1) five))
     ∷ []
 
 -- what document 01 says
@@ -153,8 +153,8 @@ wanted =
     -- no rows, only predictor 5: one leaf, predictor 5, offset 0, both bit totals 0
     ∷ (whole (pos 1) ∷ whole (pos 1) ∷ bits (fin false 0 (pos 0)) ∷ bits (fin false 0 (pos 0)) ∷ whole (pos 1) ∷ whole (pos 5) ∷ whole (pos 0) ∷ [])
     -- root cost 10, leaves 4 and 5: price 1 folds (10), price 0.5 keeps (9)
-    ∷ (whole (pos 1) ∷ bits (single 10) ∷ [])
-    ∷ (whole (pos 3) ∷ bits (single 9) ∷ [])
+    ∷ (whole (pos 1) ∷ bits (singleOf 10) ∷ [])
+    ∷ (whole (pos 3) ∷ bits (singleOf 9) ∷ [])
     -- 0 splits to 1 and 2, 1 splits to 3 and 4: contexts of 2, 3, 4 are 0, 1, 2; pruned without folds the order is 0, 1, 3, 4, 2
     ∷ naturals (4294967295 ∷ 4294967295 ∷ 0 ∷ 1 ∷ 2 ∷ [])
     ∷ naturals (0 ∷ 1 ∷ 3 ∷ 4 ∷ 2 ∷ [])

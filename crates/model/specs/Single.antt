@@ -6,8 +6,8 @@ use lib.Ieee.{Float, nan, fin, inf, binary32, binary64, add, sub, mul, lt, le, o
 use Rattle.model.specs.Meter.{Meter}
 
 -- a count as a single-precision number: nothing is lost up to 2 ^ 24
-abbrev pub single : ℕ → Float
-single n = ofInt binary32 (pos n)
+abbrev pub singleOf : ℕ → Float
+singleOf n = ofInt binary32 (pos n)
 
 -- a single-precision number is its own value in double precision
 abbrev pub singles : Meter
@@ -21,8 +21,8 @@ singles =
       less = lt;
       plus = add binary32;
       minus = sub binary32;
-      times = λ (n : ℕ) (x : Float). mul binary32 (single n) x;
-      extra = single;
+      times = λ (n : ℕ) (x : Float). mul binary32 (singleOf n) x;
+      extra = singleOf;
       noTotal = fin false 0 (pos 0);
       total = λ (x : Float). x;
       add = add binary64;

@@ -9,9 +9,9 @@ use Rattle.model.specs.Refuse.{Refusal, learnRefusal, deepenRefusal, lookupRefu
 use Rattle.model.specs.Operations.{Outcome, refused, accepted, Tree, unless, outcomeOf, learn, deepen, lookup, leafContexts, sample, tokenAnswer}
 use Rattle.refuse.specs.Given.{settingsOf}
 use Rattle.layout.specs.Records.{storedOf}
-use Rattle.answers.specs.Answers.{treeIn, foundIn, countIn, valueIn}
+use Rattle.answers.specs.Answers.{learnedIn, foundIn, countIn, valueIn}
 use Rattle.answers.specs.declared.Count.{Count}
-use Rattle.answers.specs.declared.Leaf.{Leaf}
+use Rattle.answers.specs.declared.FoundLeaf.{FoundLeaf}
 use Rattle.answers.specs.declared.LearnedTree.{LearnedTree}
 use Rattle.answers.specs.declared.Read.{Read}
 use Rattle.border.specs.Lists.{lentIn, learnRecords, deepenRecords}
@@ -34,9 +34,9 @@ module _ {A R : Type 0} (number place : R → ℕ) (told : Outcome A → R)
   left (some f) a k k′ x x′ n e l = rw (e, refuses f .0, refuses f .1) (refl, refl, n .above, n .below, l)
 
 module _ {K L : Type 0} where
-  tree-left : (o : Option Refusal) (a : Tree singles) (k k′ : K) (x x′ : L) {r : LearnedTree} {y : L} → Numbered o → r ≡ treeIn (unless o k a k′ .outcome) → y ≡ unless o x a x′ .lent
+  tree-left : (o : Option Refusal) (a : Tree singles) (k k′ : K) (x x′ : L) {r : LearnedTree} {y : L} → Numbered o → r ≡ learnedIn (unless o k a k′ .outcome) → y ≡ unless o x a x′ .lent
       → Told o (r .number) (r .place) x y
-  tree-left = left (λ (r : LearnedTree). r .number) (λ (r : LearnedTree). r .place) treeIn (λ a. (refl, refl)) (λ f. (refl, refl))
+  tree-left = left (λ (r : LearnedTree). r .number) (λ (r : LearnedTree). r .place) learnedIn (λ a. (refl, refl)) (λ f. (refl, refl))
 
   count-left : (o : Option Refusal) (n : ℕ) (k k′ : K) (x x′ : L) {r : Count} {y : L} → Numbered o → r ≡ countIn (unless o k n k′ .outcome) → y ≡ unless o x n x′ .lent
       → Told o (r .number) (r .place) x y
@@ -50,7 +50,7 @@ demand1 = record {
   deepens = λ s logs count x y r run.
       tree-left (deepenRefusal single (settingsOf s) logs count (lentIn x)) _ (lentIn x) _ x _ (deepen-numbered (settingsOf s) logs count (lentIn x)) (run .answers) (run .leaves-whole);
   looks-up = λ nodes count ps r run.
-      answered (λ (r : Leaf). r .number) (λ (r : Leaf). r .place) foundIn (λ a. (refl, refl)) (λ f. (refl, refl)) (lookupRefusal (map storedOf nodes) count ps) _
+      answered (λ (r : FoundLeaf). r .number) (λ (r : FoundLeaf). r .place) foundIn (λ a. (refl, refl)) (λ f. (refl, refl)) (lookupRefusal (map storedOf nodes) count ps) _
       (lookup-numbered (map storedOf nodes) count ps) run;
   numbers = λ nodes count x y r run.
       count-left (contextsRefusal (map storedOf nodes) count (x .contexts) (x .queue)) _ x _ x _ (contexts-numbered (map storedOf nodes) count (x .contexts) (x .queue)) (run .answers) (run .leaves);

@@ -23,7 +23,7 @@ use Rattle.layout.specs.Records.{storedOf}
 use Rattle.layout.specs.declared.MaNode.{MaNode}
 use Rattle.answers.specs.Answers.{foundIn, countIn, valueIn}
 use Rattle.answers.specs.declared.Count.{Count}
-use Rattle.answers.specs.declared.Leaf.{Leaf}
+use Rattle.answers.specs.declared.FoundLeaf.{FoundLeaf}
 use Rattle.answers.specs.declared.Read.{Read}
 use Rattle.ma_tree.specs.Runs.{LookingUp, Numbering, Encoding, Reading}
 use Rattle.promises.specs.Demand2.{Demand2}
@@ -31,7 +31,7 @@ use Rattle.promises.proofs.Numbered.{Numbered, no-nought, contexts-numb
 
 -- ---- lookup
 -- the answer of a lookup that finds a leaf of the standard's
-finds : (nodes : List MaNode) (count : ℕ) (contexts : List ℕ) (t : MaTree) (ps : List ℤ) (r : Leaf) → FindsLeaf (map storedOf nodes) count contexts t ps → LookingUp nodes count ps r
+finds : (nodes : List MaNode) (count : ℕ) (contexts : List ℕ) (t : MaTree) (ps : List ℤ) (r : FoundLeaf) → FindsLeaf (map storedOf nodes) count contexts t ps → LookingUp nodes count ps r
     → (r .number ≡ 0) × (leafIn (treeIn count (map storedOf nodes)) contexts (r .leaf) ≡ leafFor ps t) × (r .pred ≡ leafFor ps t .predictor)
 finds nodes count contexts t ps r (i, found, same) run = rw (run ∙ ap foundIn found) (refl, same, refl)
 

@@ -14,10 +14,10 @@ use Rattle.refuse.specs.declared.Settings.{Settings}
 use Rattle.layout.specs.Records.{storedOf}
 use Rattle.layout.specs.declared.MaNode.{MaNode}
 use Rattle.answers.specs.declared.Count.{Count}
-use Rattle.answers.specs.declared.Leaf.{Leaf}
+use Rattle.answers.specs.declared.FoundLeaf.{FoundLeaf}
 use Rattle.answers.specs.declared.LearnedTree.{LearnedTree}
 use Rattle.answers.specs.declared.Read.{Read}
-use Rattle.border.specs.Lists.{Lists, lentIn}
+use Rattle.border.specs.Lists.{Records, lentIn}
 use Rattle.ma_tree.specs.Runs.{Learning, Deepening, LookingUp, Numbering, Sampling, Reading}
 
 -- number and place of an answer are the refusal's, which is one of 1 to 10, and the lists are as they were; or both are 0 where nothing is refused
@@ -30,11 +30,11 @@ abbrev pub Answered : Option Refusal → ℕ → ℕ → Type 0
 Answered o number place = Told {L = Unit {0}} o number place tt tt
 
 pub record Demand1 : Type 0 where
-  pub learns : (s : Settings) (logs : List Float) (x y : Lists) (r : LearnedTree) → Learning s logs x r y
+  pub learns : (s : Settings) (logs : List Float) (x y : Records) (r : LearnedTree) → Learning s logs x r y
       → Told (learnRefusal single (settingsOf s) logs (lentIn x)) (r .number) (r .place) x y
-  pub deepens : (s : Settings) (logs : List Float) (count : ℕ) (x y : Lists) (r : LearnedTree) → Deepening s logs count x r y
+  pub deepens : (s : Settings) (logs : List Float) (count : ℕ) (x y : Records) (r : LearnedTree) → Deepening s logs count x r y
       → Told (deepenRefusal single (settingsOf s) logs count (lentIn x)) (r .number) (r .place) x y
-  pub looks-up : (nodes : List MaNode) (count : ℕ) (ps : List ℤ) (r : Leaf) → LookingUp nodes count ps r
+  pub looks-up : (nodes : List MaNode) (count : ℕ) (ps : List ℤ) (r : FoundLeaf) → LookingUp nodes count ps r
       → Answered (lookupRefusal (map storedOf nodes) count ps) (r .number) (r .place)
   pub numbers : (nodes : List MaNode) (count : ℕ) (x y : ContextLists) (r : Count) → Numbering nodes count x r y
       → Told (contextsRefusal (map storedOf nodes) count (x .contexts) (x .queue)) (r .number) (r .place) x y

@@ -16,7 +16,7 @@ use Rattle.model.specs.declared.Encoded.{Encoded}
 use Rattle.layout.specs.Records.{storedOf}
 use Rattle.layout.specs.declared.MaNode.{MaNode}
 use Rattle.answers.specs.Answers.{countIn, valueIn}
-use Rattle.answers.specs.declared.Leaf.{Leaf}
+use Rattle.answers.specs.declared.FoundLeaf.{FoundLeaf}
 use Rattle.answers.specs.declared.Read.{Read}
 use Rattle.ma_tree.specs.Runs.{LookingUp, Numbering, Packing, Encoding, Reading}
 
@@ -24,11 +24,11 @@ pub record Demand2 : Type 0 where
   -- a sound node list is an MA tree of the standard; whatever numbers its leaves are given, a lookup of any 24 properties is accepted, and the leaf that it names is the one that
   -- the standard's walk reaches
   pub looks-up : (nodes : List MaNode) (count : ℕ) (contexts : List ℕ) → count ≤ length nodes → faultOf (treeIn count (map storedOf nodes)) ≡ none
-      → (t : MaTree) × IsTree (map storedOf nodes) count contexts t × ((ps : List ℤ) (r : Leaf) → length ps ≡ propsPerRow → LookingUp nodes count ps r
+      → (t : MaTree) × IsTree (map storedOf nodes) count contexts t × ((ps : List ℤ) (r : FoundLeaf) → length ps ≡ propsPerRow → LookingUp nodes count ps r
       → (r .number ≡ 0) × (leafIn (treeIn count (map storedOf nodes)) contexts (r .leaf) ≡ leafFor ps t) × (r .pred ≡ leafFor ps t .predictor))
   -- the contexts written are those that a decoder gives the leaves, so a lookup and then the context list give the context that a decoder uses
   pub numbers : (nodes : List MaNode) (count leaves : ℕ) (x y : ContextLists) → Numbering nodes count x (countIn (accepted leaves)) y
-      → (t : MaTree) × DecodersTree (map storedOf nodes) count (y .contexts) t × ((ps : List ℤ) (r : Leaf) → length ps ≡ propsPerRow → LookingUp nodes count ps r
+      → (t : MaTree) × DecodersTree (map storedOf nodes) count (y .contexts) t × ((ps : List ℤ) (r : FoundLeaf) → length ps ≡ propsPerRow → LookingUp nodes count ps r
       → getD (y .contexts) (r .leaf) 0 ≡ leafFor ps t .context)
   -- the standard's reading of signed numbers gives a packed number back
   pub packs : (value : ℤ) (r : ℕ) → Packing value r → unpackSigned r ≡ value

@@ -19,11 +19,11 @@ use Rattle.layout.specs.Waiting.{queueLists}
 use Rattle.layout.specs.declared.MaNode.{MaNode}
 use Rattle.layout.specs.declared.Span.{Span}
 use Rattle.answers.specs.declared.Count.{Count}
-use Rattle.answers.specs.declared.Leaf.{Leaf}
+use Rattle.answers.specs.declared.FoundLeaf.{FoundLeaf}
 use Rattle.answers.specs.declared.LearnedTree.{LearnedTree}
 use Rattle.answers.specs.declared.Read.{Read}
-use Rattle.border.specs.Lists.{Lists, lists, contextsNow}
-use Rattle.ma_tree.specs.Runs.{listsNow, Learning, Deepening, LookingUp, Numbering, Sampling, Packing, Encoding, Reading}
+use Rattle.border.specs.Lists.{Records, records, contextsNow}
+use Rattle.ma_tree.specs.Runs.{recordsNow, Learning, Deepening, LookingUp, Numbering, Sampling, Packing, Encoding, Reading}
 
 -- what a run of an operation may be: its arguments at entry, its answer, and the last values of what it was lent to write
 abbrev pub Relation : Ended → Type 1
@@ -43,12 +43,12 @@ NumberRefs = RefT (List ℤ) × (RefT (List ℕ) × (RefT (List ℤ) × (RefT (L
 abbrev pub NumberLists : Type 0
 NumberLists = List ℤ × (List ℕ × (List ℤ × (List ℕ × (List ℤ × (List Float × (List ℕ × Unit {0}))))))
 
-abbrev entered : RefT (List MaNode) → RefT (List Span) → NumberRefs → Lists
-entered nodes spans n = listsNow nodes spans (n .0) (n .1 .0) (n .1 .1 .0) (n .1 .1 .1 .0) (n .1 .1 .1 .1 .0) (n .1 .1 .1 .1 .1 .0) (n .1 .1 .1 .1 .1 .1 .0)
+abbrev entered : RefT (List MaNode) → RefT (List Span) → NumberRefs → Records
+entered nodes spans n = recordsNow nodes spans (n .0) (n .1 .0) (n .1 .1 .0) (n .1 .1 .1 .0) (n .1 .1 .1 .1 .0) (n .1 .1 .1 .1 .1 .0) (n .1 .1 .1 .1 .1 .1 .0)
 
-abbrev left : List MaNode → List Span → NumberLists → Lists
+abbrev left : List MaNode → List Span → NumberLists → Records
 left nodes spans n =
-    lists (flat (n .0) (n .1 .0) (n .1 .1 .0)) nodes spans (queueLists (n .1 .1 .1 .0) (n .1 .1 .1 .1 .0) (n .1 .1 .1 .1 .1 .0)) (n .1 .1 .1 .1 .1 .1 .0)
+    records (flat (n .0) (n .1 .0) (n .1 .1 .0)) nodes spans (queueLists (n .1 .1 .1 .0) (n .1 .1 .1 .1 .0) (n .1 .1 .1 .1 .1 .0)) (n .1 .1 .1 .1 .1 .1 .0)
 
 abbrev pub learningRun : RefT (List MaNode) × (RefT (List Span) × (Settings × (RefT (List Float) × NumberRefs))) → LearnedTree
     → List MaNode × (List Span × (Unit {0} × (Unit {0} × NumberLists))) → Type 0
@@ -59,7 +59,7 @@ abbrev pub deepeningRun : RefT (List MaNode) × (RefT (List Span) × (Settings �
 deepeningRun a r w =
     Deepening (a .1 .1 .0) (a .1 .1 .1 .1 .0 .now) (a .1 .1 .1 .0) (entered (a .0) (a .1 .0) (a .1 .1 .1 .1 .1)) r (left (w .0) (w .1 .0) (w .1 .1 .1 .1 .1))
 
-abbrev pub lookingUpRun : RefT (List MaNode) × (ℕ × (RefT (List ℤ) × Unit {0})) → Leaf → Type 0
+abbrev pub lookingUpRun : RefT (List MaNode) × (ℕ × (RefT (List ℤ) × Unit {0})) → FoundLeaf → Type 0
 lookingUpRun a r = LookingUp (a .0 .now) (a .1 .0) (a .1 .1 .0 .now) r
 
 abbrev pub numberingRun : RefT (List MaNode) × (ℕ × (RefT (List ℕ) × (RefT (List ℕ) × Unit {0}))) → Count → Unit {0} × (Unit {0} × (List ℕ × (List ℕ × Unit {0}))) → Type 0

@@ -14,10 +14,10 @@ pub record Picks (rows picked : ℕ) (out : List ℕ) : Type 0 where
   pub room : picked ≤ length out
 
 -- how many rows were picked, or the number of the refusal and its place
-abbrev pub outcomeOf : Sampled → Outcome ℕ
-outcomeOf (Picked count) = accepted count
-outcomeOf (Refused number place) = refused (record { number = number; place = place })
+abbrev pub sampleOutcome : Sampled → Outcome ℕ
+sampleOutcome (Picked count) = accepted count
+sampleOutcome (Refused number place) = refused (record { number = number; place = place })
 
 -- the answer, and what the lent list holds at exit
 abbrev pub after : Sampled → List ℕ → After ℕ (List ℕ)
-after r out = record { outcome = outcomeOf r; lent = out }
+after r out = record { outcome = sampleOutcome r; lent = out }

@@ -16,7 +16,7 @@ use Rattle.model.specs.Promise.{noRow}
 use Rattle.model.proofs.Places.{each-at}
 use Rattle.cost.specs.Histograms.{part, spanOf}
 use Rattle.cost.proofs.Histograms.{histograms-part}
-use Rattle.score_windows.specs.Windows.{windowAt, packed, Windows, widthOf}
+use Rattle.score_windows.specs.Windows.{windowAt, windowStart, Windows, widthOf}
 use Rattle.score_windows.proofs.Windowing.{window-holds}
 use Rattle.score_bins.specs.Bins.{Lanes}
 use Rattle.score_bins.proofs.Lanes.{count-some}
@@ -49,7 +49,7 @@ module _ (ps : List ℤ) (tok : List ℕ) (first end prop : ℕ) (cands : List �
       omega (arith, count-some (hasToken p v) noRow rows k (omega (arith, hold .long)) (eq-eqb (tokOf (getD rows k noRow) p) v (hold .token k p l (h .pred j m))))
 
   pub width-is : (j : ℕ) → j < length preds → getD offs (suc j) 0 ≡ getD offs j 0 + (windowAt node alphabet preds j .end - windowAt node alphabet preds j .first)
-  unfolding packed
+  unfolding windowStart
   width-is j m = let a = w .windows .start (suc j) (omega arith) in let b = w .windows .start j (omega arith) in omega arith
 
   pub lanes : Lanes tok first (end - first) preds firsts offs (getD offs (length preds) 0)

@@ -22,7 +22,7 @@ use Rattle.cost.specs.Counted.{rowsIn}
 use Rattle.cost.specs.Histograms.{part, spanOf}
 use Rattle.cost.proofs.Blocks.{part-end}
 use Rattle.cost.proofs.Histograms.{histogram-length, histogram-rows, histograms-length}
-use Rattle.score_windows.specs.Windows.{packed, windowAt, Windows, widthOf}
+use Rattle.score_windows.specs.Windows.{windowStart, windowAt, Windows, widthOf}
 use Rattle.score_windows.proofs.Windowing.{Holds, window-holds, packed-le}
 use Rattle.score_bins.specs.Bins.{talliedRows, summed, binCell, Low, Lanes, RowsThere, SumsLow}
 use Rattle.score_bins.proofs.Tallies.{rows-length, rows-low, summed-length}
@@ -207,7 +207,7 @@ module _ (ps : List ℤ) (tok : List ℕ) (first end prop : ℕ) (cands : List �
       size-is : (k : ℕ) → k < length cands
           → sizeAt (summed stride (length cands * stride) (talliedRows (binCell ps tok first prop cands preds firsts offs stride) (length preds) (end - first) c)) offs (k * stride)
           ≡ length (keep (λ (r : Row). not (isAbove prop (getD cands k (pos 0)) r)) (within (spanOf first end) (rowsOf rows ps tok rs)))
-      unfolding packed
+      unfolding windowStart
       size-is k b =
           let some : 0 < length preds = h .some-preds in
           let start : getD offs 0 0 ≡ 0 = w .windows .start 0 (omega arith) in

@@ -12,7 +12,7 @@ use lib.Seq.{getD-set-same, getD-set-other}
 use Rattle.model.specs.Settings.{toksPerRow}
 use Rattle.cost.specs.Histograms.{part}
 use Rattle.score_windows.specs.declared.Window.{Window}
-use Rattle.score_windows.specs.Windows.{widened, windowOf, windowAt, packed, Packed}
+use Rattle.score_windows.specs.Windows.{widened, windowOf, windowAt, windowStart, Packed}
 
 -- ---- for the loop
 
@@ -84,20 +84,20 @@ module _ (node : List ℕ) (alphabet : ℕ) (preds : List ℕ) where
   pub window-holds : (j : ℕ) → Holds (part alphabet (getD preds j 0) node) alphabet (windowAt node alphabet preds j)
   window-holds j = holds (part alphabet (getD preds j 0) node) alphabet
 
-  pub packed-le : (j : ℕ) → packed node alphabet preds j ≤ j * alphabet
-  unfolding packed
+  pub packed-le : (j : ℕ) → windowStart node alphabet preds j ≤ j * alphabet
+  unfolding windowStart
   packed-le zero = omega arith
   packed-le (suc j) = omega (arith, packed-le j, suc-mul j alphabet, window-holds j .inside)
 
   -- for the loop that packs
   pub packed-start : (firsts offs : List ℕ) → 0 < length offs → Packed node alphabet preds firsts (set offs 0 0) 0
-  unfolding packed
+  unfolding windowStart
   packed-start firsts offs l =
       record { first = λ j m. absurd (omega arith); start = λ j m. let none : j ≡ 0 = omega arith in rw none (getD-set-same offs 0 0 0 l) }
 
   pub packed-step : (firsts offs : List ℕ) (j : ℕ) (w : Window) → Packed node alphabet preds firsts offs j → w ≡ windowAt node alphabet preds j → j < length firsts → suc j < length offs
       → Packed node alphabet preds (set firsts j (w .first)) (set offs (j + 1) (getD offs j 0 + (w .end - w .first))) (j + 1)
-  unfolding packed
+  unfolding windowStart
   packed-step firsts offs j w p e lf lo =
       record {
         first = λ i m. first i m (ℕ-discrete i j);
@@ -108,13 +108,13 @@ module _ (node : List ℕ) (alphabet : ℕ) (preds : List ℕ) where
       first i m (yes s) = rw s (getD-set-same firsts j (w .first) 0 lf ∙ ap (λ (x : Window). x .first) e)
       first i m (no s) = getD-set-other firsts j i (w .first) 0 s ∙ p .first i (omega arith)
 
-      start : (i : ℕ) → i ≤ j + 1 → Dec (i ≡ j + 1) → getD (set offs (j + 1) (getD offs j 0 + (w .end - w .first))) i 0 ≡ packed node alphabet preds i
+      start : (i : ℕ) → i ≤ j + 1 → Dec (i ≡ j + 1) → getD (set offs (j + 1) (getD offs j 0 + (w .end - w .first))) i 0 ≡ windowStart node alphabet preds i
       start i m (yes s) =
           let width : w .end - w .first ≡ windowAt node alphabet preds j .end - windowAt node alphabet preds j .first = ap (λ (x : Window). x .end - x .first) e in
           let at = p .start j (omega arith) in
           let stored = getD-set-same offs (j + 1) (getD offs j 0 + (w .end - w .first)) 0 (omega arith) in
-          let next : packed node alphabet preds (j + 1) ≡ packed node alphabet preds j + (windowAt node alphabet preds j .end - windowAt node alphabet preds j .first) =
-          ap (packed node alphabet preds) (add-one j) in
+          let next : windowStart node alphabet preds (j + 1) ≡ windowStart node alphabet preds j + (windowAt node alphabet preds j .end - windowAt node alphabet preds j .first) =
+          ap (windowStart node alphabet preds) (add-one j) in
           rw s (omega arith)
       start i m (no s) = getD-set-other offs (j + 1) i (getD offs j 0 + (w .end - w .first)) 0 s ∙ p .start i (omega arith)
 

@@ -24,14 +24,14 @@ abbrev pub windowAt : List ℕ → ℕ → List ℕ → ℕ → Window
 windowAt node alphabet preds j = windowOf (part alphabet (getD preds j 0) node) alphabet
 
 -- where side predictor j's window starts among the packed ones
-unfoldable pub packed : List ℕ → ℕ → List ℕ → ℕ → ℕ
-packed node alphabet preds zero = 0
-packed node alphabet preds (suc j) = packed node alphabet preds j + (windowAt node alphabet preds j .end - windowAt node alphabet preds j .first)
+unfoldable pub windowStart : List ℕ → ℕ → List ℕ → ℕ → ℕ
+windowStart node alphabet preds zero = 0
+windowStart node alphabet preds (suc j) = windowStart node alphabet preds j + (windowAt node alphabet preds j .end - windowAt node alphabet preds j .first)
 
 -- `firsts` and `offs` have the first n windows
 pub record Packed (node : List ℕ) (alphabet : ℕ) (preds firsts offs : List ℕ) (n : ℕ) : Type 0 where
   pub first : (j : ℕ) → j < n → getD firsts j 0 ≡ windowAt node alphabet preds j .first
-  pub start : (j : ℕ) → j ≤ n → getD offs j 0 ≡ packed node alphabet preds j
+  pub start : (j : ℕ) → j ≤ n → getD offs j 0 ≡ windowStart node alphabet preds j
 
 -- the width of window j
 abbrev pub widthOf : List ℕ → ℕ → ℕ

@@ -1,6 +1,6 @@
 -- The struct holds what the enum says. Assumes nothing.
 use mathlib.Core.Path.{sym, ap}
-use Rattle.sampling.specs.Sampled.{outcomeOf}
+use Rattle.sampling.specs.Sampled.{sampleOutcome}
 use Rattle.answers.specs.Answers.{countIn}
 use borrow.Author.Needs.{needs}
 use Rattle.answers.proofs.sampled_answer.Statement.{statement}
@@ -13,10 +13,10 @@ enum-known-r-2 : tie.Need-enum-known-r-2
 enum-known-r-2 c = search needs
 
 returns : tie.Need-returns
-returns c = ap (λ x. countIn (outcomeOf x)) (sym (c .before .r .given .1))
+returns c = ap (λ x. countIn (sampleOutcome x)) (sym (c .before .r .given .1))
 
 returns-2 : tie.Need-returns-2
-returns-2 c = ap (λ x. countIn (outcomeOf x)) (sym (c .before .r2 .given .1))
+returns-2 c = ap (λ x. countIn (sampleOutcome x)) (sym (c .before .r2 .given .1))
 
 pub sampled-answer-spec : {M : Type 1} → statement M
 sampled-answer-spec = tie.close (tie.spec enum-known-r enum-known-r-2 returns returns-2)

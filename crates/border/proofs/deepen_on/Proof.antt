@@ -22,7 +22,7 @@ use Rattle.seed_rows.specs.Ordered.{seedIn}
 use Rattle.deepen.proofs.Seeding.{seed-same}
 use Rattle.from_seed.specs.Result.{deepenedIn}
 use Rattle.rows.specs.Flat.{flat}
-use Rattle.border.specs.Lists.{Lists, lists, lentIn}
+use Rattle.border.specs.Lists.{Records, records, lentIn}
 use Rattle.border.specs.Numbers.{copied, Numbered}
 use Rattle.border.proofs.Reading.{arrays-room, recordsHeld, held-length, held-numbered}
 use Rattle.border.proofs.Checking.{lends-records, fault-refused, large-refused, sound-passes, seed-is, deepenable, faultless, deepened-is, deepened-fitted, work-done, work-few, work-refused, none-written}
@@ -51,10 +51,10 @@ module _ (c : tie.After-check-deepen) where
   abbrev n : NodeLists
   n = let given = start .args in nodeLists (given .words .now) (given .values .now) (given .costs .now)
 
-  abbrev x : List MaNode → List Span → Lists
+  abbrev x : List MaNode → List Span → Records
   x nodes spans =
       let given = start .args in
-      lists (flat (given .props .now) (given .tok .now) (given .res .now)) nodes spans
+      records (flat (given .props .now) (given .tok .now) (given .res .now)) nodes spans
       (queueLists (given .queue-words .now) (given .queue-values .now) (given .queue-gains .now)) (given .counts .now)
 
   answer : (nodes : List MaNode) (spans : List Span) → start .args .node-room ≡ length nodes → start .args .span-room ≡ length spans

@@ -15,7 +15,7 @@ use Rattle.layout.specs.declared.MaNode.{MaNode}
 use Rattle.layout.specs.declared.Span.{Span}
 use Rattle.from_root.specs.Result.{resultIn}
 use Rattle.rows.specs.Flat.{flat}
-use Rattle.border.specs.Lists.{Lists, lists, lentIn}
+use Rattle.border.specs.Lists.{Records, records, lentIn}
 use Rattle.border.proofs.Reading.{arrays-room, recordsHeld, held-length}
 use Rattle.border.proofs.Checking.{lends-records, learnable, learned-fitted, work-done, work-few, work-refused, none-written}
 use borrow.Author.Needs.{needs}
@@ -46,10 +46,10 @@ module _ (c : tie.After-check-learn) where
   abbrev n : NodeLists
   n = let given = start .args in nodeLists (given .words .now) (given .values .now) (given .costs .now)
 
-  abbrev x : List MaNode → List Span → Lists
+  abbrev x : List MaNode → List Span → Records
   x nodes spans =
       let given = start .args in
-      lists (flat (given .props .now) (given .tok .now) (given .res .now)) nodes spans
+      records (flat (given .props .now) (given .tok .now) (given .res .now)) nodes spans
       (queueLists (given .queue-words .now) (given .queue-values .now) (given .queue-gains .now)) (given .counts .now)
 
   answer : (nodes : List MaNode) (spans : List Span) → start .args .node-room ≡ length nodes → start .args .span-room ≡ length spans

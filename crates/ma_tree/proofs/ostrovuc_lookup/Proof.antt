@@ -61,14 +61,14 @@ use Rattle.layout.proofs.MaNode.Laws as N′
 use Rattle.answers.specs.Answers.{foundIn}
 use Rattle.lookup.specs.Ways.{begun, stepped}
 use Rattle.layout.specs.declared.NodeNumber.{NodeNumber}
-use Rattle.answers.specs.declared.Leaf.{Leaf}
+use Rattle.answers.specs.declared.FoundLeaf.{FoundLeaf}
 use Rattle.lookup.specs.declared.Way.{Way}
 use Rattle.records.proofs.Locals.{Blocks, block, env, States, cells, enters, leaves, local-at, to-local, gives, start-of, count-of}
 use Rattle.lookup.proofs.Looking.{Going, going-first, going-on, going-none, going-end}
 use Rattle.layout.proofs.NodeNumber as I
 use Rattle.layout.proofs.NodeNumber.Laws as I′
-use Rattle.answers.proofs.Leaf as L
-use Rattle.answers.proofs.Leaf.Laws as L′
+use Rattle.answers.proofs.FoundLeaf as L
+use Rattle.answers.proofs.FoundLeaf.Laws as L′
 use Rattle.lookup.proofs.Way as Y
 use Rattle.lookup.proofs.Way.Laws as Y′
 use Rattle.lookup.proofs.begin as begin
@@ -106,7 +106,7 @@ ival = LL.val I.the-type I′.the-laws
 abbrev wval : Way → Val
 wval = LL.val Y.the-type Y′.the-laws
 
-abbrev lval : Leaf → Val
+abbrev lval : FoundLeaf → Val
 lval = LL.val L.the-type L′.the-laws
 
 -- a way has only that one
@@ -208,7 +208,7 @@ module _ {M : Type 1} (𝓤 : URA M) (H : Heap 𝓤) (A : Atoms 𝓤) (W : Given
   abbrev Left : List (Item 𝓤)
   Left = token ∷ Own ∷ ‵ (flft κ q) ∷ shr ∷ res ∷ []
 
-  exits : (r : Leaf) → Is L.the-row r (lval r ∷ []) → r ≡ foundIn (lookup (map storedOf ns) count (ps .now)) → ent 𝓤 (⋆ 𝓤 H A Left) (Post (lval r))
+  exits : (r : FoundLeaf) → Is L.the-row r (lval r ∷ []) → r ≡ foundIn (lookup (map storedOf ns) count (ps .now)) → ent 𝓤 (⋆ 𝓤 H A Left) (Post (lval r))
   exits r is e =
       qed W Left ∵ suffices ! _
       (ends-at 𝓤 H A f.ended stayed (f.clauses 𝓤 H A mem run) W (((κ, (κ′, tt)), (q, (q′, tt)), tt, a, vals), tt) (lval r) r (tt, (tt, (tt, tt))) (tt, (tt, (tt, tt)))) $ says ! e $

@@ -1,4 +1,4 @@
--- `score::accumulate` meets its contract: the cells passed have their sums. Assumes nothing.
+-- `score_bins::accumulate` meets its contract: the cells passed have their sums. Assumes nothing.
 use mathlib.Core.Path.{_≡_, sym, ap}
 use mathlib.Core.List.{List}
 use Prim.Native.Nat.{ℕ, _≤_, _-_, _+_}

@@ -1,4 +1,4 @@
--- `score::bin_for` meets its contract: the candidates passed, with those that are left, are the whole count. Assumes nothing.
+-- `score_bins::bin_for` meets its contract: the candidates passed, with those that are left, are the whole count. Assumes nothing.
 use mathlib.Core.Path.{_≡_, refl}
 use Prim.Native.Nat.{_-_, _+_}
 use native.Mathlib.Omega.{arith}

@@ -1,4 +1,4 @@
--- `score::count_token` meets its contract. Assumes nothing.
+-- `score_bins::count_token` meets its contract. Assumes nothing.
 use native.Mathlib.Omega.{arith}
 use Prim.Native.Nat.{_+_, _*_}
 use borrow.Author.Needs.{needs}

@@ -1,4 +1,4 @@
--- `score::lane_at` meets its contract. Assumes nothing.
+-- `score_bins::lane_at` meets its contract. Assumes nothing.
 use native.Mathlib.Omega.{arith}
 use borrow.Author.Needs.{needs}
 use Rattle.score_bins.proofs.lane_at.Statement.{statement}

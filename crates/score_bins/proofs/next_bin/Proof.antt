@@ -1,4 +1,4 @@
--- `score::next_bin` meets its contract: by the test. Assumes nothing.
+-- `score_bins::next_bin` meets its contract: by the test. Assumes nothing.
 use mathlib.Core.Path.{_≡_}
 use mathlib.Core.Bool.{Bool, true, false}
 use native.Mathlib.Omega.{arith}

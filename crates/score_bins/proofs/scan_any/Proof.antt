@@ -1,4 +1,4 @@
--- `score::scan_any` meets its contract: the rows passed are counted. Assumes nothing.
+-- `score_bins::scan_any` meets its contract: the rows passed are counted. Assumes nothing.
 use mathlib.Core.Path.{_≡_, refl, sym, ap, _∙_}
 use Prim.Native.Nat.{ℕ, _≤_, _<_, _-_, _+_, _*_}
 use native.Mathlib.Omega.{arith}

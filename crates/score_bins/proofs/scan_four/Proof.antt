@@ -1,4 +1,4 @@
--- `score::scan_four` meets its contract: the rows passed are counted, each by its four tokens. Assumes nothing.
+-- `score_bins::scan_four` meets its contract: the rows passed are counted, each by its four tokens. Assumes nothing.
 use mathlib.Core.Path.{_≡_, refl, sym, ap, _∙_}
 use mathlib.Core.List.{List}
 use Prim.Native.Nat.{ℕ, suc, _≤_, _<_, _-_, _+_, _*_}

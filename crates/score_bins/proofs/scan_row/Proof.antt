@@ -1,4 +1,4 @@
--- `score::scan_row` meets its contract: the side predictors passed are counted. Assumes nothing.
+-- `score_bins::scan_row` meets its contract: the side predictors passed are counted. Assumes nothing.
 use mathlib.Core.Path.{_≡_, refl, sym, _∙_}
 use Prim.Native.Nat.{_≤_, _<_, _-_, _+_, _*_}
 use native.Mathlib.Omega.{arith}

@@ -1,4 +1,4 @@
--- `score::scan_split_plan` meets its contract: both ways of counting leave the same. Assumes nothing.
+-- `score_bins::scan_split_plan` meets its contract: both ways of counting leave the same. Assumes nothing.
 use borrow.Author.Needs.{needs}
 use Rattle.score_bins.proofs.scan_split_plan.Statement.{statement}
 use Rattle.score_bins.proofs.scan_split_plan.Tie as tie

@@ -1,4 +1,4 @@
--- `score::lower_cost` meets its contract: by the test. Assumes nothing.
+-- `score_sides::lower_cost` meets its contract: by the test. Assumes nothing.
 
 use Rattle.score_sides.proofs.lower_cost.Statement.{statement}
 use Rattle.score_sides.proofs.lower_cost.Tie as tie

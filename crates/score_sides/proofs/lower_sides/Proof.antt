@@ -1,4 +1,4 @@
--- `score::lower_sides` meets its contract. Assumes nothing.
+-- `score_sides::lower_sides` meets its contract. Assumes nothing.
 
 use borrow.Author.Needs.{needs}
 use Rattle.score_sides.proofs.lower_sides.Statement.{statement}

@@ -1,4 +1,4 @@
--- `score::lowest_sides` meets its contract: the lowest of the predictors passed. Assumes nothing.
+-- `score_sides::lowest_sides` meets its contract: the lowest of the predictors passed. Assumes nothing.
 use mathlib.Core.Path.{_≡_, refl, sym, ap, _∙_}
 use Prim.Native.Nat.{ℕ, _≤_, _-_}
 use native.Mathlib.Omega.{arith}

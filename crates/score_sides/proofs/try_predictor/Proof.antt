@@ -1,4 +1,4 @@
--- `score::try_predictor` meets its contract: the predictor's part of the bin and of the node. Assumes nothing.
+-- `score_sides::try_predictor` meets its contract: the predictor's part of the bin and of the node. Assumes nothing.
 use mathlib.Core.Path.{ap, _∙_}
 use native.Mathlib.Omega.{arith}
 use Rattle.score_sides.specs.Sides.{lowerSides}

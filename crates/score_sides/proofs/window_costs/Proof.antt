@@ -1,4 +1,4 @@
--- `score::window_costs` meets its contract. The extra bits are at most 61 × 65,536, so their casts to an f32 are exact. Assumes nothing.
+-- `score_sides::window_costs` meets its contract. The extra bits are at most 61 × 65,536, so their casts to an f32 are exact. Assumes nothing.
 use mathlib.Core.Path.{_≡_}
 use Prim.Native.Nat.{_≤_, _+_}
 use native.Mathlib.Omega.{arith}

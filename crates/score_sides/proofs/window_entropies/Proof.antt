@@ -1,4 +1,4 @@
--- `score::window_entropies` meets its contract: each sum so far, with the counts that are left, is that side's whole sum. Assumes nothing.
+-- `score_sides::window_entropies` meets its contract: each sum so far, with the counts that are left, is that side's whole sum. Assumes nothing.
 use Prim.Native.Nat.{_-_}
 use mathlib.Core.Path.{_≡_, refl, sym, ap, _∙_}
 use native.Mathlib.Omega.{arith}

@@ -1,4 +1,4 @@
--- `score::window_extra` meets its contract: the sum so far, with the counts that are left, is the whole sum. Assumes nothing.
+-- `score_sides::window_extra` meets its contract: the sum so far, with the counts that are left, is the whole sum. Assumes nothing.
 use Prim.Native.Nat.{_≤_, _-_, _+_}
 use mathlib.Core.Path.{_≡_, refl}
 use native.Mathlib.Omega.{arith}

@@ -1,4 +1,4 @@
--- `score::set_windows` meets its contract: the windows passed are packed. Assumes nothing.
+-- `score_windows::set_windows` meets its contract: the windows passed are packed. Assumes nothing.
 use mathlib.Core.Path.{_≡_, refl, _∙_}
 use Prim.Native.Nat.{suc, _≤_, _<_, _-_, _+_, _*_}
 use native.Mathlib.Omega.{arith}

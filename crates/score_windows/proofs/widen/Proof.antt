@@ -1,4 +1,4 @@
--- `score::widen` meets its contract: by the tests. Assumes nothing.
+-- `score_windows::widen` meets its contract: by the tests. Assumes nothing.
 use mathlib.Core.Path.{sym}
 use Rattle.score_windows.proofs.Windowing.{widened-none, widened-first, widened-more}
 use borrow.Author.Needs.{needs}

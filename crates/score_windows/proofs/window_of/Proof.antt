@@ -1,4 +1,4 @@
--- `score::window_of` meets its contract: the window of the counts passed. Assumes nothing.
+-- `score_windows::window_of` meets its contract: the window of the counts passed. Assumes nothing.
 use mathlib.Core.Path.{_≡_, refl, sym, ap, _∙_}
 use Prim.Native.Nat.{_≤_, _-_}
 use native.Mathlib.Omega.{arith}
