@@ -26,10 +26,16 @@ values-for-requires : tie.Need-values-for-requires
 values-for-requires c κs = search needs
 
 slice-aggregate-leaf-contexts : tie.Need-slice-aggregate-leaf-contexts
-slice-aggregate-leaf-contexts c = let start = c .before .before .before .before in sym (length-take-le (start .args .n * wordsPerNode) (start .args .words .now) (start .pre .0))
+slice-aggregate-leaf-contexts c =
+    let start = c .before .before .before .before .before .before in
+    let end = c .before .before .words-for in
+    sym (length-take-le (end .result) (start .args .words .now) (rw (end .ensures) (start .pre .1 .0)))
 
 slice-aggregate-leaf-contexts-2 : tie.Need-slice-aggregate-leaf-contexts-2
-slice-aggregate-leaf-contexts-2 c = let start = c .before .before .before .before .before in sym (length-take-le (start .args .n * valuesPerNode) (start .args .values .now) (start .pre .1))
+slice-aggregate-leaf-contexts-2 c =
+    let start = c .before .before .before .before .before .before .before in
+    let end = c .before .before .values-for in
+    sym (length-take-le (end .result) (start .args .values .now) (rw (end .ensures) (start .pre .1 .1)))
 
 leaf-contexts-requires : tie.Need-leaf-contexts-requires
 leaf-contexts-requires c κs = search needs
@@ -46,7 +52,7 @@ same-length-2 c = search needs
 -- what the core's call says of the records that were copied
 module _ (c : tie.After-leaf-contexts) (nodes : List MaNode) (costs : List Float) where
   abbrev start : tie.Start
-  start = c .before .before .before .before .before .before .before .before
+  start = c .before .before .before .before .before .before .before .before .before .before
 
   abbrev asked : ContextLists
   asked = record { contexts = start .args .contexts .now; queue = start .args .queue .now }
@@ -54,8 +60,8 @@ module _ (c : tie.After-leaf-contexts) (nodes : List MaNode) (costs : List Float
   counted : Numbered (start .args .n) nodes (start .args .words .now) (start .args .values .now) costs → start .args .n ≡ copied true (start .args .count) (length nodes)
       → contextsAfter (c .leaf-contexts .result) (c .leaf-contexts .last .1 .1 .1 .0) (c .leaf-contexts .last .1 .1 .1 .1 .0) ≡ leafContexts (map storedOf nodes) (start .args .count) asked
   counted same is =
-      c .leaf-contexts .ensures costs
-      ∙ contexts-alike nodes (start .args .words .now) (start .args .values .now) costs (start .args .n) (omega arith) same (start .pre .0) (start .pre .1) (start .args .count) asked is
+      (rw (c .before .before .before .before .before .before .words-for .ensures, c .before .before .before .before .before .values-for .ensures) at (c .leaf-contexts .ensures costs))
+      ∙ contexts-alike nodes (start .args .words .now) (start .args .values .now) costs (start .args .n) (omega arith) same (start .pre .1 .0) (start .pre .1 .1) (start .args .count) asked is
 
 returns : tie.Need-returns
 returns c = let called = c .before .before .before .before .before in (
