@@ -41,8 +41,7 @@ use Rattle.layout.proofs.MaNode as N
 use Rattle.layout.proofs.Span as P
 use Rattle.records.proofs.Rows.{Lists, Spots, Names, Mutss, refs, valued, same}
 use Rattle.answers.specs.declared.LearnedTree.{LearnedTree}
-use Rattle.border.specs.Lists as R
-use Rattle.border.specs.Lists.{records, Worked}
+use Rattle.border.specs.Lists.{Records, records, Worked}
 use Rattle.answers.proofs.LearnedTree as L
 use Rattle.answers.proofs.LearnedTree.Laws as L′
 use Rattle.ma_tree.proofs.work as work
@@ -52,7 +51,7 @@ abbrev pub Es : List RattleType
 Es = i32 ∷ u8 ∷ i32 ∷ u32 ∷ i32 ∷ f32 ∷ u32 ∷ []
 
 -- all that is lent as one value
-abbrev pub listed : List MaNode → List Span → Lists Es → R.Lists
+abbrev pub listed : List MaNode → List Span → Lists Es → Records
 listed ms ss zs =
     records (flat (zs .0) (zs .1 .0) (zs .1 .1 .0)) ms ss (queueLists (zs .1 .1 .1 .0) (zs .1 .1 .1 .1 .0) (zs .1 .1 .1 .1 .1 .0)) (zs .1 .1 .1 .1 .1 .1 .0)
 
