@@ -129,7 +129,7 @@ pub fn learn_on<'a, 'b>(
         queue_gains,
         counts,
     );
-    match refuse::check_learn(s, props, tok, res, logs, rooms) {
+    match refuse::check_learn(props, tok, res, logs, s, rooms) {
         Check::Refused { number, place } => refused(number, place),
         Check::Pass(rows) => finished(learn::learn_ma_tree_in_place(
             props,
@@ -191,7 +191,7 @@ pub fn deepen_on<'a, 'b>(
         queue_gains,
         counts,
     );
-    let rows = match refuse::check_deepen(s, props, tok, res, logs, rooms, nodes) {
+    let rows = match refuse::check_deepen(props, tok, res, logs, s, rooms, nodes) {
         Check::Refused { number, place } => return refused(number, place),
         Check::Pass(rows) => rows,
     };

@@ -223,11 +223,11 @@ fn refused(number: u32) -> Check
 
 // Conditions 1 to 7. `short` says that the room which this operation asks for besides is too small.
 fn check_job(
-    s: Settings,
     props: &[i32],
     tok: &[u8],
     res: &[i32],
     logs: &[f32],
+    s: Settings,
     rooms: Rooms,
     short: bool,
 ) -> Check
@@ -261,26 +261,26 @@ fn check_job(
 
 // Conditions 1 to 7 of learning.
 pub fn check_learn(
-    s: Settings,
     props: &[i32],
     tok: &[u8],
     res: &[i32],
     logs: &[f32],
+    s: Settings,
     rooms: Rooms,
 ) -> Check
     ensures { λ r. ⌜ ((x : Lent singles) → Lends (now (props .entry)) (now (tok .entry)) (now (res .entry)) rooms x
         → r ≡ checkOf (rowCount x) (learnRefusal single (settingsOf s) (now (logs .entry)) x)) ⌝ }
 {
-    check_job(s, props, tok, res, logs, rooms, false)
+    check_job(props, tok, res, logs, s, rooms, false)
 }
 
 // Conditions 1 to 7 of deepening a seed of `count` nodes. Whether the seed is a sound tree (8) is asked after a pass.
 pub fn check_deepen(
-    s: Settings,
     props: &[i32],
     tok: &[u8],
     res: &[i32],
     logs: &[f32],
+    s: Settings,
     rooms: Rooms,
     count: usize,
 ) -> Check
@@ -289,5 +289,5 @@ pub fn check_deepen(
         (roomBesides (isShortOfSeedRoom count x)))) ⌝ }
 {
     let short = !seed_rooms_fit(rooms, props.len() / model::NUM_MA_PROPS, count);
-    check_job(s, props, tok, res, logs, rooms, short)
+    check_job(props, tok, res, logs, s, rooms, short)
 }
