@@ -124,15 +124,15 @@ fn better_of(best: Best, prop: u32, score: Score) -> Best
 fn best_split(
     props: &[i32],
     tok: &[u8],
-    first: usize,
-    end: usize,
-    s: Settings,
     preds: &[u32],
     firsts: &[u32],
     offs: &[u32],
     hist: &[u32],
-    logs: &[f32],
     counts: &mut [u32],
+    logs: &[f32],
+    s: Settings,
+    first: usize,
+    end: usize,
 ) -> Best
     requires { ⌜ Splittable (now props) (now tok) first end s (now preds) (now firsts) (now offs) (now hist)
         (now logs) (now counts) ⌝ }
@@ -205,14 +205,14 @@ fn offer_of(best: Best, cost: f32, s: Settings) -> Offer
 fn offer_split(
     props: &[i32],
     tok: &[u8],
-    first: usize,
-    end: usize,
-    s: Settings,
     hist: &[u32],
     costs: &[f32],
-    cost: f32,
-    logs: &[f32],
     counts: &mut [u32],
+    logs: &[f32],
+    s: Settings,
+    first: usize,
+    end: usize,
+    cost: f32,
 ) -> Offer
     requires { ⌜ Evaluable (now props) (now tok) first end s (now logs) (now counts) ⌝ }
     requires { ⌜ CountsSpan (now tok) first end (now hist) (s .alphabet) ⌝ }
@@ -238,15 +238,15 @@ fn offer_split(
     let best = best_split(
         props,
         tok,
-        first,
-        end,
-        s,
         &preds[..sides],
         &firsts,
         &offs,
         hist,
-        logs,
         counts,
+        logs,
+        s,
+        first,
+        end,
     );
     offer_of(best, cost, s)
 }
@@ -308,14 +308,14 @@ pub fn evaluate_counts(
         let offer = offer_split(
             props,
             tok,
-            first,
-            end,
-            s,
             hist,
             &costs,
-            best.bits,
-            logs,
             counts,
+            logs,
+            s,
+            first,
+            end,
+            best.bits,
         );
         return Leaf { info, offer };
     }

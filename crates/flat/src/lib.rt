@@ -112,12 +112,12 @@ fn groups_cost(
 pub fn flat_cost(
     props: &[i32],
     tok: &[u8],
+    hist: &mut [u32],
+    logs: &[f32],
     rows: usize,
     alphabet: usize,
     weighted: bool,
     allowed: u32,
-    logs: &[f32],
-    hist: &mut [u32],
 ) -> f64
     requires { ⌜ FlatFits (now props) (now tok) rows alphabet weighted allowed (now logs) (now hist) ⌝ }
     ensures answer { λ r. ⌜ ((t : Settings singles) (rs : List ℤ) → Uses t alphabet weighted allowed

@@ -66,12 +66,12 @@ pub fn flat_bits(
     flat::flat_cost(
         props,
         tok,
+        &mut counts[..wide],
+        logs,
         rows,
         alphabet,
         s.allow_wp,
         s.allowed_preds as u32,
-        logs,
-        &mut counts[..wide],
     )
 }
 

@@ -22,11 +22,11 @@ use Rattle.evaluate.proofs.best_split.Statement.{statement}
 use Rattle.evaluate.proofs.best_split.Tie as tie
 
 abbrev Inv-loop : tie.InvT-loop
-Inv-loop props tok first end preds firsts offs hist logs counts₀ alphabet most room planned₀ cands₀ best₀ k₀ k-end counts planned cands best k =
+Inv-loop props tok preds firsts offs hist counts₀ logs first end alphabet most room planned₀ cands₀ best₀ k₀ k-end counts planned cands best k =
     Turn props tok first end preds logs alphabet most k-end counts₀ counts planned cands best k
 
 abbrev μ-loop : tie.MeasureT-loop
-μ-loop props tok first end preds firsts offs hist logs counts₀ alphabet most room planned₀ cands₀ best₀ k₀ k-end counts planned cands best k =
+μ-loop props tok preds firsts offs hist counts₀ logs first end alphabet most room planned₀ cands₀ best₀ k₀ k-end counts planned cands best k =
     k-end - k
 
 -- ---- places
