@@ -44,13 +44,13 @@ fn prune_if(
 
 // Repeats the mode step on each leaf's span, if it is asked for.
 fn settle_if(
-    settle: bool,
-    words: &[u32],
-    count: usize,
-    uses: bool,
     tok: &mut [u8],
     res: &[i32],
+    words: &[u32],
     counts: &mut [u32],
+    settle: bool,
+    count: usize,
+    uses: bool,
 )
     requires { ⌜ Settleable (now words) count uses (now tok) (now res) (now counts) ⌝ }
     ensures rows { λ _. ⌜ ((tree : List (Entry singles)) (lent : NodeLists) (props : List ℤ)
@@ -61,7 +61,7 @@ fn settle_if(
     ensures zeros { λ _. ⌜ now (counts .exit) ≡ now (counts .entry) ⌝ }
 {
     if settle {
-        settle::settle_leaves(words, count, uses, tok, res, counts);
+        settle::settle_leaves(tok, res, words, counts, count, uses);
     }
 }
 
@@ -92,7 +92,7 @@ fn finish_tree(
 {
     let kept = prune_if(words, values, costs, grown, s.prune_leaf_bits);
     let uses = s.modal_offsets & (0 < res.len());
-    settle_if(s.settle, words, kept.nodes, uses, tok, res, counts);
+    settle_if(tok, res, words, counts, s.settle, kept.nodes, uses);
     Finished {
         nodes: kept.nodes,
         written: grown.nodes,

@@ -28,7 +28,7 @@ pub fn make_leaf(
     ensures zeros { λ _. ⌜ now (counts .exit) ≡ now (counts .entry) ⌝ }
 {
     let uses = s.modal_offsets & (0 < res.len());
-    let offset = mode::mode_step(uses, tok, res, first, end, counts);
+    let offset = mode::mode_step(tok, res, counts, first, end, uses);
     evaluate::evaluate_rows(
         props,
         tok,

@@ -170,12 +170,12 @@ pub fn rebase_zero(tok: &mut [u8], res: &[i32], first: usize, end: usize, counts
 
 // The mode step, where modal offsets are on and residuals given; else nothing, and 0.
 pub fn mode_step(
-    uses: bool,
     tok: &mut [u8],
     res: &[i32],
+    counts: &mut [u32],
     first: usize,
     end: usize,
-    counts: &mut [u32],
+    uses: bool,
 ) -> i32
     requires { ⌜ Steppable uses (now tok) (now res) first end (now counts) ⌝ }
     ensures answer { λ r. ⌜ r ≡ stepMode uses first end (now (res .entry)) ⌝ }

@@ -10,7 +10,7 @@ ghost use Rattle.rows.specs.Flat.{flat, Changed};
 ghost use Rattle.settle.specs.Leaves.{leafTokens, LeafSettles, Settleable, HoldsLeaves};
 
 // The mode step on the span of node i, if it is a leaf.
-fn settle_leaf(words: &[u32], i: usize, uses: bool, tok: &mut [u8], res: &[i32], counts: &mut [u32])
+fn settle_leaf(tok: &mut [u8], res: &[i32], words: &[u32], counts: &mut [u32], i: usize, uses: bool)
     requires { ⌜ LeafSettles (now words) i uses (now tok) (now res) (now counts) ⌝ }
     ensures tokens { λ _. ⌜ now (tok .exit)
         ≡ leafTokens (now (words .entry)) uses (now (res .entry)) i (now (tok .entry)) ⌝ }
@@ -22,18 +22,18 @@ fn settle_leaf(words: &[u32], i: usize, uses: bool, tok: &mut [u8], res: &[i32],
     let span = layout::span_at(words, i);
     let first = span.first as usize;
     let end = span.end as usize;
-    mode::mode_step(uses, tok, res, first, end, counts);
+    mode::mode_step(tok, res, counts, first, end, uses);
 }
 
 // Makes the zero predictor's tokens anew on each leaf's span, in ascending order of the nodes' numbers.
 // The first 4,096 counts are 0, before and after.
 pub fn settle_leaves(
-    words: &[u32],
-    count: usize,
-    uses: bool,
     tok: &mut [u8],
     res: &[i32],
+    words: &[u32],
     counts: &mut [u32],
+    count: usize,
+    uses: bool,
 )
     requires { ⌜ Settleable (now words) count uses (now tok) (now res) (now counts) ⌝ }
     ensures rows { λ _. ⌜ ((tree : List (Entry singles)) (lent : NodeLists) (props : List ℤ)
@@ -44,6 +44,6 @@ pub fn settle_leaves(
     ensures zeros { λ _. ⌜ now (counts .exit) ≡ now (counts .entry) ⌝ }
 {
     for i in 0..count {
-        settle_leaf(words, i, uses, tok, res, counts);
+        settle_leaf(tok, res, words, counts, i, uses);
     }
 }

@@ -44,7 +44,7 @@ abbrev after-settle-if : tie.After-slice-known8 → tie.After-settle-if
 after-settle-if c = c .before .before .before .before
 
 same-length : tie.Need-same-length
-same-length c = after-settle-if c .settle-if .kept .1 .1 .1 .1 .0
+same-length c = after-settle-if c .settle-if .kept .0
 
 abbrev after-prune-if : tie.After-slice-known8 → tie.After-prune-if
 after-prune-if c = c .before .before .before .before .before .before .before .before .before .before .before .before .before .before
@@ -59,7 +59,7 @@ same-length-4 : tie.Need-same-length-4
 same-length-4 c = after-prune-if c .prune-if .kept .1 .1 .0
 
 same-length-5 : tie.Need-same-length-5
-same-length-5 c = after-settle-if c .settle-if .kept .1 .1 .1 .1 .1 .1 .0
+same-length-5 c = after-settle-if c .settle-if .kept .1 .1 .1 .0
 
 returns : tie.Need-returns
 returns c =
@@ -71,7 +71,7 @@ returns c =
           finished-lists g cut (given .flat-bits)
           (subst
           (λ (u : Bool). Changed (λ (l : List Row). cond (given .s .settle) (modes u (cutTree (given .s .«prune_leaf_bits») (st .tree)) l) l) (flat props (given .tok .now) (given .res .now))
-          (flat props (settled .last .1 .1 .1 .1 .0) (given .res .now)))
+          (flat props (settled .last .0) (given .res .now)))
           (flag pruned)
           (settled .ensures .0 (cutTree (given .s .«prune_leaf_bits») (st .tree)) (behind g cut) props
           (subst (λ (u : Bool). HoldsLeaves (m pruned .words) (pruned .prune-if .result .nodes) u (flat props (given .tok .now) (given .res .now)) (cutTree (given .s .«prune_leaf_bits») (st .tree)) (behind g cut)) (sym (flag pruned)) (cut-leaves g cut))))

@@ -34,11 +34,11 @@ module _ (c : tie.After-mode-step) where
   flag : ((start .args .s .«modal_offsets») && ltb 0 (length (start .args .res .now))) ≡ usesOf (start .args .s) x
   flag = ap (λ (b : Bool). (start .args .s .«modal_offsets») && b) (sym (given (start .args .res .now)))
 
-  stepped : Stepped (start .args .s) (start .args .logs .now) (c .mode-step .last .1 .1 .1 .1 .1 .0) (span (start .args .first) (start .args .end)) x
-      (flat (start .args .props .now) (c .mode-step .last .1 .0) (start .args .res .now))
+  stepped : Stepped (start .args .s) (start .args .logs .now) (c .mode-step .last .1 .1 .0) (span (start .args .first) (start .args .end)) x
+      (flat (start .args .props .now) (c .mode-step .last .0) (start .args .res .now))
   stepped =
       let learnt = c .mode-step .ensures in
-      after-step (start .pre .fitting) (start .pre .spanned) ((start .args .s .«modal_offsets») && ltb 0 (length (start .args .res .now))) (c .mode-step .last .1 .0) (c .mode-step .last .1 .1 .1 .1 .1 .0)
+      after-step (start .pre .fitting) (start .pre .spanned) ((start .args .s .«modal_offsets») && ltb 0 (length (start .args .res .now))) (c .mode-step .last .0) (c .mode-step .last .1 .1 .0)
       flag (learnt .1 .0) (learnt .1 .1 .0) (learnt .1 .1 .1)
 
   mode-is : toZ w32 (ofZ w32 (c .mode-step .result)) ≡ spanMode (usesOf (start .args .s) x) (within (span (start .args .first) (start .args .end)) (heldIn x))

@@ -9,11 +9,11 @@ use Rattle.settle.proofs.settle_leaves.Statement.{statement}
 use Rattle.settle.proofs.settle_leaves.Tie as tie
 
 abbrev Inv-loop : tie.InvT-loop
-Inv-loop words count uses tok₀ res counts₀ i₀ tok counts i =
+Inv-loop tok₀ res words counts₀ count uses i₀ tok counts i =
     (i ≤ count) × (length tok ≡ length tok₀) × (tok ≡ settledTokens words uses res i tok₀) × (counts ≡ counts₀)
 
 abbrev μ-loop : tie.MeasureT-loop
-μ-loop words count uses tok₀ res counts₀ i₀ tok counts i = count - i
+μ-loop tok₀ res words counts₀ count uses i₀ tok counts i = count - i
 
 loop-holds : tie.Need-loop-holds Inv-loop μ-loop
 loop-holds c = (omega arith, refl, settled-none _ _ _ _, refl)
@@ -39,7 +39,7 @@ loop-again c =
     let here = c .before .before .before .before .before .before .before .before .loop in
     let step = c .before .before .before .before .settle-leaf in (
       omega arith,
-      step .kept .1 .1 .1 .0 ∙ here .inv .1,
+      step .kept .0 ∙ here .inv .1,
       step .ensures .0 ∙ ap (leafTokens (args .words .now) (args .uses) (args .res .now) (here .i)) (here .inv .2)
           ∙ settled-more (args .words .now) (args .uses) (args .res .now) (here .i) (args .tok .now),
       step .ensures .1 ∙ here .inv .3,
