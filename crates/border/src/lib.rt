@@ -314,8 +314,8 @@ pub fn contexts_on<'a, 'b>(
     answers::contexts_answer(contexts::leaf_contexts(
         &words[..words_end],
         &values[..values_end],
-        count,
         contexts,
         queue,
+        count,
     ))
 }

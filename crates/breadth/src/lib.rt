@@ -12,7 +12,7 @@ ghost use Rattle.breadth.specs.Queue.{queued, endAfter, Queueable};
 use layout::NodeNumber;
 
 // The children of a node, if it is a split, go to the end of the queue, gt before le.
-fn queue_children(words: &[u32], node: NodeNumber, end: usize, queue: &mut [u32]) -> usize
+fn queue_children(words: &[u32], queue: &mut [u32], node: NodeNumber, end: usize) -> usize
     requires { ⌜ Queueable (now words) (node .0) end (now queue) ⌝ }
     ensures answer { λ r. ⌜ r ≡ endAfter (eqb (kindAt (now (words .entry)) (node .0)) 1) end ⌝ }
     ensures queue { λ _. ⌜ now (queue .exit) ≡ queued (eqb (kindAt (now (words .entry)) (node .0)) 1)
@@ -40,7 +40,7 @@ pub fn breadth_order(words: &[u32], order: &mut [u32])
     let mut head: usize = 0;
     while head < end {
         let node = NodeNumber(order[head]);
-        end = queue_children(words, node, end, order);
+        end = queue_children(words, order, node, end);
         head += 1;
     }
 }

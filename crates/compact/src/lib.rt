@@ -54,14 +54,14 @@ fn gather<'a, 'b>(
     words: &'a [u32],
     values: &'a [i32],
     costs: &'a [f32],
+    new_words: &'b mut [u32],
+    new_values: &'b mut [i32],
+    new_costs: &'b mut [f32],
     splits: &[bool],
     order: &[u32],
     places: &[u32],
     n: usize,
     count: usize,
-    new_words: &'b mut [u32],
-    new_values: &'b mut [i32],
-    new_costs: &'b mut [f32],
 )
     requires { ⌜ AllMovable (nodesNow words values costs) (now splits) (now order) (now places) n count ⌝ }
     requires { ⌜ HasRoom n (nodesNow «new_words» «new_values» «new_costs») ⌝ }
@@ -104,14 +104,14 @@ pub fn move_nodes(
         words,
         values,
         costs,
+        &mut new_words,
+        &mut new_values,
+        &mut new_costs,
         splits,
         order,
         places,
         n,
         count,
-        &mut new_words,
-        &mut new_values,
-        &mut new_costs,
     );
     lists::copy_u32(&new_words, layout::words_for(count), words);
     lists::copy_i32(&new_values, layout::values_for(count), values);

@@ -67,9 +67,9 @@ fn number_leaves(words: &[u32], contexts: &mut [u32], queue: &mut [u32]) -> u32
 pub fn leaf_contexts(
     words: &[u32],
     values: &[i32],
-    count: u32,
     contexts: &mut [u32],
     queue: &mut [u32],
+    count: u32,
 ) -> Contexts
     ensures { λ r. ⌜ ((costs : List Float) → contextsAfter r (now (contexts .exit)) (now (queue .exit))
         ≡ leafContexts (storedIn (now (words .entry)) (now (values .entry)) costs) count

@@ -172,7 +172,7 @@ fn number(
     queue_entries: u32,
     value: u32,
 ) -> Check {
-    let r = contexts::leaf_contexts(words, values, count, contexts, queue);
+    let r = contexts::leaf_contexts(words, values, contexts, queue, count);
     let c = expect_counted(b, answer, r);
     let c = expect_list(b, c, context_entries, contexts);
     expect_runs(b, c, queue_entries, queue, value)

@@ -50,7 +50,7 @@ pub fn order_by_leaf(
     ensures zeros { λ _. ⌜ now (counts .exit) ≡ now (counts .entry) ⌝ }
 {
     let space = rows + count + count;
-    tree::leaf_numbers(words, values, count as u32, props, &mut counts[..rows]);
+    tree::leaf_numbers(props, words, values, &mut counts[..rows], count as u32);
     order::order_by_number(props, tok, res, &mut counts[..space], count);
     pair_spans(&counts[rows..space], words, count);
     lists::clear_u32(&mut counts[rows..space]);

@@ -50,7 +50,7 @@ fn is_orderly(words: &[u32], count: u32, node: NodeNumber) -> bool
 }
 
 // One step down from a split: a property above the value leads to gt, else to le.
-fn towards(words: &[u32], values: &[i32], props: &[i32], node: NodeNumber) -> NodeNumber
+fn towards(props: &[i32], words: &[u32], values: &[i32], node: NodeNumber) -> NodeNumber
     requires { ⌜ Leads (now words) (now values) (now props) (node .0) ⌝ }
     ensures { λ r. ⌜ r .0 ≡ childAt (now (words .entry)) (now (values .entry)) (now (props .entry)) (node .0) ⌝ }
 {
@@ -63,7 +63,7 @@ fn towards(words: &[u32], values: &[i32], props: &[i32], node: NodeNumber) -> No
 
 // The leaf that the properties of a row lead to from node 0 of a sound tree, where every node is in order: nothing is
 // tested, and `count` only says which nodes are the tree.
-fn leaf_reached(words: &[u32], values: &[i32], count: u32, props: &[i32]) -> NodeNumber
+fn leaf_reached(props: &[i32], words: &[u32], values: &[i32], count: u32) -> NodeNumber
     requires { ⌜ Routable (now words) (now values) count (now props) ⌝ }
     ensures { λ r. ⌜ ((costs : List Float) → r .0
         ≡ leafReached (nodesOf (treeIn count (storedIn (now (words .entry)) (now (values .entry)) costs)))
@@ -71,13 +71,13 @@ fn leaf_reached(words: &[u32], values: &[i32], count: u32, props: &[i32]) -> Nod
 {
     let mut node = NodeNumber(0);
     while layout::is_split(words, node) {
-        node = towards(words, values, props, node);
+        node = towards(props, words, values, node);
     }
     node
 }
 
 // The leaf that each row reaches.
-pub fn leaf_numbers(words: &[u32], values: &[i32], count: u32, props: &[i32], number: &mut [u32])
+pub fn leaf_numbers(props: &[i32], words: &[u32], values: &[i32], number: &mut [u32], count: u32)
     requires { ⌜ AllRoutable (now words) (now values) count (now props) (now number) ⌝ }
     ensures { λ _. ⌜ ((costs : List Float) (toks : List ℕ) (res : List ℤ) → now (number .exit)
         ≡ leafNumbers (treeIn count (storedIn (now (words .entry)) (now (values .entry)) costs))
@@ -87,7 +87,7 @@ pub fn leaf_numbers(words: &[u32], values: &[i32], count: u32, props: &[i32], nu
     for row in 0..rows {
         let at = row * model::NUM_MA_PROPS;
         let end = at + model::NUM_MA_PROPS;
-        let leaf = leaf_reached(words, values, count, &props[at..end]);
+        let leaf = leaf_reached(&props[at..end], words, values, count);
         number[row] = leaf.0;
     }
 }

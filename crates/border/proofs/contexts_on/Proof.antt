@@ -58,7 +58,7 @@ module _ (c : tie.After-leaf-contexts) (nodes : List MaNode) (costs : List Float
   asked = record { contexts = start .args .contexts .now; queue = start .args .queue .now }
 
   counted : Numbered (start .args .n) nodes (start .args .words .now) (start .args .values .now) costs → start .args .n ≡ copied true (start .args .count) (length nodes)
-      → contextsAfter (c .leaf-contexts .result) (c .leaf-contexts .last .1 .1 .1 .0) (c .leaf-contexts .last .1 .1 .1 .1 .0) ≡ leafContexts (map storedOf nodes) (start .args .count) asked
+      → contextsAfter (c .leaf-contexts .result) (c .leaf-contexts .last .1 .1 .0) (c .leaf-contexts .last .1 .1 .1 .0) ≡ leafContexts (map storedOf nodes) (start .args .count) asked
   counted same is =
       (rw (c .before .before .before .before .before .before .words-for .ensures, c .before .before .before .before .before .values-for .ensures) at (c .leaf-contexts .ensures costs))
       ∙ contexts-alike nodes (start .args .words .now) (start .args .values .now) costs (start .args .n) (omega arith) same (start .pre .1 .0) (start .pre .1 .1) (start .args .count) asked is

@@ -11,12 +11,12 @@ use Rattle.compact.proofs.gather.Statement.{statement}
 use Rattle.compact.proofs.gather.Tie as tie
 
 abbrev Inv-loop : tie.InvT-loop
-Inv-loop words values costs splits order places n count new-words₀ new-values₀ new-costs₀ q₀ new-words new-values new-costs q =
+Inv-loop words values costs new-words₀ new-values₀ new-costs₀ splits order places n count q₀ new-words new-values new-costs q =
     (q ≤ n) × (nodeLists new-words new-values new-costs
     ≡ holding (entriesFrom (nodeLists words values costs) splits order places q) (nodeLists new-words₀ new-values₀ new-costs₀))
 
 abbrev μ-loop : tie.MeasureT-loop
-μ-loop words values costs splits order places n count new-words₀ new-values₀ new-costs₀ q₀ new-words new-values new-costs q = n - q
+μ-loop words values costs new-words₀ new-values₀ new-costs₀ splits order places n count q₀ new-words new-values new-costs q = n - q
 
 loop-holds : tie.Need-loop-holds Inv-loop μ-loop
 loop-holds c = (omega arith, gathered-none _ _ _ _ _)

@@ -55,7 +55,7 @@ copy-f32-requires : tie.Need-copy-f32-requires
 copy-f32-requires c κs =
     let pre = c .before .before .before .before .before .before .before .before .before .before .before .before .before .before .before .before .before .before .before .before .before .before .before .before .before .before .before .before .pre in
     let kept = c .before .before .before .before .before .before .before .before .before .before .before .before .before .before .before .before .gather .kept in
-    (omega (arith, kept .1 .1 .1 .1 .1 .1 .1 .1 .1 .1 .0, pre .most), pre .room .costs)
+    (omega (arith, kept .1 .1 .1 .1 .1 .0, pre .most), pre .room .costs)
 
 same-length : tie.Need-same-length
 same-length c = search needs

@@ -18,7 +18,7 @@ numbering c = c .before .before .before .before .before .before .before
 
 -- ---- the numbers that were read, and the rows and the space that the ordering left
 abbrev numbers : tie.After-leaf-numbers → List ℕ
-numbers c = c .leaf-numbers .last .1 .1 .1 .1 .0
+numbers c = c .leaf-numbers .last .1 .1 .1 .0
 
 abbrev rows : tie.After-order-by-number → List Row
 rows c = rowsHeld (c .order-by-number .last .0) (c .order-by-number .last .1 .0) (c .order-by-number .last .1 .1 .0)
@@ -32,14 +32,14 @@ add-space c = search needs
 add-space-2 : tie.Need-add-space-2
 add-space-2 c = search needs
 
-cast-leaf-numbers : tie.Need-cast-leaf-numbers
-cast-leaf-numbers c = omega (arith, count-few (c .before .before .before .before .pre))
-
 slice-relend-prefix-leaf-numbers : tie.Need-slice-relend-prefix-leaf-numbers
 slice-relend-prefix-leaf-numbers c = search needs
 
 slice-aggregate-leaf-numbers : tie.Need-slice-aggregate-leaf-numbers
 slice-aggregate-leaf-numbers c = sym (front-long (c .before .before .before .before .before .before .pre))
+
+cast-leaf-numbers : tie.Need-cast-leaf-numbers
+cast-leaf-numbers c = omega (arith, count-few (c .before .before .before .before .before .before .pre))
 
 leaf-numbers-requires : tie.Need-leaf-numbers-requires
 leaf-numbers-requires c κs = routable (c .before .before .before .before .before .before .pre)
@@ -50,13 +50,13 @@ slice-relend-prefix-order-by-number c = search needs
 slice-aggregate-order-by-number : tie.Need-slice-aggregate-order-by-number
 slice-aggregate-order-by-number c =
     let read = c .before .before .before .before .before .before in
-    sym (space-long (entry read .pre) (numbers read) (read .leaf-numbers .kept .1 .1 .1 .1 .0) (read .leaf-numbers .ensures))
+    sym (space-long (entry read .pre) (numbers read) (read .leaf-numbers .kept .1 .1 .1 .0) (read .leaf-numbers .ensures))
 
 order-by-number-requires : tie.Need-order-by-number-requires
 order-by-number-requires c κs =
     let read = c .before .before .before .before .before .before in
     let pre = entry read .pre in
-    let long = read .leaf-numbers .kept .1 .1 .1 .1 .0 in
+    let long = read .leaf-numbers .kept .1 .1 .1 .0 in
     (hold-rows pre (numbers read) long (read .leaf-numbers .ensures), hold-space pre (numbers read) long (read .leaf-numbers .ensures))
 
 mul-pair-spans : tie.Need-mul-pair-spans
@@ -77,7 +77,7 @@ pair-spans-requires c κs =
     let read = numbering done in
     let pre = entry read .pre in
     record {
-      given = mid-long pre (numbers read) (read .leaf-numbers .kept .1 .1 .1 .1 .0) (read .leaf-numbers .ensures)
+      given = mid-long pre (numbers read) (read .leaf-numbers .kept .1 .1 .1 .0) (read .leaf-numbers .ensures)
           (rows done) (space done) (done .order-by-number .kept .1 .1 .1 .0) (done .order-by-number .ensures);
       room = pre .sound .held;
     }
@@ -123,7 +123,7 @@ returns c =
     let done = c .before .before .before .before .before .before .before .before .before .before .before .before .before .before .before .before in
     let read = numbering done in
     let pre = entry read .pre in
-    let long = read .leaf-numbers .kept .1 .1 .1 .1 .0 in
+    let long = read .leaf-numbers .kept .1 .1 .1 .0 in
     let is = read .leaf-numbers .ensures in
     let kept = done .order-by-number .kept in
     let ordered = done .order-by-number .ensures in (
@@ -143,9 +143,9 @@ order-by-leaf-spec =
     (tie.spec
     add-space
     add-space-2
-    cast-leaf-numbers
     slice-relend-prefix-leaf-numbers
     slice-aggregate-leaf-numbers
+    cast-leaf-numbers
     leaf-numbers-requires
     slice-relend-prefix-order-by-number
     slice-aggregate-order-by-number

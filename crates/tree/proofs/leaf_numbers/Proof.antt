@@ -19,11 +19,11 @@ use Rattle.tree.proofs.leaf_numbers.Statement.{statement}
 use Rattle.tree.proofs.leaf_numbers.Tie as tie
 
 abbrev Inv-loop : tie.InvT-loop
-Inv-loop words values count props number₀ rows row₀ number row = (row ≤ rows) × (length number ≡ rows)
+Inv-loop props words values number₀ count rows row₀ number row = (row ≤ rows) × (length number ≡ rows)
     × ((costs : List Float) → number ≡ map (rowLeaf words values costs count props) (range 0 row) ++ drop row number₀)
 
 abbrev μ-loop : tie.MeasureT-loop
-μ-loop words values count props number₀ rows row₀ number row = rows - row
+μ-loop props words values number₀ count rows row₀ number row = rows - row
 
 loop-holds : tie.Need-loop-holds Inv-loop μ-loop
 loop-holds c = (omega arith, refl, λ costs. refl)

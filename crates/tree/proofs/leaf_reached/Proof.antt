@@ -12,10 +12,10 @@ use Rattle.tree.proofs.leaf_reached.Statement.{statement}
 use Rattle.tree.proofs.leaf_reached.Tie as tie
 
 abbrev Inv-loop : tie.InvT-loop
-Inv-loop words values count props node₀ node = (count ≤ nodesHeld words values) × Followed words values count props (node .0)
+Inv-loop props words values count node₀ node = (count ≤ nodesHeld words values) × Followed words values count props (node .0)
 
 abbrev μ-loop : tie.MeasureT-loop
-μ-loop words values count props node₀ node = count - node .0
+μ-loop props words values count node₀ node = count - node .0
 
 -- a split leads on
 on : (c : tie.Then1 Inv-loop μ-loop) →
