@@ -169,17 +169,17 @@ fn best_split(
         let score = score::score_property(
             props,
             tok,
-            first,
-            end,
-            prop,
             &cands[..n],
             preds,
             firsts,
             offs,
-            alphabet,
             hist,
-            logs,
             &mut counts[room..],
+            logs,
+            first,
+            end,
+            prop,
+            alphabet,
         );
         best = better_of(best, prop as u32, score);
     }
@@ -234,7 +234,7 @@ fn offer_split(
         s.side_preds as usize,
         &mut preds,
     );
-    score_windows::set_windows(hist, alphabet, &preds[..sides], &mut firsts, &mut offs);
+    score_windows::set_windows(hist, &preds[..sides], &mut firsts, &mut offs, alphabet);
     let best = best_split(
         props,
         tok,

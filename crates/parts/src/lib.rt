@@ -160,7 +160,7 @@ pub extern "C" fn ostrovuc_set_windows(
     ensures { λ _. ⌜ Windows (now (node .entry)) alphabet
         (now (preds .entry)) (now (firsts .exit)) (now (offs .exit)) ⌝ }
 {
-    score_windows::set_windows(node, alphabet, preds, firsts, offs)
+    score_windows::set_windows(node, preds, firsts, offs, alphabet)
 }
 
 // The best of the candidates of a property over the rows from first to end.
@@ -193,16 +193,16 @@ pub extern "C" fn ostrovuc_score_property(
     answers::scored_answer(score::score_property(
         props,
         tok,
-        first,
-        end,
-        prop,
         cands,
         preds,
         firsts,
         offs,
-        alphabet,
         node,
-        logs,
         room,
+        logs,
+        first,
+        end,
+        prop,
+        alphabet,
     ))
 }

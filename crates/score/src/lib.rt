@@ -49,15 +49,15 @@ fn rows_in(counts: &[u32]) -> u32
 fn score_at(
     cells: &[u32],
     node: &[u32],
-    alphabet: usize,
     preds: &[u32],
     firsts: &[u32],
     offs: &[u32],
     extras: &[u32],
-    stride: usize,
-    total: u32,
     cands: &[i32],
     logs: &[f32],
+    stride: usize,
+    total: u32,
+    alphabet: usize,
     k: usize,
 ) -> Score
     requires { ⌜ Binned (now cells) (now node) alphabet (now preds) (now firsts) (now offs) (now extras)
@@ -81,15 +81,15 @@ fn score_at(
     let sides = score_sides::lowest_sides(
         cells,
         node,
-        alphabet,
         preds,
         firsts,
         offs,
         extras,
+        logs,
+        alphabet,
         base,
         log_le,
         log_gt,
-        logs,
     );
     Score::Threshold(cands[k], sides.le + sides.gt)
 }
@@ -98,15 +98,15 @@ fn score_at(
 fn score_split_plan(
     cells: &[u32],
     node: &[u32],
-    alphabet: usize,
     preds: &[u32],
     firsts: &[u32],
     offs: &[u32],
     extras: &[u32],
-    stride: usize,
-    total: u32,
     cands: &[i32],
     logs: &[f32],
+    stride: usize,
+    total: u32,
+    alphabet: usize,
 ) -> Score
     requires { ⌜ Binned (now cells) (now node) alphabet (now preds) (now firsts) (now offs) (now extras)
         stride total (length (now cands)) (now logs) ⌝ }
@@ -119,15 +119,15 @@ fn score_split_plan(
         let next = score_at(
             cells,
             node,
-            alphabet,
             preds,
             firsts,
             offs,
             extras,
-            stride,
-            total,
             cands,
             logs,
+            stride,
+            total,
+            alphabet,
             k,
         );
         best = lower_score(best, next);
@@ -136,7 +136,7 @@ fn score_split_plan(
 }
 
 // The extra bits of the node's rows under each side predictor.
-fn set_extras(node: &[u32], alphabet: usize, preds: &[u32], extras: &mut [u32])
+fn set_extras(node: &[u32], preds: &[u32], extras: &mut [u32], alphabet: usize)
     requires { ⌜ ExtrasFit (now node) alphabet (now preds) (now extras) ⌝ }
     ensures { λ _. ⌜ Extras (now (node .entry)) alphabet (now (preds .entry)) (now (extras .exit))
         (length (now (preds .entry))) ⌝ }
@@ -152,18 +152,18 @@ fn set_extras(node: &[u32], alphabet: usize, preds: &[u32], extras: &mut [u32])
 fn score_in(
     props: &[i32],
     tok: &[u8],
-    first: usize,
-    end: usize,
-    prop: usize,
     cands: &[i32],
     preds: &[u32],
     firsts: &[u32],
     offs: &[u32],
+    node: &[u32],
+    room: &mut [u32],
+    logs: &[f32],
+    first: usize,
+    end: usize,
+    prop: usize,
     stride: usize,
     alphabet: usize,
-    node: &[u32],
-    logs: &[f32],
-    room: &mut [u32],
 ) -> Score
     requires { ⌜ Scorable (now props) (now tok) first end prop (now cands) (now preds) alphabet (now node)
         (now logs) ⌝ }
@@ -179,31 +179,31 @@ fn score_in(
     score_bins::scan_split_plan(
         props,
         tok,
-        first,
-        rows,
-        prop,
         cands,
         preds,
         firsts,
         offs,
-        stride,
         room,
+        first,
+        rows,
+        prop,
+        stride,
     );
     score_bins::accumulate(room, stride, cands.len() * stride);
     let mut extras = [0u32; model::NUM_MA_PREDS];
-    set_extras(node, alphabet, preds, &mut extras);
+    set_extras(node, preds, &mut extras, alphabet);
     let score = score_split_plan(
         room,
         node,
-        alphabet,
         preds,
         firsts,
         offs,
         &extras,
-        stride,
-        rows as u32,
         cands,
         logs,
+        stride,
+        rows as u32,
+        alphabet,
     );
     lists::clear_u32(room);
     score
@@ -214,17 +214,17 @@ fn score_in(
 pub fn score_property(
     props: &[i32],
     tok: &[u8],
-    first: usize,
-    end: usize,
-    prop: usize,
     cands: &[i32],
     preds: &[u32],
     firsts: &[u32],
     offs: &[u32],
-    alphabet: usize,
     node: &[u32],
-    logs: &[f32],
     room: &mut [u32],
+    logs: &[f32],
+    first: usize,
+    end: usize,
+    prop: usize,
+    alphabet: usize,
 ) -> Score
     requires { ⌜ Scorable (now props) (now tok) first end prop (now cands) (now preds) alphabet (now node)
         (now logs) ⌝ }
@@ -241,17 +241,17 @@ pub fn score_property(
     score_in(
         props,
         tok,
-        first,
-        end,
-        prop,
         cands,
         preds,
         firsts,
         offs,
+        node,
+        &mut room[..bins],
+        logs,
+        first,
+        end,
+        prop,
         stride,
         alphabet,
-        node,
-        logs,
-        &mut room[..bins],
     )
 }

@@ -34,12 +34,12 @@ fn bin_for(cands: &[i32], v: i32) -> u32
 // Counts a row's token in the window of each side predictor, in the bin that starts at `base`.
 fn scan_row(
     tok: &[u8],
-    row: usize,
     preds: &[u32],
     firsts: &[u32],
     offs: &[u32],
-    base: usize,
     cells: &mut [u32],
+    row: usize,
+    base: usize,
 )
     requires { ⌜ InLanes (now tok) (now preds) (now firsts) (now offs) base row (length (now cells)) ⌝ }
     requires { ⌜ Low 920000 (now cells) ⌝ }
@@ -60,15 +60,15 @@ fn scan_row(
 fn scan_any(
     props: &[i32],
     tok: &[u8],
-    first: usize,
-    rows: usize,
-    prop: usize,
     cands: &[i32],
     preds: &[u32],
     firsts: &[u32],
     offs: &[u32],
-    stride: usize,
     cells: &mut [u32],
+    first: usize,
+    rows: usize,
+    prop: usize,
+    stride: usize,
 )
     requires { ⌜ RowsThere (now props) (now tok) first rows ⌝ }
     requires { ⌜ (prop < propsPerRow) × (length (now cands) ≤ 32)
@@ -83,7 +83,7 @@ fn scan_any(
     for k in 0..rows {
         let row = first + k;
         let bin = bin_for(cands, props[row * model::NUM_MA_PROPS + prop]) as usize;
-        scan_row(tok, row, preds, firsts, offs, bin * stride, cells);
+        scan_row(tok, preds, firsts, offs, cells, row, bin * stride);
     }
 }
 
@@ -107,7 +107,7 @@ fn lane_at(preds: &[u32], firsts: &[u32], offs: &[u32], j: usize) -> Lane
 }
 
 // Counts a row's token in a window, in the bin that starts at `base`.
-fn count_token(tok: &[u8], row: usize, lane: Lane, base: usize, cells: &mut [u32])
+fn count_token(tok: &[u8], cells: &mut [u32], lane: Lane, row: usize, base: usize)
     requires { ⌜ TokenFits (now tok) row lane base (now cells) ⌝ }
     ensures { λ _. ⌜ now (cells .exit) ≡ bumped (placeIn lane (now (tok .entry)) base row) (now (cells .entry)) ⌝ }
 {
@@ -121,15 +121,15 @@ fn count_token(tok: &[u8], row: usize, lane: Lane, base: usize, cells: &mut [u32
 fn scan_four(
     props: &[i32],
     tok: &[u8],
-    first: usize,
-    rows: usize,
-    prop: usize,
     cands: &[i32],
     preds: &[u32],
     firsts: &[u32],
     offs: &[u32],
-    stride: usize,
     cells: &mut [u32],
+    first: usize,
+    rows: usize,
+    prop: usize,
+    stride: usize,
 )
     requires { ⌜ RowsThere (now props) (now tok) first rows ⌝ }
     requires { ⌜ (prop < propsPerRow) × (length (now cands) ≤ 32)
@@ -150,10 +150,10 @@ fn scan_four(
         let row = first + k;
         let bin = bin_for(cands, props[row * model::NUM_MA_PROPS + prop]) as usize;
         let base = bin * stride;
-        count_token(tok, row, a, base, cells);
-        count_token(tok, row, b, base, cells);
-        count_token(tok, row, c, base, cells);
-        count_token(tok, row, d, base, cells);
+        count_token(tok, cells, a, row, base);
+        count_token(tok, cells, b, row, base);
+        count_token(tok, cells, c, row, base);
+        count_token(tok, cells, d, row, base);
     }
 }
 
@@ -161,15 +161,15 @@ fn scan_four(
 pub fn scan_split_plan(
     props: &[i32],
     tok: &[u8],
-    first: usize,
-    rows: usize,
-    prop: usize,
     cands: &[i32],
     preds: &[u32],
     firsts: &[u32],
     offs: &[u32],
-    stride: usize,
     cells: &mut [u32],
+    first: usize,
+    rows: usize,
+    prop: usize,
+    stride: usize,
 )
     requires { ⌜ RowsThere (now props) (now tok) first rows ⌝ }
     requires { ⌜ (prop < propsPerRow) × (length (now cands) ≤ 32)
@@ -185,30 +185,30 @@ pub fn scan_split_plan(
         scan_four(
             props,
             tok,
-            first,
-            rows,
-            prop,
             cands,
             preds,
             firsts,
             offs,
-            stride,
             cells,
+            first,
+            rows,
+            prop,
+            stride,
         );
         return;
     }
     scan_any(
         props,
         tok,
-        first,
-        rows,
-        prop,
         cands,
         preds,
         firsts,
         offs,
-        stride,
         cells,
+        first,
+        rows,
+        prop,
+        stride,
     );
 }
 

@@ -16,7 +16,7 @@ pub struct Sides {
 }
 
 // The entropies of both sides under one predictor, in one sweep: `left` counts one side, and `node` both.
-fn window_entropies(left: &[u32], node: &[u32], log_le: f32, log_gt: f32, logs: &[f32]) -> Sides
+fn window_entropies(left: &[u32], node: &[u32], logs: &[f32], log_le: f32, log_gt: f32) -> Sides
     requires { ⌜ SideCounted (now left) (now node) (now logs) ⌝ }
     ensures { λ r. ⌜ r ≡ entropiesOf (now (left .entry)) (now (node .entry)) «log_le» «log_gt» (now (logs .entry)) ⌝ }
 {
@@ -53,17 +53,17 @@ pub fn window_extra(counts: &[u32], first: usize) -> u32
 fn window_costs(
     left: &[u32],
     node: &[u32],
+    logs: &[f32],
     first: usize,
     extra: u32,
     log_le: f32,
     log_gt: f32,
-    logs: &[f32],
 ) -> Sides
     requires { ⌜ SideCounted (now left) (now node) (now logs) ⌝ }
     requires { ⌜ (first + length (now left) ≤ 256) × (extra ≡ extraFrom first (now node)) ⌝ }
     ensures { λ r. ⌜ r ≡ costsOf (now (left .entry)) (now (node .entry)) first «log_le» «log_gt» (now (logs .entry)) ⌝ }
 {
-    let bits = window_entropies(left, node, log_le, log_gt, logs);
+    let bits = window_entropies(left, node, logs, log_le, log_gt);
     let le = window_extra(left, first);
     Sides {
         le: bits.le + le as f32,
@@ -90,18 +90,18 @@ fn lower_sides(best: Sides, next: Sides) -> Sides
 
 // Side predictor j against the best so far, in the bin that starts at `base`.
 fn try_predictor(
-    best: Sides,
     cells: &[u32],
     node: &[u32],
-    alphabet: usize,
     preds: &[u32],
     firsts: &[u32],
     offs: &[u32],
     extras: &[u32],
+    logs: &[f32],
+    best: Sides,
+    alphabet: usize,
     base: usize,
     log_le: f32,
     log_gt: f32,
-    logs: &[f32],
     j: usize,
 ) -> Sides
     requires { ⌜ Ready (now cells) (now node) alphabet (now preds) (now firsts) (now offs) (now extras)
@@ -119,11 +119,11 @@ fn try_predictor(
     let costs = window_costs(
         &cells[start..end],
         &node[from..till],
+        logs,
         first,
         extras[j],
         log_le,
         log_gt,
-        logs,
     );
     lower_sides(best, costs)
 }
@@ -132,15 +132,15 @@ fn try_predictor(
 pub fn lowest_sides(
     cells: &[u32],
     node: &[u32],
-    alphabet: usize,
     preds: &[u32],
     firsts: &[u32],
     offs: &[u32],
     extras: &[u32],
+    logs: &[f32],
+    alphabet: usize,
     base: usize,
     log_le: f32,
     log_gt: f32,
-    logs: &[f32],
 ) -> Sides
     requires { ⌜ Ready (now cells) (now node) alphabet (now preds) (now firsts) (now offs) (now extras)
         base (now logs) ⌝ }
@@ -154,18 +154,18 @@ pub fn lowest_sides(
     };
     for j in 0..preds.len() {
         best = try_predictor(
-            best,
             cells,
             node,
-            alphabet,
             preds,
             firsts,
             offs,
             extras,
+            logs,
+            best,
+            alphabet,
             base,
             log_le,
             log_gt,
-            logs,
             j,
         );
     }

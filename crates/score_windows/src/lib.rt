@@ -47,10 +47,10 @@ fn window_of(hist: &[u32]) -> Window
 // where it starts. After the last start stands the length of a bin.
 pub fn set_windows(
     node: &[u32],
-    alphabet: usize,
     preds: &[u32],
     firsts: &mut [u32],
     offs: &mut [u32],
+    alphabet: usize,
 )
     requires { ⌜ Windowable (now node) alphabet (now preds) (now firsts) (now offs) ⌝ }
     ensures { λ _. ⌜ Windows (now (node .entry)) alphabet (now (preds .entry))

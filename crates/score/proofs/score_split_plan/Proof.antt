@@ -12,10 +12,10 @@ use Rattle.score.proofs.score_split_plan.Statement.{statement}
 use Rattle.score.proofs.score_split_plan.Tie as tie
 
 abbrev Inv-loop : tie.InvT-loop
-Inv-loop cells node alphabet preds firsts offs extras stride total cands logs best₀ k₀ k-end best k = (k-end ≡ length cands) × (k ≤ length cands) × (scoreIs best ≡ scoredTo (scoredAt cells node alphabet preds firsts offs stride total cands logs) k)
+Inv-loop cells node preds firsts offs extras cands logs stride total alphabet best₀ k₀ k-end best k = (k-end ≡ length cands) × (k ≤ length cands) × (scoreIs best ≡ scoredTo (scoredAt cells node alphabet preds firsts offs stride total cands logs) k)
 
 abbrev μ-loop : tie.MeasureT-loop
-μ-loop cells node alphabet preds firsts offs extras stride total cands logs best₀ k₀ k-end best k = k-end - k
+μ-loop cells node preds firsts offs extras cands logs stride total alphabet best₀ k₀ k-end best k = k-end - k
 
 abbrev score : tie.Start Inv-loop μ-loop → ℕ → model.Score singles
 score s = scoredAt (s .args .cells .now) (s .args .node .now) (s .args .alphabet) (s .args .preds .now) (s .args .firsts .now) (s .args .offs .now) (s .args .stride) (s .args .total) (s .args .cands .now) (s .args .logs .now)

@@ -13,10 +13,10 @@ use Rattle.score.proofs.set_extras.Statement.{statement}
 use Rattle.score.proofs.set_extras.Tie as tie
 
 abbrev Inv-loop : tie.InvT-loop
-Inv-loop node alphabet preds extras₀ j₀ j-end extras j = (j-end ≡ length preds) × (j ≤ length preds) × Extras node alphabet preds extras j × (length extras ≡ length extras₀)
+Inv-loop node preds extras₀ alphabet j₀ j-end extras j = (j-end ≡ length preds) × (j ≤ length preds) × Extras node alphabet preds extras j × (length extras ≡ length extras₀)
 
 abbrev μ-loop : tie.MeasureT-loop
-μ-loop node alphabet preds extras₀ j₀ j-end extras j = j-end - j
+μ-loop node preds extras₀ alphabet j₀ j-end extras j = j-end - j
 
 abbrev start : tie.In-loop Inv-loop μ-loop → tie.Start Inv-loop μ-loop
 start c = c .before .before .before .before .before

@@ -15,12 +15,12 @@ use Rattle.score_bins.proofs.scan_any.Statement.{statement}
 use Rattle.score_bins.proofs.scan_any.Tie as tie
 
 abbrev Inv-loop : tie.InvT-loop
-Inv-loop props tok first rows prop cands preds firsts offs stride cells₀ k₀ cells k = (k ≤ rows)
+Inv-loop props tok cands preds firsts offs cells₀ first rows prop stride k₀ cells k = (k ≤ rows)
     × (cells ≡ talliedRows (binCell props tok first prop cands preds firsts offs stride) (length preds) k cells₀)
     × (length cells ≡ length cells₀)
 
 abbrev μ-loop : tie.MeasureT-loop
-μ-loop props tok first rows prop cands preds firsts offs stride cells₀ k₀ cells k = rows - k
+μ-loop props tok cands preds firsts offs cells₀ first rows prop stride k₀ cells k = rows - k
 
 -- the function's start, the rows' cells and bins
 abbrev start : tie.In-loop Inv-loop μ-loop → tie.Start Inv-loop μ-loop
@@ -69,9 +69,9 @@ cast-bin : tie.Need-cast-bin Inv-loop μ-loop
 cast-bin c = let s = start (c .before .before) in omega (arith, found c, bin-le s (c .before .before .before .loop .k), s .pre .1 .0 .1)
 
 mul-scan-row : tie.Need-mul-scan-row Inv-loop μ-loop
-mul-scan-row c = let s = start (c .before .before) in
-    let b = c in
-    let k = c .before .before .before .loop .k in
+mul-scan-row c = let s = start (c .before .before .before) in
+    let b = c .before in
+    let k = c .before .before .before .before .loop .k in
     omega (arith, part-end (b .bin-for .result) (length (s .args .cands .now) + 1) (s .args .stride) (omega (arith, found b, bin-le s k)), s .pre .1 .0 .2, s .good)
 
 scan-row-requires : tie.Need-scan-row-requires Inv-loop μ-loop
@@ -101,7 +101,7 @@ loop-again c = let s = start (c .before .before .before .before .before .before)
     let cells = rw (found (c .before .before .before .before)) at (row .ensures) in (
       omega (arith, c .before .before .before .before .before .before .loop-test .taken),
       cells ∙ ap (tallied (cell s (loop .k)) (length (s .args .preds .now))) (loop .inv .1) ∙ sym (rows-more (cell s) (length (s .args .preds .now)) (loop .k) (s .args .cells .now)),
-      row .kept .1 .1 .1 .1 .1 .1 .0 ∙ loop .inv .2,
+      row .kept .1 .1 .1 .1 .0 ∙ loop .inv .2,
     )
 
 same-length : tie.Need-same-length Inv-loop μ-loop

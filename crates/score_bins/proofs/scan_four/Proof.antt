@@ -17,12 +17,12 @@ use Rattle.score_bins.proofs.scan_four.Statement.{statement}
 use Rattle.score_bins.proofs.scan_four.Tie as tie
 
 abbrev Inv-loop : tie.InvT-loop
-Inv-loop props tok first rows prop cands preds firsts offs stride cells₀ a b c d k₀ cells k = (k ≤ rows)
+Inv-loop props tok cands preds firsts offs cells₀ first rows prop stride a b c d k₀ cells k = (k ≤ rows)
     × (cells ≡ talliedRows (binCell props tok first prop cands preds firsts offs stride) (length preds) k cells₀)
     × (length cells ≡ length cells₀)
 
 abbrev μ-loop : tie.MeasureT-loop
-μ-loop props tok first rows prop cands preds firsts offs stride cells₀ a b c d k₀ cells k = rows - k
+μ-loop props tok cands preds firsts offs cells₀ first rows prop stride a b c d k₀ cells k = rows - k
 
 -- the function's start, the rows' cells and bins
 abbrev start : tie.In-loop Inv-loop μ-loop → tie.Start Inv-loop μ-loop
@@ -117,16 +117,16 @@ lane2 c = c .before .before .before .before .before .lane-at3 .ensures
 lane3 : (c : tie.After-bin-for Inv-loop μ-loop) → let s = c .before .before .before .before .before .before .before .before .before .before .before .before .before in c .before .before .before .before .lane-at4 .result ≡ laneOf (s .args .preds .now) (s .args .firsts .now) (s .args .offs .now) 3
 lane3 c = c .before .before .before .before .lane-at4 .ensures
 
-one : (c : tie.After-count-token Inv-loop μ-loop) → Next (bin1 c) 1 (c .count-token .last .1 .1 .1 .1 .0)
+one : (c : tie.After-count-token Inv-loop μ-loop) → Next (bin1 c) 1 (c .count-token .last .1 .0)
 one c = counted (bin1 c) 0 _ _ _ (lane0 (bin1 c)) (sym (tallied-none _ _)) (c .count-token .ensures)
 
-two : (c : tie.After-count-token2 Inv-loop μ-loop) → Next (bin2 c) 2 (c .count-token2 .last .1 .1 .1 .1 .0)
+two : (c : tie.After-count-token2 Inv-loop μ-loop) → Next (bin2 c) 2 (c .count-token2 .last .1 .0)
 two c = counted (bin2 c) 1 _ _ _ (lane1 (bin2 c)) (one (c .before .before .before .before)) (c .count-token2 .ensures)
 
-three : (c : tie.After-count-token3 Inv-loop μ-loop) → Next (bin3 c) 3 (c .count-token3 .last .1 .1 .1 .1 .0)
+three : (c : tie.After-count-token3 Inv-loop μ-loop) → Next (bin3 c) 3 (c .count-token3 .last .1 .0)
 three c = counted (bin3 c) 2 _ _ _ (lane2 (bin3 c)) (two (c .before .before .before .before)) (c .count-token3 .ensures)
 
-four : (c : tie.After-count-token4 Inv-loop μ-loop) → Next (bin4 c) 4 (c .count-token4 .last .1 .1 .1 .1 .0)
+four : (c : tie.After-count-token4 Inv-loop μ-loop) → Next (bin4 c) 4 (c .count-token4 .last .1 .0)
 four c = counted (bin4 c) 3 _ _ _ (lane3 (bin4 c)) (three (c .before .before .before .before)) (c .count-token4 .ensures)
 
 lane-at-requires : tie.Need-lane-at-requires Inv-loop μ-loop

@@ -12,10 +12,10 @@ use Rattle.score_bins.proofs.scan_row.Statement.{statement}
 use Rattle.score_bins.proofs.scan_row.Tie as tie
 
 abbrev Inv-loop : tie.InvT-loop
-Inv-loop tok row preds firsts offs base cells₀ j₀ j-end cells j = (j-end ≡ length preds) × (j ≤ length preds) × (cells ≡ tallied (laneCell tok preds firsts offs base row) j cells₀) × (length cells ≡ length cells₀)
+Inv-loop tok preds firsts offs cells₀ row base j₀ j-end cells j = (j-end ≡ length preds) × (j ≤ length preds) × (cells ≡ tallied (laneCell tok preds firsts offs base row) j cells₀) × (length cells ≡ length cells₀)
 
 abbrev μ-loop : tie.MeasureT-loop
-μ-loop tok row preds firsts offs base cells₀ j₀ j-end cells j = j-end - j
+μ-loop tok preds firsts offs cells₀ row base j₀ j-end cells j = j-end - j
 
 -- the function's start, and what this turn knows of its window
 abbrev start : tie.In-loop Inv-loop μ-loop → tie.Start Inv-loop μ-loop

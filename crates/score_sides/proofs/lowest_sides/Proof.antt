@@ -12,10 +12,10 @@ use Rattle.score_sides.proofs.lowest_sides.Statement.{statement}
 use Rattle.score_sides.proofs.lowest_sides.Tie as tie
 
 abbrev Inv-loop : tie.InvT-loop
-Inv-loop cells node alphabet preds firsts offs extras base log-le log-gt logs best₀ j₀ j-end best j = (j-end ≡ length preds) × (j ≤ length preds) × (best ≡ lowestTo (laneAt cells node alphabet preds firsts offs base log-le log-gt logs) j)
+Inv-loop cells node preds firsts offs extras logs alphabet base log-le log-gt best₀ j₀ j-end best j = (j-end ≡ length preds) × (j ≤ length preds) × (best ≡ lowestTo (laneAt cells node alphabet preds firsts offs base log-le log-gt logs) j)
 
 abbrev μ-loop : tie.MeasureT-loop
-μ-loop cells node alphabet preds firsts offs extras base log-le log-gt logs best₀ j₀ j-end best j = j-end - j
+μ-loop cells node preds firsts offs extras logs alphabet base log-le log-gt best₀ j₀ j-end best j = j-end - j
 
 abbrev lane : tie.Start Inv-loop μ-loop → ℕ → Sides
 lane s = laneAt (s .args .cells .now) (s .args .node .now) (s .args .alphabet) (s .args .preds .now) (s .args .firsts .now) (s .args .offs .now) (s .args .base) (s .args .log-le) (s .args .log-gt) (s .args .logs .now)

@@ -13,12 +13,12 @@ use Rattle.score_sides.proofs.window_entropies.Statement.{statement}
 use Rattle.score_sides.proofs.window_entropies.Tie as tie
 
 abbrev Inv-loop : tie.InvT-loop
-Inv-loop left node log-le log-gt logs le₀ gt₀ t₀ t-end le gt t = (t-end ≡ length left)
+Inv-loop left node logs log-le log-gt le₀ gt₀ t₀ t-end le gt t = (t-end ≡ length left)
     × (entropyFrom singles logs log-le le (drop t left) ≡ entropyFrom singles logs log-le (singles .nought) left)
     × (entropyFrom singles logs log-gt gt (drop t (rest node left)) ≡ entropyFrom singles logs log-gt (singles .nought) (rest node left))
 
 abbrev μ-loop : tie.MeasureT-loop
-μ-loop left node log-le log-gt logs le₀ gt₀ t₀ t-end le gt t = t-end - t
+μ-loop left node logs log-le log-gt le₀ gt₀ t₀ t-end le gt t = t-end - t
 
 -- the function's start, and what this turn finds
 abbrev start : tie.In-loop Inv-loop μ-loop → tie.Start Inv-loop μ-loop

@@ -12,10 +12,10 @@ use Rattle.score_windows.proofs.set_windows.Statement.{statement}
 use Rattle.score_windows.proofs.set_windows.Tie as tie
 
 abbrev Inv-loop : tie.InvT-loop
-Inv-loop node alphabet preds firsts₀ offs₀ j₀ j-end firsts offs j = (j-end ≡ length preds) × (j ≤ length preds) × Packed node alphabet preds firsts offs j × (length firsts ≡ length firsts₀) × (length offs ≡ length offs₀)
+Inv-loop node preds firsts₀ offs₀ alphabet j₀ j-end firsts offs j = (j-end ≡ length preds) × (j ≤ length preds) × Packed node alphabet preds firsts offs j × (length firsts ≡ length firsts₀) × (length offs ≡ length offs₀)
 
 abbrev μ-loop : tie.MeasureT-loop
-μ-loop node alphabet preds firsts₀ offs₀ j₀ j-end firsts offs j = j-end - j
+μ-loop node preds firsts₀ offs₀ alphabet j₀ j-end firsts offs j = j-end - j
 
 abbrev start : tie.In-loop Inv-loop μ-loop → tie.Start Inv-loop μ-loop
 start c = c .before .before .before .before .before .before
