@@ -155,12 +155,12 @@ fn best_split(
         }
         let plan = candidates::pick_candidates(
             props,
+            &mut counts[..distinct::PROBE_FLAGS],
+            &mut cands,
             first,
             end,
             prop,
             most,
-            &mut counts[..distinct::PROBE_FLAGS],
-            &mut cands,
         );
         let Plan::Candidates(n) = plan else {
             continue;

@@ -112,12 +112,12 @@ pub extern "C" fn ostrovuc_pick_candidates(
 {
     answers::plan_answer(candidates::pick_candidates(
         props,
+        flags,
+        cands,
         first,
         end,
         prop,
         max_candidates,
-        flags,
-        cands,
     ))
 }
 

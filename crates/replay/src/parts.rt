@@ -102,7 +102,7 @@ pub fn pick_candidates(b: &[u8], job: usize, answer: Check) -> Check {
     put_column(&mut props, 7, b, first, n);
     let mut flags = rooms::counts();
     let mut cands = rooms::candidates();
-    let r = candidates::pick_candidates(&props, 0, n as usize, 7, limit, &mut flags, &mut cands);
+    let r = candidates::pick_candidates(&props, &mut flags, &mut cands, 0, n as usize, 7, limit);
     let m = planned(r);
     expect_numbers(b, answer, &cands, m)
 }

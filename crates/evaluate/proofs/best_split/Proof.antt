@@ -48,10 +48,10 @@ abbrev prop : Picking → ℕ
 prop c = c .before .before .before .before .before .before .property-at .result
 
 abbrev flags : Picking → List ℕ
-flags c = c .pick-candidates .last .1 .1 .1 .1 .1 .0
+flags c = c .pick-candidates .last .1 .0
 
 abbrev cands : Picking → List ℤ
-cands c = c .pick-candidates .last .1 .1 .1 .1 .1 .1 .0
+cands c = c .pick-candidates .last .1 .1 .0
 
 -- the count space with the flags back
 abbrev space : Picking → List ℕ
