@@ -296,12 +296,12 @@ pub fn evaluate_counts(
     let mut costs = [0.0f32; model::NUM_MA_PREDS];
     let best = cost::predictor_costs(
         hist,
+        &mut costs,
+        logs,
         (end - first) as u32,
         alphabet,
         s.allow_wp,
         s.allowed_preds as u32,
-        logs,
-        &mut costs,
     );
     let info = info_of(best, mode);
     if score_split & is_scored(end - first, depth, best.bits, s) {

@@ -30,10 +30,10 @@ fn group_of(v: i32) -> usize
 fn count_groups(
     props: &[i32],
     tok: &[u8],
-    rows: usize,
-    alphabet: usize,
     hist: &mut [u32],
     sizes: &mut [u32],
+    rows: usize,
+    alphabet: usize,
 )
     requires { ⌜ RowsFit (now props) (now tok) rows alphabet ⌝ }
     requires { ⌜ GroupsEmpty alphabet (now hist) (now sizes) ⌝ }
@@ -55,14 +55,14 @@ fn count_groups(
 
 // The total with a group's lowest cost. An empty group is passed over.
 fn add_group(
-    total: f64,
-    group: usize,
     hist: &[u32],
     sizes: &[u32],
+    logs: &[f32],
+    total: f64,
+    group: usize,
     alphabet: usize,
     weighted: bool,
     allowed: u32,
-    logs: &[f32],
 ) -> f64
     requires { ⌜ GroupsCounted (now hist) (now sizes) alphabet weighted allowed (now logs) ⌝ }
     requires { ⌜ group < 4 ⌝ }
@@ -78,12 +78,12 @@ fn add_group(
     let first = group * width;
     let best = cost::predictor_costs(
         &hist[first..first + width],
+        &mut costs,
+        logs,
         size,
         alphabet,
         weighted,
         allowed,
-        logs,
-        &mut costs,
     );
     total + best.bits as f64
 }
@@ -92,10 +92,10 @@ fn add_group(
 fn groups_cost(
     hist: &[u32],
     sizes: &[u32],
+    logs: &[f32],
     alphabet: usize,
     weighted: bool,
     allowed: u32,
-    logs: &[f32],
 ) -> f64
     requires { ⌜ GroupsCounted (now hist) (now sizes) alphabet weighted allowed (now logs) ⌝ }
     ensures { λ r. ⌜ r ≡ groupsBits (now (hist .entry)) (now (sizes .entry)) alphabet weighted allowed
@@ -103,7 +103,7 @@ fn groups_cost(
 {
     let mut total = 0.0f64;
     for group in 0..4 {
-        total = add_group(total, group, hist, sizes, alphabet, weighted, allowed, logs);
+        total = add_group(hist, sizes, logs, total, group, alphabet, weighted, allowed);
     }
     total
 }
@@ -125,8 +125,8 @@ pub fn flat_cost(
     ensures zeros { λ _. ⌜ now (hist .exit) ≡ replicate (56 * alphabet) 0 ⌝ }
 {
     let mut sizes = [0u32; 4];
-    count_groups(props, tok, rows, alphabet, hist, &mut sizes);
-    let total = groups_cost(hist, &sizes, alphabet, weighted, allowed, logs);
+    count_groups(props, tok, hist, &mut sizes, rows, alphabet);
+    let total = groups_cost(hist, &sizes, logs, alphabet, weighted, allowed);
     lists::clear_u32(hist);
     total
 }

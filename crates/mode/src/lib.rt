@@ -156,7 +156,7 @@ fn retoken(tok: &mut [u8], res: &[i32], first: usize, end: usize, mode: i32)
 
 // The mode step on the rows from first to end: their mode, and their zero-predictor tokens anew.
 // The first 4,096 counts are 0, before and after.
-pub fn rebase_zero(tok: &mut [u8], res: &[i32], first: usize, end: usize, counts: &mut [u32]) -> i32
+pub fn rebase_zero(tok: &mut [u8], res: &[i32], counts: &mut [u32], first: usize, end: usize) -> i32
     requires { ⌜ Rebasable (now tok) (now res) first end (now counts) ⌝ }
     ensures answer { λ r. ⌜ r ≡ modeAt first end (now (res .entry)) ⌝ }
     ensures tokens { λ _. ⌜ now (tok .exit) ≡ tokensAt first end (now (res .entry)) (now (tok .entry)) ⌝ }
@@ -184,7 +184,7 @@ pub fn mode_step(
     ensures low { λ _. ⌜ (uses ≡ true → LowTokens first end (now (tok .exit))) ⌝ }
 {
     if uses {
-        rebase_zero(tok, res, first, end, counts)
+        rebase_zero(tok, res, counts, first, end)
     } else {
         0
     }

@@ -90,7 +90,7 @@ pub extern "C" fn ostrovuc_mode_step(
     ensures tokens { λ _. ⌜ now (tok .exit) ≡ tokensAt first end (now (res .entry)) (now (tok .entry)) ⌝ }
     ensures zeros { λ _. ⌜ now (counts .exit) ≡ now (counts .entry) ⌝ }
 {
-    mode::rebase_zero(tok, res, first, end, counts)
+    mode::rebase_zero(tok, res, counts, first, end)
 }
 
 // How many candidates stand at the front of `cands` then. The first 4,096 flags are 0, before and after.

@@ -34,10 +34,10 @@ fn push_children(
 fn walk(
     words: &[u32],
     splits: &[bool],
-    count: usize,
     order: &mut [u32],
     places: &mut [u32],
     stack: &mut [u32],
+    count: usize,
 ) -> usize
     requires { ⌜ Walkable (now words) (now splits) count (now order) (now places) ⌝ }
     requires { ⌜ Rooted count (now stack) ⌝ }
@@ -62,14 +62,14 @@ fn walk(
 pub fn order_nodes(
     words: &[u32],
     splits: &[bool],
-    count: usize,
     order: &mut [u32],
     places: &mut [u32],
+    count: usize,
 ) -> usize
     requires { ⌜ Walkable (now words) (now splits) count (now order) (now places) ⌝ }
     ensures { λ r. ⌜ ((nodes : List Node) → ShowsNodes nodes (now (words .entry)) (now (splits .entry)) count
         → Ordered nodes (now (order .exit)) (now (places .exit)) r) ⌝ }
 {
     let mut stack = [0u32; layout::MAX_NODES];
-    walk(words, splits, count, order, places, &mut stack)
+    walk(words, splits, order, places, &mut stack, count)
 }

@@ -55,9 +55,9 @@ fn price_node<'a>(
     words: &'a [u32],
     values: &'a [i32],
     costs: &'a [f32],
-    price: f32,
     bits: &[f64],
     priced: &[f64],
+    price: f32,
     i: usize,
 ) -> Priced
     requires { ⌜ Priceable (now words) (now values) (now costs) price (now bits) (now priced) i ⌝ }
@@ -80,11 +80,11 @@ fn price_all<'a>(
     words: &'a [u32],
     values: &'a [i32],
     costs: &'a [f32],
-    count: usize,
-    price: f32,
     bits: &mut [f64],
     priced: &mut [f64],
     splits: &mut [bool],
+    count: usize,
+    price: f32,
 )
     requires { ⌜ AllPriceable (now words) (now values) (now costs) count price (now splits) ⌝ }
     requires { ⌜ (count ≤ length (now bits)) × (count ≤ length (now priced)) ⌝ }
@@ -94,7 +94,7 @@ fn price_all<'a>(
     let mut i = count;
     while 0 < i {
         i -= 1;
-        let node = price_node(words, values, costs, price, bits, priced, i);
+        let node = price_node(words, values, costs, bits, priced, price, i);
         bits[i] = node.bits;
         priced[i] = node.priced;
         splits[i] = node.split;
@@ -106,9 +106,9 @@ fn price_nodes<'a>(
     words: &'a [u32],
     values: &'a [i32],
     costs: &'a [f32],
+    splits: &mut [bool],
     count: usize,
     price: f32,
-    splits: &mut [bool],
 ) -> f64
     requires { ⌜ AllPriceable (now words) (now values) (now costs) count price (now splits) ⌝ }
     ensures { λ r. ⌜ ((tree : List (Entry singles)) → ShowsTree tree (now (words .entry)) (now (costs .entry)) count
@@ -120,11 +120,11 @@ fn price_nodes<'a>(
         words,
         values,
         costs,
-        count,
-        price,
         &mut bits,
         &mut priced,
         splits,
+        count,
+        price,
     );
     bits[0]
 }
@@ -144,10 +144,10 @@ pub fn prune_tree(
         → PrunedAs price tree lent (nodesNow (words .exit) (values .exit) (costs .exit)) r) ⌝ }
 {
     let mut splits = [false; layout::MAX_NODES];
-    let bits = price_nodes(words, values, costs, count, price, &mut splits);
+    let bits = price_nodes(words, values, costs, &mut splits, count, price);
     let mut order = [0u32; layout::MAX_NODES];
     let mut places = [0u32; layout::MAX_NODES];
-    let nodes = preorder::order_nodes(words, &splits, count, &mut order, &mut places);
+    let nodes = preorder::order_nodes(words, &splits, &mut order, &mut places, count);
     compact::move_nodes(words, values, costs, &splits, &order, &places, nodes, count);
     Tree {
         nodes,

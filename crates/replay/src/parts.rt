@@ -35,7 +35,7 @@ pub fn mode_step(b: &[u8], job: usize, answer: Check) -> Check {
     put_numbers(&mut res, b, after(job, 1));
     let mut tok = rooms::tokens();
     let mut counts = rooms::counts();
-    let mode = mode::rebase_zero(&mut tok, &res, 0, n as usize, &mut counts);
+    let mode = mode::rebase_zero(&mut tok, &res, &mut counts, 0, n as usize);
     let c = expect(b, answer, entropy::pattern(mode));
     expect_tokens(b, c, &tok, n)
 }

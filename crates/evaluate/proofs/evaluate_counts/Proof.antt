@@ -11,6 +11,9 @@ use Rattle.evaluate.proofs.evaluate_counts.Tie as tie
 cast-alphabet : tie.Need-cast-alphabet
 cast-alphabet c = search needs
 
+slice-aggregate-predictor-costs : tie.Need-slice-aggregate-predictor-costs
+slice-aggregate-predictor-costs c = search needs
+
 sub-predictor-costs : tie.Need-sub-predictor-costs
 sub-predictor-costs c = search needs
 
@@ -19,9 +22,6 @@ cast-predictor-costs c = search needs
 
 cast-predictor-costs-2 : tie.Need-cast-predictor-costs-2
 cast-predictor-costs-2 c = search needs
-
-slice-aggregate-predictor-costs : tie.Need-slice-aggregate-predictor-costs
-slice-aggregate-predictor-costs c = search needs
 
 predictor-costs-requires : tie.Need-predictor-costs-requires
 predictor-costs-requires c κs = let start = c .before .before .before .before .before .before .before in usable-node (start .pre .0) (start .pre .1) _ refl
@@ -75,10 +75,10 @@ evaluate-counts-spec =
     tie.close
     (tie.spec
     cast-alphabet
+    slice-aggregate-predictor-costs
     sub-predictor-costs
     cast-predictor-costs
     cast-predictor-costs-2
-    slice-aggregate-predictor-costs
     predictor-costs-requires
     info-of-requires
     sub-is-scored

@@ -11,12 +11,12 @@ use Rattle.preorder.proofs.walk.Statement.{statement}
 use Rattle.preorder.proofs.walk.Tie as tie
 
 abbrev Inv-loop : tie.InvT-loop
-Inv-loop words splits count order₀ places₀ stack₀ depth₀ found₀ order places stack depth found = (length order ≡ length order₀)
+Inv-loop words splits order₀ places₀ stack₀ count depth₀ found₀ order places stack depth found = (length order ≡ length order₀)
     × (length places ≡ length places₀) × (length stack ≡ length stack₀)
     × ((nodes : List Node) → ShowsNodes nodes words splits count → Walked nodes order places stack depth found)
 
 abbrev μ-loop : tie.MeasureT-loop
-μ-loop words splits count order₀ places₀ stack₀ depth₀ found₀ order places stack depth found = count - found
+μ-loop words splits order₀ places₀ stack₀ count depth₀ found₀ order places stack depth found = count - found
 
 -- what keeps a turn inside the lists
 safe : (c : tie.In-loop Inv-loop μ-loop) → let here = c .before .loop in let args = c .before .before .before .before .before .before .before .args in

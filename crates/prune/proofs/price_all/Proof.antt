@@ -12,12 +12,12 @@ use Rattle.prune.proofs.price_all.Statement.{statement}
 use Rattle.prune.proofs.price_all.Tie as tie
 
 abbrev Inv-loop : tie.InvT-loop
-Inv-loop words values costs count price bits₀ priced₀ splits₀ i₀ bits priced splits i =
+Inv-loop words values costs bits₀ priced₀ splits₀ count price i₀ bits priced splits i =
     (i ≤ count) × (length bits ≡ length bits₀) × (length priced ≡ length priced₀) × (length splits ≡ length splits₀)
     × ((tree : List (Entry singles)) → ShowsTree tree words costs count → (k : ℕ) → i ≤ k → k < count → IsPriced price tree k bits priced splits)
 
 abbrev μ-loop : tie.MeasureT-loop
-μ-loop words values costs count price bits₀ priced₀ splits₀ i₀ bits priced splits i = i
+μ-loop words values costs bits₀ priced₀ splits₀ count price i₀ bits priced splits i = i
 
 loop-holds : tie.Need-loop-holds Inv-loop μ-loop
 loop-holds c = (omega arith, refl, refl, refl, λ tree shows k a b. absurd (omega arith))

@@ -29,7 +29,7 @@ order-nodes-requires c κs =
     let price-nodes = c .before .before .before .before .before .price-nodes in
     let holds = start .pre .holds in
     let priced = price-nodes .ensures (start .pre .tree) (shows-tree holds) in
-    walkable holds priced _ _ (omega (arith, holds .few, price-nodes .kept .1 .1 .1 .1 .1 .0)) (omega (arith, holds .few)) (omega (arith, holds .few))
+    walkable holds priced _ _ (omega (arith, holds .few, price-nodes .kept .1 .1 .1 .0)) (omega (arith, holds .few)) (omega (arith, holds .few))
 
 slice-aggregate-move-nodes : tie.Need-slice-aggregate-move-nodes
 slice-aggregate-move-nodes c = search needs
@@ -49,8 +49,8 @@ move-nodes-requires c κs =
     let holds = start .pre .holds in
     let priced = price-nodes .ensures (start .pre .tree) (shows-tree holds) in
     let done = order-nodes .ensures _ (shows-nodes holds priced) in
-    movable holds priced done (omega (arith, holds .few, price-nodes .kept .1 .1 .1 .1 .1 .0)) (omega (arith, holds .few, order-nodes .kept .1 .1 .1 .0))
-    (omega (arith, holds .few, order-nodes .kept .1 .1 .1 .1 .0))
+    movable holds priced done (omega (arith, holds .few, price-nodes .kept .1 .1 .1 .0)) (omega (arith, holds .few, order-nodes .kept .1 .1 .0))
+    (omega (arith, holds .few, order-nodes .kept .1 .1 .1 .0))
 
 same-length : tie.Need-same-length
 same-length c = search needs
