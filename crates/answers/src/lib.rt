@@ -1,5 +1,7 @@
 // What the exports answer. Enums do not cross over to C, so an answer is a struct of numbers: number 0 says that the
 // call was accepted, and any other number is document 01's, with its place; the rest of a refusal is 0.
+#![tactic(auto)]
+
 ghost use Rattle.std.specs.Prelude.{◌≡◌};
 ghost use Rattle.model.specs.Operations.{answer_of};
 ghost use Rattle.sampling.specs.Sampled.{sample_outcome};
@@ -14,7 +16,7 @@ use sampling::Sampled;
 
 // The value of a token and its extra bits.
 #[repr(C)]
-#[derive(Drop)]
+#[derive(Clone, Copy)]
 pub struct Read {
     pub number: u32,
     pub place: u32,
@@ -23,7 +25,7 @@ pub struct Read {
 
 // The leaf of a lookup and its predictor.
 #[repr(C)]
-#[derive(Drop)]
+#[derive(Clone, Copy)]
 pub struct FoundLeaf {
     pub number: u32,
     pub place: u32,
@@ -33,7 +35,7 @@ pub struct FoundLeaf {
 
 // How many were written.
 #[repr(C)]
-#[derive(Drop)]
+#[derive(Clone, Copy)]
 pub struct Count {
     pub number: u32,
     pub place: u32,
@@ -42,7 +44,7 @@ pub struct Count {
 
 // A learned tree: how many nodes and leaves it has, its estimated bits and the flat bits.
 #[repr(C)]
-#[derive(Drop)]
+#[derive(Clone, Copy)]
 pub struct LearnedTree {
     pub number: u32,
     pub place: u32,

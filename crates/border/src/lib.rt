@@ -1,6 +1,8 @@
 // The border between the caller's lists, with records, and the core's number lists, which are as long as the largest
 // tree asks for: a seed's records were copied into them. A job is refused here, by the true lengths of the caller's
 // lists, and the core takes the jobs that are accepted.
+#![tactic(auto)]
+
 ghost use Rattle.std.specs.Prelude.{◌≡◌, true, false, List, map, length, Float, ℕ, ◌≤◌};
 ghost use Rattle.model.specs.Operations.{refused, accepted, leaf_contexts};
 ghost use Rattle.refuse.specs.Given.{settings_of};
@@ -22,7 +24,7 @@ use refuse::{Check, Rooms, Settings};
 use tree::answers::Fault;
 
 // The answer, and how many entries of the node and span lists were written.
-#[derive(Drop)]
+#[derive(Clone, Copy)]
 pub struct Work {
     pub tree: LearnedTree,
     pub written: usize,

@@ -1,4 +1,6 @@
 // The nodes of a sound tree in flat lists of numbers, breadth first: from the root, gt before le.
+#![tactic(auto)]
+
 ghost use Rattle.std.specs.Prelude.{◌≡◌, List, length, eqb};
 ghost use Rattle.model.specs.Single.{singles};
 ghost use Rattle.model.specs.Tree.{Record, nodes_of};

@@ -1,5 +1,7 @@
 // The nodes that pruning leaves, moved as records into their new order with their spans; the entries that are vacated
 // become blank.
+#![tactic(auto)]
+
 ghost use Rattle.std.specs.Prelude.{◌≡◌, true, ◌<◌, length};
 ghost use Rattle.model.specs.Single.{singles};
 ghost use Rattle.model.specs.Tree.{leaf};

@@ -1,5 +1,7 @@
 // The contexts of a tree's leaves, breadth first (document 01, "Contexts"): the refusals in their order, and the
 // leaves numbered along the order of the nodes, which is written into the lent queue.
+#![tactic(auto)]
+
 ghost use Rattle.std.specs.Prelude.{◌≡◌, List, length, ℤ, Float};
 ghost use Rattle.model.specs.Single.{singles};
 ghost use Rattle.model.specs.Tree.{Record, nodes_of};
@@ -18,11 +20,11 @@ use tree::answers::Fault;
 const NO_CONTEXT: u32 = 4294967295;
 
 // A leaf's context: a type apart from a node's number, so that a context never indexes the node list.
-#[derive(Drop)]
+#[derive(Clone, Copy)]
 pub struct LeafContext(pub u32);
 
 // How many contexts were given; or a refusal's number and the named place.
-#[derive(Drop)]
+#[derive(Clone, Copy)]
 pub enum Contexts {
     Counted(u32),
     Refused { number: u32, place: u32 },

@@ -1,5 +1,7 @@
 // Deepening a tree from rows in number lists (document 01; the Rust's `deepen_ma_tree`), of a job that the checks
 // accept and a sound seed: flat bits, the seed's leaves, growth, pruning and settling.
+#![tactic(auto)]
+
 ghost use Rattle.std.specs.Prelude.{◌≡◌};
 ghost use Rattle.lent.specs.Lists.{lists_now, lists_after};
 ghost use Rattle.lent.specs.Answer.{LearnedAs};

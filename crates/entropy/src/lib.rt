@@ -1,4 +1,6 @@
 // Packing and tokens, after the Rust's entropy/token.rs.
+#![tactic(auto)]
+
 ghost use Rattle.std.specs.Prelude.{◌≡◌};
 ghost use Rattle.model.specs.Pack.{packed, pattern as Pack·pattern};
 ghost use Rattle.model.specs.Token.{extra_count, encoded_of};

@@ -1,5 +1,7 @@
 // A node: its cost, predictor and offset, and the split that it offers
 // (document 01, "A node"; the Rust's `evaluate_rows_typed`).
+#![tactic(auto)]
+
 ghost use Rattle.std.specs.Prelude.{◌≡◌, List, ℕ, ◌-◌, ◌*◌, ◌≤◌, ◌<◌, length, ℤ};
 ghost use Rattle.model.specs.Settings.{props_per_row};
 ghost use Rattle.model.specs.Evaluate.{property_order, twin, nowhere, better, best_from, best_split, offer_of};
@@ -19,14 +21,14 @@ use refuse::Settings;
 use score::Score;
 
 // The property that another may repeat.
-#[derive(Drop)]
+#[derive(Clone, Copy)]
 enum Twin {
     Absolute(usize),
     Nothing,
 }
 
 // The best split so far: a property, a threshold and its cost in bits.
-#[derive(Drop)]
+#[derive(Clone, Copy)]
 enum Best {
     Nowhere,
     At(u32, i32, f32),

@@ -1,5 +1,7 @@
 // From a state to the finished tree: growth, pruning if the price is above 0, settling if it is asked for (document 01,
 // "Growth" and "Pruning").
+#![tactic(auto)]
+
 ghost use Rattle.std.specs.Prelude.{◌≡◌, Bool, cond, List, ℕ, ℤ, Float};
 ghost use Rattle.model.specs.Single.{singles};
 ghost use Rattle.model.specs.Rows.{Row};

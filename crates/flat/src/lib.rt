@@ -1,5 +1,7 @@
 // Flat bits (document 01, "Flat bits"; the Rust's `flat_cost`): the rows grouped by property 0, and the groups' lowest
 // costs added in double precision.
+#![tactic(auto)]
+
 ghost use Rattle.std.specs.Prelude.{◌≡◌, List, ◌*◌, ◌<◌, ℤ, replicate};
 ghost use Rattle.model.specs.Single.{singles};
 ghost use Rattle.model.specs.Settings.{Settings};

@@ -1,5 +1,7 @@
 // From the root to the finished tree (document 01, "Growth", "Pruning"; the Rust's `learn_ma_tree_in_place` from the
 // root on): one leaf over all rows, then growth, pruning and settling.
+#![tactic(auto)]
+
 ghost use Rattle.std.specs.Prelude.{◌≡◌, ◌-◌};
 ghost use Rattle.model.specs.Learn.{root_state};
 ghost use Rattle.model.specs.Flat.{flat_bits};

@@ -1,5 +1,7 @@
 // From a sound seed to the finished tree (document 01, "Deepening"; the Rust's `deepen_ma_tree` from the seed on): its
 // leaves planted, then growth, pruning and settling as in learning.
+#![tactic(auto)]
+
 ghost use Rattle.std.specs.Prelude.{◌≡◌, ◌+◌, ◌-◌, ◌/◌, ◌≤◌};
 ghost use Rattle.model.specs.Settings.{max_nodes};
 ghost use Rattle.model.specs.Flat.{flat_bits};

@@ -1,5 +1,7 @@
 // Growth: the waiting leaf with the greatest gain is split, again and again, until so many splits are made or no leaf
 // waits. The Rust's `grow_tree` without its threads and speculation.
+#![tactic(auto)]
+
 ghost use Rattle.std.specs.Prelude.{◌≡◌, Bool, List, ◌++◌, ℕ, ◌+◌, ◌-◌, ◌<◌, ◌≤◌};
 ghost use Rattle.std.specs.Float.{binary32};
 ghost use Rattle.std.specs.Float.Ieee.{add, sub};
@@ -23,7 +25,7 @@ use refuse::Settings;
 // ---- one split, part by part
 
 // The two leaves that a leaf's rows are split into; the rows of le begin at `at`.
-#[derive(Drop)]
+#[derive(Clone, Copy)]
 struct Sides {
     at: usize,
     gt: Leaf,

@@ -1,6 +1,8 @@
 // How nodes, spans and waiting leaves stand in flat lists of numbers: the constants, the records and the functions that
 // read and write one. Nobody else knows a place. Beside them the values that the learner's parts pass to one another.
 // What the lists hold is said in specs/.
+#![tactic(auto)]
+
 ghost use Rattle.std.specs.Prelude.{◌≡◌, true, ◌+◌, ◌*◌, ◌/◌, ◌^◌, ◌≤◌, ◌<◌, min, set, eqb};
 ghost use Rattle.std.proofs.Math.Seq.{paste};
 ghost use Rattle.model.specs.Settings.{max_nodes, max_rows};
@@ -32,12 +34,12 @@ pub const MAX_VALUES: usize = MAX_NODES * NODE_VALUES;
 
 // A node's place in the node list. A leaf's context is another type (crate `contexts`), so that a context never indexes
 // the node list.
-#[derive(Drop)]
+#[derive(Clone, Copy)]
 pub struct NodeNumber(pub u32);
 
 // The cost of a node in bits, its predictor and its offset.
 #[repr(C)]
-#[derive(Drop)]
+#[derive(Clone, Copy)]
 pub struct NodeInfo {
     pub cost: f32,
     pub pred: u32,
@@ -48,7 +50,7 @@ pub struct NodeInfo {
 // and children, for which a leaf has no use; and beside every node its cost, predictor and offset. Eight numbers of 32
 // bits with nothing between them, and each may hold any bits.
 #[repr(C)]
-#[derive(Drop)]
+#[derive(Clone, Copy)]
 pub struct MaNode {
     pub kind: u32,
     pub prop: u32,
@@ -60,28 +62,28 @@ pub struct MaNode {
 
 // The rows of a node: the first, and the one behind the last.
 #[repr(C)]
-#[derive(Drop)]
+#[derive(Clone, Copy)]
 pub struct Span {
     pub first: u32,
     pub end: u32,
 }
 
 // The split that a leaf offers, with its gain in bits; or that it offers none.
-#[derive(Drop)]
+#[derive(Clone, Copy)]
 pub enum Offer {
     Split { prop: u32, val: i32, gain: f32 },
     Nothing,
 }
 
 // A leaf that was evaluated.
-#[derive(Drop)]
+#[derive(Clone, Copy)]
 pub struct Leaf {
     pub info: NodeInfo,
     pub offer: Offer,
 }
 
 // A waiting leaf, with its depth and the split that it offers.
-#[derive(Drop)]
+#[derive(Clone, Copy)]
 pub struct Pending {
     pub node: u32,
     pub prop: u32,
@@ -91,7 +93,7 @@ pub struct Pending {
 }
 
 // A tree in the lists: how many nodes it has, how many of its leaves wait, and its estimated bits.
-#[derive(Drop)]
+#[derive(Clone, Copy)]
 pub struct Tree {
     pub nodes: usize,
     pub waiting: usize,

@@ -1,4 +1,6 @@
 // A new leaf over a span of rows: its mode and zero-predictor tokens, and then what it costs and offers.
+#![tactic(auto)]
+
 ghost use Rattle.std.specs.Prelude.{◌≡◌};
 ghost use Rattle.rows.specs.Cells.{span};
 ghost use Rattle.rows.specs.Flat.{flat};

@@ -1,5 +1,7 @@
 // Learning a tree from rows in number lists (document 01; the Rust's `learn_ma_tree_in_place`), of a job that the
 // checks accept: flat bits, the root, growth, pruning and settling.
+#![tactic(auto)]
+
 ghost use Rattle.std.specs.Prelude.{◌≡◌};
 ghost use Rattle.lent.specs.Lists.{lists_now, lists_after};
 ghost use Rattle.lent.specs.Answer.{LearnedAs};

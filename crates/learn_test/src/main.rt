@@ -1,6 +1,8 @@
 // Learning on rows with known answers: document 01's rows about limits and refusals, and the smallest job on which
 // equal gains matter.
 // It prints how many cases of each kind were tried, how many came out wrong, and the first of these.
+#![tactic(auto)]
+
 ghost use Rattle.std.specs.Prelude.{◌≤◌, length};
 ghost use Rattle.layout.specs.Layout.{HasWords};
 ghost use Rattle.border.specs.Numbers.{Arrays};

@@ -1,6 +1,8 @@
 // What learning and deepening share (specs/): their number lists as one value, lists that fit an accepted job, and what
 // they hold while a tree grows. How many waiting leaves the queue has room for, flat bits (document 01, "Flat bits"),
 // and what both answer.
+#![tactic(auto)]
+
 ghost use Rattle.std.specs.Prelude.{◌≡◌, List, ◌≤◌, ℤ};
 ghost use Rattle.model.specs.Settings.{max_nodes};
 ghost use Rattle.model.specs.Flat.{flat_bits};
@@ -15,7 +17,7 @@ use refuse::Settings;
 
 // The answer: how many nodes and leaves the tree has, its estimated bits and the flat bits; or a refusal, with the
 // place that it names.
-#[derive(Drop)]
+#[derive(Clone, Copy)]
 pub enum Learned {
     Grown {
         nodes: u32,
@@ -31,7 +33,7 @@ pub enum Learned {
 
 // A finished tree: its nodes; how many entries of the node and span lists were written while it grew, those that
 // pruning vacated included; its estimated bits; the flat bits.
-#[derive(Drop)]
+#[derive(Clone, Copy)]
 pub struct Finished {
     pub nodes: usize,
     pub written: usize,

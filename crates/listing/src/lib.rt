@@ -1,4 +1,6 @@
 // The token lister's text: residuals in, lines out, both in lent slices.
+#![tactic(auto)]
+
 mod put;
 mod signed;
 
@@ -10,7 +12,7 @@ use put::{line, short, text};
 use signed::residual_at;
 
 // What became of a part: how many residuals were listed, and how many bytes their lines take.
-#[derive(Drop)]
+#[derive(Clone, Copy)]
 pub struct Listed {
     pub taken: usize,
     pub written: usize,

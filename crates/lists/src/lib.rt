@@ -1,5 +1,7 @@
 // The plain loops over lists of numbers: cells set to one value, copied, moved up; and the smaller and the larger of
 // two lengths.
+#![tactic(auto)]
+
 ghost use Rattle.std.specs.Prelude.{◌≡◌, false, ◌++◌, ◌+◌, ◌≤◌, min, max, length, drop, replicate, pos};
 ghost use Rattle.std.proofs.Math.Seq.{paste};
 ghost use Rattle.std.specs.Float.{fin};

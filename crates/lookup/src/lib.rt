@@ -1,4 +1,6 @@
 // The way of a lookup, one record at a time: where it begins, and a step.
+#![tactic(auto)]
+
 ghost use Rattle.std.specs.Prelude.{◌≡◌, ℕ, true, false, List, ℤ};
 ghost use Rattle.lookup.specs.Ways.{is_split, goes_on, refused_at, begun, stepped, OneRow};
 
@@ -9,7 +11,7 @@ use layout::{MaNode, NodeNumber};
 const SPLIT: u32 = 1;
 
 // A lookup goes on at a node, or has ended.
-#[derive(Drop)]
+#[derive(Clone, Copy)]
 pub struct Way {
     pub on: bool,
     pub node: NodeNumber,

@@ -4,6 +4,8 @@
 //
 // A function that sees a slice of records is walked by hand, so it does little: it copies records to the core's
 // number lists (crate `border`) and back, or reads one record after another (crate `lookup`).
+#![tactic(auto)]
+
 ghost use Rattle.std.specs.Prelude.{◌≡◌, map};
 ghost use Rattle.model.specs.Pack.{packed};
 ghost use Rattle.model.specs.Token.{encoded_of};

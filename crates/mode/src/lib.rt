@@ -1,5 +1,7 @@
 // The mode of a span's residuals, and the zero-predictor tokens that follow from it, after the
 // Rust's rebase_zero.
+#![tactic(auto)]
+
 ghost use Rattle.std.specs.Prelude.{◌≡◌, true, cond, suc, ◌*◌, ◌≤◌, ◌<◌, length, get_or, pos};
 ghost use Rattle.std.proofs.Math.Seq.{slice};
 ghost use Rattle.std.specs.Int.Signed.{lt_z};
@@ -31,7 +33,7 @@ fn higher(a: i32, b: i32) -> i32
 }
 
 // The lowest and the highest residual of a span.
-#[derive(Drop)]
+#[derive(Clone, Copy)]
 struct Range {
     low: i32,
     high: i32,

@@ -1,5 +1,6 @@
 // The numbers of document 01 that every crate goes by, and the answers that the definitions of specs/ and the code
 // share.
+#![tactic(auto)]
 
 // The properties of a row.
 pub const NUM_MA_PROPS: usize = 24;
@@ -15,7 +16,7 @@ pub const MAX_LEAVES: usize = 4096;
 
 // What a value is coded as: its token, how many extra bits follow, and those bits. It crosses over to C.
 #[repr(C)]
-#[derive(Drop)]
+#[derive(Clone, Copy)]
 pub struct Encoded {
     pub token: u32,
     pub nbits: u32,
@@ -23,7 +24,7 @@ pub struct Encoded {
 }
 
 // The value of a token with its extra bits; or a refusal's number and the named place.
-#[derive(Drop)]
+#[derive(Clone, Copy)]
 pub enum TokenValue {
     Value(u32),
     Refused { number: u32, place: u32 },

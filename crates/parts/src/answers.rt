@@ -8,7 +8,7 @@ use score::Score;
 
 // How many nodes pruning leaves, and their estimated bits.
 #[repr(C)]
-#[derive(Drop)]
+#[derive(Clone, Copy)]
 pub struct PrunedTree {
     pub nodes: usize,
     pub bits: f64,
@@ -26,7 +26,7 @@ pub fn plan_answer(r: Plan) -> usize
 
 // The best threshold of a property and its cost; found is 0 where there is none.
 #[repr(C)]
-#[derive(Drop)]
+#[derive(Clone, Copy)]
 pub struct Scored {
     pub found: u32,
     pub threshold: i32,

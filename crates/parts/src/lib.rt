@@ -1,5 +1,7 @@
 // Single parts of the learner as exports, for the driver that compares them with the Rust and for the benchmark: what a
 // `requires` says is the caller's to see to, since C proves nothing. The public operations are in `ma_tree`.
+#![tactic(auto)]
+
 ghost use Rattle.std.specs.Prelude.{◌≡◌, List, length, replicate, ℕ, ◌*◌, ◌≤◌, ℤ};
 ghost use Rattle.model.specs.Single.{singles};
 ghost use Rattle.model.specs.Lists.{written_over};

@@ -1,5 +1,7 @@
 // The nodes of a tree in flat lists of numbers in preorder: from the root, gt first. `splits` says which nodes are
 // splits still.
+#![tactic(auto)]
+
 ghost use Rattle.std.specs.Prelude.{◌≡◌, List};
 ghost use Rattle.model.specs.Tree.{Node};
 ghost use Rattle.layout.specs.Layout.{gt_at, le_at};

@@ -1,5 +1,7 @@
 // Pruning of a grown tree in flat lists of numbers, after the Rust's prune_tree: prices from the last node back, the
 // new order from the root by `preorder`, and the lists moved into that order by `compact`.
+#![tactic(auto)]
+
 ghost use Rattle.std.specs.Prelude.{◌≡◌, List, ℕ, ◌≤◌, ◌<◌, length};
 ghost use Rattle.model.specs.Single.{singles};
 ghost use Rattle.model.specs.Grow.{Entry};
@@ -12,7 +14,7 @@ use layout::{NodeInfo, Tree};
 
 // What a node has become: a split, or else a leaf; the bits of the leaves under it; and these with a price for each
 // split that is kept.
-#[derive(Drop)]
+#[derive(Clone, Copy)]
 struct Priced {
     split: bool,
     bits: f64,

@@ -1,5 +1,7 @@
 // The queue of waiting leaves, in the order of their node numbers: so the first of the greatest gains has the lowest
 // number.
+#![tactic(auto)]
+
 ghost use Rattle.std.specs.Prelude.{◌≡◌, cond, List, ◌++◌, ◌+◌, ◌-◌, ◌≤◌, ◌<◌, length};
 ghost use Rattle.model.specs.Settings.{max_nodes};
 ghost use Rattle.model.specs.Single.{singles};

@@ -1,5 +1,7 @@
 // Refusals 1 to 7 of learning and deepening (document 01, "Which number comes back"): the first condition that holds,
 // in 01's order. Nothing is written.
+#![tactic(auto)]
+
 ghost use Rattle.std.specs.Prelude.{◌≡◌, false, not, ◌/◌, ◌<◌, length, pos};
 ghost use Rattle.std.specs.Float.{fin};
 ghost use Rattle.model.specs.Settings.{toks_per_row};
@@ -24,7 +26,7 @@ pub const FLAT_COUNTS: usize = 4 * model::NUM_MA_PREDS;
 
 // The settings of a job, in 01's order and under the names of the Rust's `MaLearnParams`.
 #[repr(C)]
-#[derive(Drop)]
+#[derive(Clone, Copy)]
 pub struct Settings {
     pub alphabet: u32,
     pub max_leaves: u32,
@@ -40,7 +42,7 @@ pub struct Settings {
 }
 
 // How many entries of nodes, spans, queue and count space the caller lends.
-#[derive(Drop)]
+#[derive(Clone, Copy)]
 pub struct Rooms {
     pub nodes: usize,
     pub spans: usize,
@@ -49,14 +51,14 @@ pub struct Rooms {
 }
 
 // What a search for a row finds.
-#[derive(Drop)]
+#[derive(Clone, Copy)]
 pub enum Found {
     Row(u32),
     Nothing,
 }
 
 // The job has so many rows and may begin, or it is refused with 01's number and the named place, else 0.
-#[derive(Drop)]
+#[derive(Clone, Copy)]
 pub enum Check {
     Pass(usize),
     Refused { number: u32, place: u32 },

@@ -3,7 +3,7 @@
 ghost use Rattle.std.specs.Prelude.{◌<◌};
 
 // Where the comparison stands in the stored answer, and whether all was alike so far.
-#[derive(Drop)]
+#[derive(Clone, Copy)]
 pub struct Check {
     pub at: usize,
     pub same: bool,

@@ -3,6 +3,7 @@
 // many of each kind were replayed and how many came out wrong. Learning, deepening and lookup are not among them:
 // interface/check replays these through the C interface, and the other public operations too.
 // To add a kind: a function like those of `small`, an arm in `replayed`, and a number and a line in `kinds`.
+#![tactic(auto)]
 
 mod bytes;
 mod kinds;
@@ -30,7 +31,7 @@ fn replayed(b: &[u8], kind: u32, job: usize, answer: Check) -> Check {
 }
 
 // A job and its answer: the kind, where each body starts, and where the next job does.
-#[derive(Drop)]
+#[derive(Clone, Copy)]
 struct Case {
     kind: u32,
     job: usize,

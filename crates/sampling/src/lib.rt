@@ -1,4 +1,6 @@
 // Even sampling (document 01, "Even sampling"; the Rust's `evenly_sampled_indices`).
+#![tactic(auto)]
+
 ghost use Rattle.std.specs.Prelude.{◌≡◌};
 ghost use Rattle.model.specs.Lists.{written_over};
 ghost use Rattle.model.specs.Sampling.{even_sample};
@@ -6,7 +8,7 @@ ghost use Rattle.model.specs.Operations.{sample};
 ghost use Rattle.sampling.specs.Sampled.{Picks, after};
 
 // How many rows were picked; or a refusal, with the place that it names.
-#[derive(Drop)]
+#[derive(Clone, Copy)]
 pub enum Sampled {
     Picked(u32),
     Refused { number: u32, place: u32 },

@@ -1,5 +1,7 @@
 // The score of one property at a node: its best threshold, and what both sides of it cost
 // (document 01, "Scoring"; the Rust's `score_split_plan`).
+#![tactic(auto)]
+
 ghost use Rattle.std.specs.Prelude.{◌≡◌, List, ℕ, ◌+◌, ◌-◌, ◌*◌, ◌≤◌, ◌<◌, ℤ, length, get_or, replicate};
 ghost use Rattle.model.specs.Single.{singles};
 ghost use Rattle.model.specs.Settings.{Settings, max_rows};
@@ -11,7 +13,7 @@ ghost use Rattle.score_windows.specs.Windows.{Windows};
 ghost use Rattle.score.specs.Scored.{score_is, scored_at, scored_to, ExtrasFit, Extras, Binned, Scorable, Spare};
 
 // Nothing to offer, or a threshold with its cost in bits.
-#[derive(Drop)]
+#[derive(Clone, Copy)]
 pub enum Score {
     Nothing,
     Threshold(i32, f32),

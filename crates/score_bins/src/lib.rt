@@ -1,5 +1,7 @@
 // Rows counted by the interval between two candidates that they fall into, and by token, in one pass; then summed from
 // the lowest interval up (document 01, "Scoring": values ≤ candidate and above; the Rust's `scan_split_plans`).
+#![tactic(auto)]
+
 ghost use Rattle.std.specs.Prelude.{◌≡◌, cond, ◌+◌, ◌-◌, ◌*◌, ◌≤◌, ◌<◌, length, get_or};
 ghost use Rattle.std.specs.Int.Signed.{lt_z};
 ghost use Rattle.model.specs.Settings.{props_per_row};
@@ -85,7 +87,7 @@ fn scan_any(
 }
 
 // A side predictor with its window: the first token, and where the window starts in a bin.
-#[derive(Drop)]
+#[derive(Clone, Copy)]
 pub struct Lane {
     pub pred: usize,
     pub first: usize,

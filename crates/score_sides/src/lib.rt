@@ -1,5 +1,7 @@
 // What both sides of a threshold cost under each side predictor, in one sweep over a window, and the lowest of each
 // (document 01, "Scoring": a side's cost).
+#![tactic(auto)]
+
 ghost use Rattle.std.specs.Prelude.{◌≡◌, ◌+◌, ◌-◌, ◌*◌, ◌≤◌, ◌<◌, length};
 ghost use Rattle.model.specs.Settings.{max_rows};
 ghost use Rattle.model.specs.Cost.{extra_from};
@@ -8,7 +10,7 @@ ghost use Rattle.score_sides.specs.Sides.{entropies_of, costs_of, lower_cost, lo
 ghost use Rattle.score_sides.specs.Lowest.{lane_at, lowest_to, Ready};
 
 // The costs of the two sides of a threshold: the rows at most it, and those above.
-#[derive(Drop)]
+#[derive(Clone, Copy)]
 pub struct Sides {
     pub le: f32,
     pub gt: f32,

@@ -1,10 +1,12 @@
 // The window of each side predictor: the tokens that it has at a node
 // (document 01, "Scoring"; the Rust's `SymbolWindow`).
+#![tactic(auto)]
+
 ghost use Rattle.std.specs.Prelude.{◌≡◌, ◌+◌, ◌-◌, ◌*◌, ◌≤◌, ◌<◌, length};
 ghost use Rattle.score_windows.specs.Windows.{widened, window_of, Windowable, Windows};
 
 // The tokens from `first` up to `end`; none: 0 and 0.
-#[derive(Drop)]
+#[derive(Clone, Copy)]
 pub struct Window {
     pub first: usize,
     pub end: usize,

@@ -1,5 +1,7 @@
 // A seed planted for growth (document 01, "Deepening"; the Rust's `deepen_ma_tree` before `grow_tree`): its leaves with
 // rows evaluated at their depth, and what stands beside its nodes.
+#![tactic(auto)]
+
 ghost use Rattle.std.specs.Prelude.{◌≡◌, List};
 ghost use Rattle.model.specs.Rows.{Row};
 ghost use Rattle.layout.specs.Tree.{nodes_now};

@@ -1,5 +1,7 @@
 // A seed as deepening finds it (document 01, "Deepening"; the Rust's `deepen_ma_tree`): its rows ordered by leaf, and
 // its depths.
+#![tactic(auto)]
+
 ghost use Rattle.std.specs.Prelude.{◌≡◌, List, take};
 ghost use Rattle.model.specs.Single.{singles};
 ghost use Rattle.model.specs.Tree.{Record, nodes_of};

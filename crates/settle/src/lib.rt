@@ -1,4 +1,6 @@
 // Settling: the mode step once more on each leaf's span, since pruning may have joined the rows of several leaves.
+#![tactic(auto)]
+
 ghost use Rattle.std.specs.Prelude.{◌≡◌, List, ℤ};
 ghost use Rattle.model.specs.Single.{singles};
 ghost use Rattle.model.specs.Grow.{Entry};

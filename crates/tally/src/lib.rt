@@ -1,10 +1,12 @@
 // How many cases were tried, how many came out wrong, and the first of these.
+#![tactic(auto)]
+
 ghost use Rattle.std.specs.Prelude.{◌≡◌};
 ghost use Rattle.tally.specs.Counted.{nothing, counted};
 
 use libc::STDOUT_FILENO;
 
-#[derive(Drop)]
+#[derive(Clone, Copy)]
 pub struct Tally {
     pub tried: u64,
     pub wrong: u64,

@@ -1,5 +1,7 @@
 // Lists the residuals of standard input, four little-endian bytes each: a header, a line for each,
 // and `short` with the number of bytes left over, if there are any.
+#![tactic(auto)]
+
 use libc::{STDIN_FILENO, STDOUT_FILENO};
 
 fn write_header() -> bool {

@@ -3,7 +3,7 @@
 
 // How a hybrid integer is cut: values below 2^split are tokens; a larger one keeps its msb highest
 // bits, after the top bit, and its lsb lowest bits in the token.
-#[derive(Drop)]
+#[derive(Clone, Copy)]
 pub struct Config {
     pub split: u32,
     pub msb: u32,

@@ -1,6 +1,8 @@
 // Packing and tokens on many inputs, each read back by a decoder of its own, and the lister's
 // example. It prints how many cases of each kind were tried, how many came out wrong, and the first
 // of these.
+#![tactic(auto)]
+
 mod decoder;
 
 use decoder::Config;

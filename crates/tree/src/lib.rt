@@ -1,5 +1,7 @@
 // Trees in flat lists of numbers: which are sound, where a lookup ends, and how deep each node lies.
 // The nodes of a tree stand at the front of the lists; `count` says how many there are.
+#![tactic(auto)]
+
 ghost use Rattle.std.specs.Prelude.{◌≡◌, ℕ, ◌+◌, ◌<◌, cond, List, length, get_or, ℤ, Float, eqb};
 ghost use Rattle.model.specs.Rows.{rows_of};
 ghost use Rattle.model.specs.Single.{singles};
