@@ -1,0 +1,65 @@
+-- `evaluate::offer_split` meets its contract. Assumes nothing.
+use mathlib.Core.Path.{◌≡◌, refl, ap, ◌∙◌}
+use mathlib.Core.List.{List}
+use Prim.Native.Nat.{ℕ, ◌-◌}
+use native.Mathlib.Omega.{arith}
+use lib.ListN.{length, take, replicate, length-take}
+use Rattle.model.specs.Evaluate.{property_order, nowhere, best_from, best_split, offer_of}
+use Rattle.refuse.specs.Given.{settings_of}
+use Rattle.evaluate.specs.Evaluated.{span_rows}
+use Rattle.evaluate.proofs.Sides.{costs-length, lent_length, windowable, splittable, preds_are}
+use Rattle.evaluate.proofs.offer_split.Goals as goal
+
+-- as many predictors as are asked for are lent
+lent : (c : goal.After-cheapest_predictors-sides) → c.cheapest_predictors-sides.result ≡ length
+    (take c.cheapest_predictors-sides.result c.cheapest_predictors-sides.new.out)
+lent c =
+    lent_length c.requires.0 c.requires.1.0 c.args.costs.now c.cheapest_predictors-sides.result (replicate 14 0) c.cheapest_predictors-sides.new.out
+    c.requires.1.1 c.cheapest_predictors-sides.ensures.0
+    c.cheapest_predictors-sides.ensures.1
+
+pub cheapest_predictors-sides-requires : goal.cheapest_predictors-sides-requires
+cheapest_predictors-sides-requires c = (
+  ap length c.requires.1.1 ∙ costs-length c.args.hist.now (c.args.end - c.args.first) c.args.s.alphabet
+      c.args.s.allow_wp c.args.s.allowed_preds c.args.logs.now,
+  refl,
+)
+
+pub slice_bounds-set_windows-end : goal.slice_bounds-set_windows-end
+slice_bounds-set_windows-end c = lent c
+
+pub set_windows-requires : goal.set_windows-requires
+set_windows-requires c = windowable c.requires.0 c.requires.1.0 c.args.costs.now c.cheapest_predictors-sides.result (replicate 14 0) c.cheapest_predictors-sides.new.out
+    c.requires.1.1 c.cheapest_predictors-sides.ensures.0 c.cheapest_predictors-sides.ensures.1
+    (omega arith) (omega arith)
+
+pub slice_bounds-preds-end-2 : goal.slice_bounds-preds-end-2
+slice_bounds-preds-end-2 c = omega (
+  arith,
+  lent c,
+  length-take c.cheapest_predictors-sides.result
+      c.cheapest_predictors-sides.new.out,
+)
+
+pub slice_bounds-best_split-end : goal.slice_bounds-best_split-end
+slice_bounds-best_split-end c = lent c
+
+pub best_split-best-requires : goal.best_split-best-requires
+best_split-best-requires c = splittable c.requires.0 c.requires.1.0 c.args.costs.now c.cheapest_predictors-sides.result (replicate 14 0) c.cheapest_predictors-sides.new.out
+    c.requires.1.1 c.cheapest_predictors-sides.ensures.0 c.cheapest_predictors-sides.ensures.1
+    c.set_windows.ensures
+
+pub returns : goal.returns
+unfolding best_split
+returns c = let a = c.args in
+    (
+      (λ rows rs h.
+          c.offer_of.ensures
+          ∙ ap (offer_of (settings_of a.s) a.cost)
+          (c.best_split-best.ensures.0 rows rs h
+          ∙ ap (λ (ps : List ℕ). best_from (settings_of a.s) a.logs.now ps (span_rows a.first a.end a.props.now a.tok.now rows rs) nowhere
+          (property_order a.s.allow_wp))
+          (preds_are c.requires.0 c.requires.1.0 a.costs.now c.cheapest_predictors-sides.result (replicate 14 0) c.cheapest_predictors-sides.new.out c.requires.1.1
+          c.cheapest_predictors-sides.ensures.0 c.cheapest_predictors-sides.ensures.1 rows rs h))),
+      c.best_split-best.ensures.1,
+    )

@@ -1,0 +1,51 @@
+-- `leaf::make_leaf` meets its contract: the mode step, and then the evaluation of the rows that it leaves. Assumes nothing.
+use mathlib.Core.Path.{◌≡◌, sym, ap, ◌∙◌}
+use mathlib.Core.Bool.{Bool, ◌&&◌}
+use mir.Syntax.{w32}
+use mir.Val.{to_z, of_z}
+use mir.ValLaws.{to_z-of_z}
+use lib.Dec.{ltb}
+use lib.ListN.{length}
+use Rattle.rows.specs.Cells.{span}
+use Rattle.rows.specs.Flat.{Flat, flat, held_in, row_count}
+use Rattle.model.specs.Mode.{span_mode}
+use Rattle.model.specs.Rows.{within}
+use Rattle.mode.specs.Column.{step_mode}
+use Rattle.refuse.proofs.Ranges.{given}
+use Rattle.lent.specs.Fitting.{uses_of}
+use Rattle.leaf.proofs.Making.{steppable, mode-stepped, Stepped, after-step, evaluable, made}
+use Rattle.leaf.proofs.make_leaf.Goals as goal
+
+-- the lists after the mode step
+module _ (c : goal.After-mode_step-offset) where
+  abbrev x : Flat
+  x = flat c.args.props.now c.args.tok.now c.args.res.now
+  flag : (c.args.s.modal_offsets && ltb 0 (length c.args.res.now)) ≡ uses_of c.args.s x
+  flag = ap (λ (b : Bool). c.args.s.modal_offsets && b) (sym (given c.args.res.now))
+  stepped : Stepped c.args.s c.args.logs.now c.mode_step-offset.new.counts (span c.args.first c.args.end) x
+      (flat c.args.props.now c.mode_step-offset.new.tok c.args.res.now)
+  stepped =
+      let learnt = c.mode_step-offset.ensures in
+      after-step c.requires.fitting c.requires.spanned (c.args.s.modal_offsets && ltb 0 (length c.args.res.now)) c.mode_step-offset.new.tok c.mode_step-offset.new.counts
+      flag learnt.1.0 learnt.1.1.0 learnt.1.1.1
+  mode-is : to_z w32 (of_z w32 c.mode_step-offset.result) ≡ span_mode (uses_of c.args.s x) (within (span c.args.first c.args.end) (held_in x))
+  mode-is =
+      to_z-of_z w32 c.mode_step-offset.result (record { sfits = c.mode_step-offset.type-inv })
+      ∙ c.mode_step-offset.ensures.0
+      ∙ ap (λ (b : Bool). step_mode b c.args.first c.args.end c.args.res.now) flag
+      ∙ mode-stepped c.requires.fitting c.requires.spanned
+
+pub mode_step-offset-requires : goal.mode_step-offset-requires
+mode_step-offset-requires c = rw (← given c.args.res.now) (steppable c.requires.fitting c.requires.spanned)
+
+pub evaluate_rows-requires : goal.evaluate_rows-requires
+evaluate_rows-requires c = let after = stepped c in
+    evaluable after.fitting after.spanned
+
+pub returns : goal.returns
+returns c = let learnt = c.evaluate_rows.ensures in
+    let given = c.args in (
+      made (to_z w32 (of_z w32 c.mode_step-offset.result)) c.requires.spanned (stepped c) (mode-is c)
+          (learnt.0 (row_count (x c)) given.res.now c.requires.spanned.inside),
+      learnt.1 ∙ c.mode_step-offset.ensures.1.1.0,
+    )

@@ -1,0 +1,73 @@
+-- `learn::learn_ma_tree_in_place` meets its contract: flat bits of the rows as first given, and then the finished tree. Assumes nothing.
+use mathlib.Core.Path.{sym, ◌∙◌, subst}
+use mathlib.Core.List.{List}
+use Prim.Native.Nat.{ℕ}
+use Rattle.layout.specs.Tree.{node_lists}
+use Rattle.layout.specs.Waiting.{queue_lists}
+use Rattle.rows.specs.Flat.{flat}
+use Rattle.lent.specs.Lists.{Lists, lists}
+use Rattle.lent.proofs.Flatly.{flattened_from}
+use Rattle.finish.proofs.Made.{made-lists, learned_as}
+use Rattle.lent.specs.Starts.{Plantable}
+use Rattle.from_root.specs.Result.{result_in}
+use Rattle.learn.proofs.learn_ma_tree_in_place.Goals as goal
+
+-- what was asked
+module _ (c : goal.After-clear_u32) where
+  abbrev x : Lists
+  x =
+      let given = c.args in
+      lists (flat given.props.now given.tok.now given.res.now) (node_lists given.words.now given.values.now given.costs.now)
+      (queue_lists given.queue-words.now given.queue-values.now given.queue-gains.now) given.counts.now
+
+pub flat_bits-flat_bits-requires : goal.flat_bits-flat_bits-requires
+flat_bits-flat_bits-requires c = let asked = c.requires.plantable in
+    flattened_from asked.fitting asked.counted c.clear_u32.ensures
+
+pub grow_from_root-requires : goal.grow_from_root-requires
+grow_from_root-requires c = let given = c.args in (
+      subst (λ (l : List ℕ). Plantable given.s given.logs.now l (x c).rows (x c).nodes (x c).queue given.rows) (sym (c.flat_bits-flat_bits.ensures.1 ∙ c.clear_u32.ensures)) c.requires.plantable,
+      c.flat_bits-flat_bits.ensures.0 given.res.now,
+    )
+
+pub shape_of-props : goal.shape_of-props
+shape_of-props c = c.grow_from_root.auto.props
+
+pub shape_of-tok : goal.shape_of-tok
+shape_of-tok c = c.grow_from_root.auto.tok
+
+pub shape_of-res : goal.shape_of-res
+shape_of-res c = c.grow_from_root.auto.res
+
+pub shape_of-words : goal.shape_of-words
+shape_of-words c = c.grow_from_root.auto.words
+
+pub shape_of-values : goal.shape_of-values
+shape_of-values c = c.grow_from_root.auto.values
+
+pub shape_of-costs : goal.shape_of-costs
+shape_of-costs c = c.grow_from_root.auto.costs
+
+pub shape_of-queue_words : goal.shape_of-queue_words
+shape_of-queue_words c = c.grow_from_root.auto.queue_words
+
+pub shape_of-queue_values : goal.shape_of-queue_values
+shape_of-queue_values c = c.grow_from_root.auto.queue_values
+
+pub shape_of-queue_gains : goal.shape_of-queue_gains
+shape_of-queue_gains c = c.grow_from_root.auto.queue_gains
+
+pub shape_of-counts : goal.shape_of-counts
+shape_of-counts c = c.grow_from_root.auto.counts ∙ c.flat_bits-flat_bits.auto.counts ∙ c.clear_u32.auto.list
+
+pub returns : goal.returns
+returns c = let given = c.args in
+    let made = result_in given.s given.logs.now (x c).rows in
+    let f = c.grow_from_root.ensures.0 in (
+      learned_as f,
+      made-lists (x c) made (flat c.grow_from_root.new.props c.grow_from_root.new.tok c.grow_from_root.new.res)
+          (node_lists c.grow_from_root.new.words c.grow_from_root.new.values c.grow_from_root.new.costs)
+          (queue_lists c.grow_from_root.new.queue_words c.grow_from_root.new.queue_values c.grow_from_root.new.queue_gains) c.grow_from_root.new.counts c.grow_from_root.result
+          c.requires.plantable.fitting.shaped f
+          c.grow_from_root.ensures.1.1 (c.grow_from_root.ensures.1.0 ∙ c.flat_bits-flat_bits.ensures.1 ∙ c.clear_u32.ensures),
+    )

@@ -1,0 +1,17 @@
+-- `lists::copy_u32` meets its contract: the cells passed are copied. Assumes nothing.
+use Prim.Native.Nat.{◌-◌}
+use native.Mathlib.Omega.{arith}
+use Rattle.lists.proofs.Pasting.{pastes_none, pastes_end, copies_more}
+use Rattle.lists.proofs.copy_u32.Goals as goal
+
+pub loop-k-init : goal.loop-k-init
+loop-k-init c = pastes_none
+
+pub loop-k-preserved : goal.loop-k-preserved
+loop-k-preserved c = copies_more 0 c.requires c.loop-k-test.true c.loop-k.invariant
+
+pub shape_of-to : goal.shape_of-to
+shape_of-to c = c.loop-k.invariant.long
+
+pub returns : goal.returns
+returns c = pastes_end (omega arith) c.loop-k.invariant

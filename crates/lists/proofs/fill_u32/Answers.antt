@@ -1,0 +1,17 @@
+-- `lists::fill_u32` meets its contract: the cells passed hold the value. Assumes nothing.
+use Prim.Native.Nat.{◌-◌}
+use native.Mathlib.Omega.{arith}
+use Rattle.lists.proofs.Filling.{fills_none, fills_more, fills_all}
+use Rattle.lists.proofs.fill_u32.Goals as goal
+
+pub loop-k-init : goal.loop-k-init
+loop-k-init c = fills_none
+
+pub loop-k-preserved : goal.loop-k-preserved
+loop-k-preserved c = fills_more (omega arith) c.loop-k-test.true c.loop-k.invariant
+
+pub shape_of-list : goal.shape_of-list
+shape_of-list c = c.loop-k.invariant.long
+
+pub returns : goal.returns
+returns c = fills_all (omega arith) c.loop-k.invariant

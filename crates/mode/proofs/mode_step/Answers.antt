@@ -1,0 +1,17 @@
+-- `mode::mode_step` meets its contract. Assumes nothing.
+use mathlib.Core.Path.{◌≡◌, refl, ◌∙◌}
+use Prim.Native.Nat.{ℕ}
+use native.Mathlib.Omega.{arith}
+use mir.Syntax.{w32}
+use mir.ValLaws.{to_z-of_z}
+use Rattle.mode.proofs.mode_step.Goals as goal
+
+pub rebase_zero-requires : goal.rebase_zero-requires
+rebase_zero-requires c = c.requires.used c.if-uses.true
+
+pub returns-then-uses : goal.returns-then-uses
+returns-then-uses c = rw c.if-uses.true
+    (to_z-of_z w32 c.rebase_zero.result (record { sfits = c.rebase_zero.type-inv }) ∙ c.rebase_zero.ensures.0, (c.rebase_zero.ensures.1.0, (c.rebase_zero.ensures.1.1.0, λ _. c.rebase_zero.ensures.1.1.1)))
+
+pub returns-else-uses : goal.returns-else-uses
+returns-else-uses c = rw c.if-uses.false (refl, (refl, (refl, λ e. let z : ◌≡◌ {A = ℕ} 0 1 = cc in absurd (omega arith))))

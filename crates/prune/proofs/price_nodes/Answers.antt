@@ -1,0 +1,6 @@
+-- `prune::price_nodes` meets its contract. Assumes nothing.
+use Rattle.prune.proofs.Pricing.{priced-all}
+use Rattle.prune.proofs.price_nodes.Goals as goal
+
+pub returns : goal.returns
+returns c tree shows = priced-all c.args.price tree c.args.count _ _ _ shows.many c.requires.some (c.price_all.ensures tree shows)

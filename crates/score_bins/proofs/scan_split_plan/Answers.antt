@@ -1,0 +1,8 @@
+-- `score_bins::scan_split_plan` meets its contract: both ways of counting leave the same. Assumes nothing.
+use Rattle.score_bins.proofs.scan_split_plan.Goals as goal
+
+pub scan_four-requires : goal.scan_four-requires
+scan_four-requires c = (c.requires.0, (c.requires.1.0, (c.requires.1.1.0, (c.requires.1.1.1, c.if-preds-eq4.true))))
+
+pub scan_any-requires : goal.scan_any-requires
+scan_any-requires c = c.requires

@@ -1,0 +1,47 @@
+-- `tree::leaf_reached` meets its contract. The invariant: the node is met on the way. A split leads to a node behind it, so what is left of the
+use mathlib.Core.Path.{sym, ◌∙◌}
+use Prim.Native.Nat.{◌≤◌, ◌<◌, ◌-◌}
+use native.Mathlib.Omega.{arith}
+use Rattle.model.specs.Settings.{props_per_row}
+use Rattle.layout.specs.Layout.{prop_at, nodes_held}
+use Rattle.tree.specs.Trees.{child_at}
+use Rattle.tree.proofs.Soundness.{few, split-fits}
+use Rattle.tree.proofs.Ways.{reach-end, Followed, followed_first, followed_on}
+use Rattle.tree.proofs.leaf_reached.Goals as goal
+
+-- a split leads on
+on : (c : goal.In-loop-node) →
+    let start = c.args in
+    let i = c.loop-node.node.0 in
+    (prop_at start.words.now i < props_per_row) × (i < child_at start.words.now start.values.now start.props.now i)
+    × Followed start.words.now start.values.now start.count start.props.now (child_at start.words.now start.values.now start.props.now i)
+on c =
+    let is = sym c.is_split.ensures ∙ c.loop-node-test.true in
+    let fits = split-fits c.args.words.now c.args.count c.requires.sound c.loop-node.node.0 c.loop-node.invariant.1.inside is in
+    let next = followed_on c.args.words.now c.args.values.now c.args.count c.loop-node.invariant.0 c.args.props.now c.loop-node.node.0 c.loop-node.invariant.1 is fits.1 in
+    (fits.0, next.0, next.1)
+
+pub loop-node-init : goal.loop-node-init
+loop-node-init c = let sound = c.requires.sound in
+    let held : c.args.count ≤ nodes_held c.args.words.now c.args.values.now = omega (arith, sound.held, c.requires.values_there) in
+    (held, followed_first _ _ _ held _ (few c.args.words.now c.args.count sound).0)
+
+pub is_split-requires : goal.is_split-requires
+is_split-requires c = omega (arith, c.loop-node.invariant.1.inside)
+
+pub towards-node-requires : goal.towards-node-requires
+towards-node-requires c = let inside = c.loop-node.invariant.1.inside in
+    let prop = (on c).0 in
+    record { words_there = omega arith; value_there = omega arith; prop_there = omega (arith, c.requires.one_row) }
+
+pub loop-node-smaller : goal.loop-node-smaller
+loop-node-smaller c = let next = on c in
+    rw c.towards-node.ensures (omega (arith, next.1, next.2.inside))
+
+pub loop-node-preserved : goal.loop-node-preserved
+loop-node-preserved c = (c.loop-node.invariant.0, rw c.towards-node.ensures (on c).2)
+
+pub returns : goal.returns
+returns c costs = let start = c.args in
+    let met = c.loop-node.invariant.1 in
+    sym (met.same costs ∙ reach-end start.words.now start.values.now costs start.count c.loop-node.invariant.0 start.props.now met.fuel c.loop-node.node.0 met.inside (sym c.is_split.ensures ∙ c.loop-node-test.false))
