@@ -191,6 +191,7 @@ add-plus f (fin s m e) (fin t n d) p q h =
     (λ v k w. reached f e d v g (case v g.grain a b ma mb w) k)
   where
     above : (s : Bool) → T s → T (not (minus_zero (fin s m e))) → 0 < m
+    above false k h = elim k [ ]
     above true k h = pos_of m h
       where
         pos_of : (m : ℕ) → T (not (eqb m 0)) → 0 < m

@@ -4,20 +4,20 @@ mod Cases
 use mathlib.Core.Path.{◌≡◌, refl}
 use mathlib.Core.List.{map}
 use Rattle.model.proofs.Computing.{everything}
-use Jobs.{answerTo}
-use Cases.{partJobs, partAnswers, grownJobs, grownAnswers, refusedJobs, refusedAnswers}
+use Jobs.{answer_to}
+use Cases.{part_jobs, part_answers, grown_jobs, grown_answers, refused_jobs, refused_answers}
 
 -- the small operations, and single parts of the learner
-pub parts_agree : map answerTo partJobs ≡ partAnswers
+pub parts_agree : map answer_to part_jobs ≡ part_answers
 unfolding everything
 parts_agree = refl
 
 -- learnings and deepenings that are accepted
-pub trees_agree : map answerTo grownJobs ≡ grownAnswers
+pub trees_agree : map answer_to grown_jobs ≡ grown_answers
 unfolding everything
 trees_agree = refl
 
 -- and those that are refused
-pub refusals_agree : map answerTo refusedJobs ≡ refusedAnswers
+pub refusals_agree : map answer_to refused_jobs ≡ refused_answers
 unfolding everything
 refusals_agree = refl

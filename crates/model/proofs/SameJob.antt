@@ -1,7 +1,7 @@
 -- The leaf limit is no part of a job, and settling no part of its evaluation: a node and the flat total do not look at them. Assumes nothing.
 use mathlib.Core.Path.{◌≡◌, refl, ap, fun_ext}
 use Prim.Native.Nat.{ℕ}
-use mathlib.Core.Bool.{Bool, not}
+use mathlib.Core.Bool.{Bool, cond, not}
 use mathlib.Core.List.{List, [], ◌∷◌}
 use mathlib.Core.Option.{Option, none, some}
 use lib.IntN.{ℤ}
@@ -12,7 +12,7 @@ use Rattle.model.specs.Rows.{Row, is_above}
 use Rattle.model.specs.Job.{Job}
 use Rattle.model.specs.Cost.{cost_of, usable, best_predictor, side_predictors}
 use Rattle.model.specs.Score.{Score, nothing, side_cost, score_sides, score_at, score_from, score_of}
-use Rattle.model.specs.Evaluate.{property_order, twin, Best, nowhere, at, plan_of, repeats, is_repeated, best_from, best_split, offer_of, is_scored, info_of, offered}
+use Rattle.model.specs.Evaluate.{property_order, twin, Best, nowhere, at, better, plan_of, repeats, is_repeated, best_from, best_split, offer_of, is_scored, info_of, offered}
 use Rattle.model.specs.Flat.{group_of, with_group, flat_from, flat_bits}
 use Rattle.model.specs.Profile.{Profile, job_of}
 
@@ -43,7 +43,7 @@ module _ {M : Meter} (t : Settings M) (k : ℕ) (b : Bool) (logs : List M.Cost) 
   same-best : (ps : List ℕ) (rows : List Row) (best : Best M) (qs : List ℕ) → best_from other logs ps rows best qs ≡ best_from t logs ps rows best qs
   unfolding best_from is_repeated plan_of
   same-best ps rows best [] = refl
-  same-best ps rows best (q ∷ qs) = rw (same-repeats rows q (twin q), same_score ps q rows (plan_of t rows q)) (same-best ps rows _ qs)
+  same-best ps rows best (q ∷ qs) = rw (same-repeats rows q (twin q), same_score ps q rows (plan_of t rows q)) (same-best ps rows (cond (repeats t rows q (twin q)) best (better best q (score_of t logs ps q rows (plan_of t rows q)))) qs)
 
   same-offer : (cost : M.Cost) (best : Best M) → offer_of other cost best ≡ offer_of t cost best
   unfolding offer_of
@@ -58,7 +58,7 @@ module _ {M : Meter} (t : Settings M) (k : ℕ) (b : Bool) (logs : List M.Cost) 
   same-flat : (rows : List Row) (bits : M.Total) (cs : List ℕ) → flat_from other logs rows bits cs ≡ flat_from t logs rows bits cs
   unfolding flat_from
   same-flat rows bits [] = refl
-  same-flat rows bits (c ∷ cs) = rw (same-group bits (group_of c rows)) (same-flat rows _ cs)
+  same-flat rows bits (c ∷ cs) = rw (same-group bits (group_of c rows)) (same-flat rows (with_group t logs bits (group_of c rows)) cs)
 
   same-offered : (depth : ℕ) (cost : M.Cost) (rows : List Row) → offered other logs depth cost rows ≡ offered t logs depth cost rows
   unfolding offered is_scored best_split side_predictors usable cost_of
