@@ -23,16 +23,13 @@ module _ (c : goal.After-leaf_contexts) (nodes : List MaNode) (costs : List Floa
       → contexts_after c.leaf_contexts.result c.leaf_contexts.new.contexts c.leaf_contexts.new.queue ≡ leaf_contexts (map stored_of nodes) c.args.count asked
   counted same is =
       (rw (c.words_for-words_end.ensures, c.values_for-values_end.ensures) at (c.leaf_contexts.ensures costs))
-      ∙ contexts-alike nodes c.args.words.now c.args.values.now costs c.args.n (omega arith) same c.requires.1.0 c.requires.1.1 c.args.count asked is
+      ∙ contexts-alike nodes c.args.words.now c.args.values.now costs c.args.n (omega arith) same c.requires.has_words.0 c.requires.has_words.1 c.args.count asked is
 
 pub slice_bounds-leaf_contexts-end : goal.slice_bounds-leaf_contexts-end
-slice_bounds-leaf_contexts-end c = sym (length-take-le c.words_for-words_end.result c.args.words.now (rw c.words_for-words_end.ensures c.requires.1.0))
+slice_bounds-leaf_contexts-end c = sym (length-take-le c.words_for-words_end.result c.args.words.now (rw c.words_for-words_end.ensures c.requires.has_words.0))
 
 pub slice_bounds-leaf_contexts-end-2 : goal.slice_bounds-leaf_contexts-end-2
-slice_bounds-leaf_contexts-end-2 c = sym (length-take-le c.values_for-values_end.result c.args.values.now (rw c.values_for-values_end.ensures c.requires.1.1))
+slice_bounds-leaf_contexts-end-2 c = sym (length-take-le c.values_for-values_end.result c.args.values.now (rw c.values_for-values_end.ensures c.requires.has_words.1))
 
 pub returns : goal.returns
-returns c = (
-  λ nodes costs same is. c.contexts_answer.ensures ∙ ap (λ x. count_in x.outcome) (counted c nodes costs same is),
-  λ nodes costs same is. ap (λ x. x.lent) (counted c nodes costs same is),
-)
+returns c = record { answer = λ nodes costs same is. c.contexts_answer.ensures ∙ ap (λ x. count_in x.outcome) (counted c nodes costs same is); lists = λ nodes costs same is. ap (λ x. x.lent) (counted c nodes costs same is) }

@@ -69,25 +69,19 @@ module _ (c : goal.After-fault_of) where
 
 pub returns-in-Refused : goal.returns-in-Refused
 returns-in-Refused c = let told = c.number-1.given in
-    let given = c.args in (
-      none_written c.refused.result given.node_room given.span_room c.refused.ensures,
-      λ nodes spans same a b.
+    let given = c.args in record { few = none_written c.refused.result given.node_room given.span_room c.refused.ensures; worked = λ nodes spans same a b.
           let f : Refusal = record { number = told.0.0; place = told.0.1.0 } in
           let y = x nodes spans in
           work_refused (settings_of given.s) given.logs.now y true given.count f
-          (deepen-refused given.s given.logs.now (lent_in y) given.count told.0.0 told.0.1.0 (sym (answer nodes spans a b) ∙ told.1)) (n c) c.refused.result c.refused.ensures,
-    )
+          (deepen-refused given.s given.logs.now (lent_in y) given.count told.0.0 told.0.1.0 (sym (answer nodes spans a b) ∙ told.1)) (n c) c.refused.result c.refused.ensures }
 
 pub returns-then-nodes-gt-MAX_NODES : goal.returns-then-nodes-gt-MAX_NODES
 returns-then-nodes-gt-MAX_NODES c = let passed = c.rows-1.given in
-    let given = c.args in (
-      none_written c.refused-then-nodes-gt-MAX_NODES.result given.node_room given.span_room c.refused-then-nodes-gt-MAX_NODES.ensures,
-      λ nodes spans same a b.
+    let given = c.args in record { few = none_written c.refused-then-nodes-gt-MAX_NODES.result given.node_room given.span_room c.refused-then-nodes-gt-MAX_NODES.ensures; worked = λ nodes spans same a b.
           let f : Refusal = record { number = 8; place = 0 } in
           let y = x nodes spans in
           work_refused (settings_of given.s) given.logs.now y true given.count f
-          (large-refused given.s given.logs.now y given.count (sym (answer nodes spans a b) ∙ passed.1) c.if-nodes-gt-MAX_NODES.true) (n c) c.refused-then-nodes-gt-MAX_NODES.result c.refused-then-nodes-gt-MAX_NODES.ensures,
-    )
+          (large-refused given.s given.logs.now y given.count (sym (answer nodes spans a b) ∙ passed.1) c.if-nodes-gt-MAX_NODES.true) (n c) c.refused-then-nodes-gt-MAX_NODES.result c.refused-then-nodes-gt-MAX_NODES.ensures }
 
 pub deepen_ma_tree-requires : goal.deepen_ma_tree-requires
 deepen_ma_tree-requires c = let passed = c.rows-1.given in
@@ -97,22 +91,19 @@ deepen_ma_tree-requires c = let passed = c.rows-1.given in
     deepenable given.s given.logs.now y given.count e (few c) (n c) (arrays-room c.requires) (some-numbered c) (found c ∙ ap fault_named c.enum_told-1.given.1)
 
 pub finished-requires : goal.finished-requires
-finished-requires c = c.deepen_ma_tree.ensures.0.few
+finished-requires c = c.deepen_ma_tree.ensures.finished.few
 
 pub returns-in-At : goal.returns-in-At
 returns-in-At c = let passed = c.rows-1.given in
     let told = c.place-1.given in
-    let given = c.args in (
-      none_written c.refused-in-At.result given.node_room given.span_room c.refused-in-At.ensures,
-      λ nodes spans same a b.
+    let given = c.args in record { few = none_written c.refused-in-At.result given.node_room given.span_room c.refused-in-At.ensures; worked = λ nodes spans same a b.
           let f : Refusal = record { number = 8; place = told.0.0 } in
           let y = x c nodes spans in
           let e = sym (answer c nodes spans a b) ∙ passed.1 in
           work_refused (settings_of given.s) given.logs.now y true given.count f
           (fault-refused given.s given.logs.now y given.count e told.0.0
           (ap fault_of (sym (seed-is given.s given.logs.now y given.count e (few c) (n c) (arrays-room c.requires) same)) ∙ found c ∙ ap fault_named told.1))
-          (n c) c.refused-in-At.result c.refused-in-At.ensures,
-    )
+          (n c) c.refused-in-At.result c.refused-in-At.ensures }
 
 pub shape_of-words-in-Sound : goal.shape_of-words-in-Sound
 shape_of-words-in-Sound c = c.deepen_ma_tree.auto.words
@@ -150,20 +141,17 @@ returns-in-Sound c = let passed = c.rows-1.given in
     let t = settings_of given.s in
     let sound = found c ∙ ap fault_named c.enum_told-1.given.1 in
     let core = deepened_in given.s given.logs.now given.count (flat given.props.now given.tok.now given.res.now) (n c) in
-    let left = node_lists c.deepen_ma_tree.new.words c.deepen_ma_tree.new.values c.deepen_ma_tree.new.costs in (
-      let y = x c (some-nodes c) (some-spans c) in
+    let left = node_lists c.deepen_ma_tree.new.words c.deepen_ma_tree.new.values c.deepen_ma_tree.new.costs in record { few = let y = x c (some-nodes c) (some-spans c) in
           let e = sym (answer c (some-nodes c) (some-spans c) (nodes_are c) (spans_are c)) ∙ passed.1 in
           let room = arrays-room c.requires in
           let is = deepened-is given.s given.logs.now y given.count e (few c) (n c) room (some-numbered c) sound in
           let passes = sound-passes given.s given.logs.now y given.count e (faultless given.s given.logs.now y given.count e (few c) (n c) room (some-numbered c) sound) in
           let fits = deepened_fitted given.s given.logs.now y given.count e (few c) (n c) room (some-numbered c) sound in
-          work_few t given.logs.now y true given.count passes fits core is c.finished.result c.deepen_ma_tree.ensures.0 c.finished.ensures.1 (nodes_are c) (spans_are c),
-      λ nodes spans same a b.
+          work_few t given.logs.now y true given.count passes fits core is c.finished.result c.deepen_ma_tree.ensures.finished c.finished.ensures.many (nodes_are c) (spans_are c); worked = λ nodes spans same a b.
           let y = x c nodes spans in
           let e = sym (answer c nodes spans a b) ∙ passed.1 in
           let room = arrays-room c.requires in
           let is = deepened-is given.s given.logs.now y given.count e (few c) (n c) room same sound in
           let passes = sound-passes given.s given.logs.now y given.count e (faultless given.s given.logs.now y given.count e (few c) (n c) room same sound) in
           let fits = deepened_fitted given.s given.logs.now y given.count e (few c) (n c) room same sound in
-          work_done t given.logs.now y true given.count passes fits core is (n c) left c.deepen_ma_tree.ensures.0 c.deepen_ma_tree.ensures.1 c.finished.result c.finished.ensures.0 c.finished.ensures.1,
-    )
+          work_done t given.logs.now y true given.count passes fits core is (n c) left c.deepen_ma_tree.ensures.finished c.deepen_ma_tree.ensures.lists c.finished.result c.finished.ensures.told c.finished.ensures.many }

@@ -4,4 +4,4 @@ use Rattle.answers.specs.Answers.{learned_in}
 use Rattle.border.proofs.finished.Goals as goal
 
 pub returns : goal.returns
-returns c = (c.learned_answer.ensures ∙ ap learned_in c.answer.ensures, refl)
+returns c = record { told = c.learned_answer.ensures ∙ ap learned_in c.answer.ensures; many = refl }

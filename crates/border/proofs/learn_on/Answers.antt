@@ -53,18 +53,15 @@ learn_ma_tree_in_place-requires c = let passed = c.rows-1.given in
     learnable given.s given.logs.now y (learn-passed given.s given.logs.now (lent_in y) passed.0.0 e).1 (n c) (arrays-room c.requires)
 
 pub finished-requires : goal.finished-requires
-finished-requires c = c.learn_ma_tree_in_place.ensures.0.few
+finished-requires c = c.learn_ma_tree_in_place.ensures.finished.few
 
 pub returns-in-Refused : goal.returns-in-Refused
 returns-in-Refused c = let told = c.number-1.given in
-    let given = c.args in (
-      none_written c.refused.result given.node_room given.span_room c.refused.ensures,
-      λ nodes spans count a b.
+    let given = c.args in record { few = none_written c.refused.result given.node_room given.span_room c.refused.ensures; worked = λ nodes spans count a b.
           let f : Refusal = record { number = told.0.0; place = told.0.1.0 } in
           let y = x c nodes spans in
           work_refused (settings_of given.s) given.logs.now y false count f
-          (learn-refused given.s given.logs.now (lent_in y) told.0.0 told.0.1.0 (sym (answer c nodes spans a b) ∙ told.1)) (n c) c.refused.result c.refused.ensures,
-    )
+          (learn-refused given.s given.logs.now (lent_in y) told.0.0 told.0.1.0 (sym (answer c nodes spans a b) ∙ told.1)) (n c) c.refused.result c.refused.ensures }
 
 pub shape_of-words : goal.shape_of-words
 shape_of-words c = c.learn_ma_tree_in_place.auto.words
@@ -100,15 +97,12 @@ pub returns-in-Pass : goal.returns-in-Pass
 returns-in-Pass c = let passed = c.rows-1.given in
     let given = c.args in
     let t = settings_of given.s in
-    let left = node_lists c.learn_ma_tree_in_place.new.words c.learn_ma_tree_in_place.new.values c.learn_ma_tree_in_place.new.costs in (
-      let y = x c (some-nodes c) (some-spans c) in
+    let left = node_lists c.learn_ma_tree_in_place.new.words c.learn_ma_tree_in_place.new.values c.learn_ma_tree_in_place.new.costs in record { few = let y = x c (some-nodes c) (some-spans c) in
           let e = sym (answer c (some-nodes c) (some-spans c) (nodes_are c) (spans_are c)) ∙ passed.1 in
           let p = learn-passed given.s given.logs.now (lent_in y) passed.0.0 e in
           work_few t given.logs.now y false 0 p.0 (learned_fitted given.s given.logs.now y p.1) (result_in given.s given.logs.now y.rows) refl
-          c.finished.result c.learn_ma_tree_in_place.ensures.0 c.finished.ensures.1 (nodes_are c) (spans_are c),
-      λ nodes spans count a b.
+          c.finished.result c.learn_ma_tree_in_place.ensures.finished c.finished.ensures.many (nodes_are c) (spans_are c); worked = λ nodes spans count a b.
           let y = x c nodes spans in
           let p = learn-passed given.s given.logs.now (lent_in y) passed.0.0 (sym (answer c nodes spans a b) ∙ passed.1) in
           work_done t given.logs.now y false count p.0 (learned_fitted given.s given.logs.now y p.1) (result_in given.s given.logs.now y.rows) refl
-          (n c) left c.learn_ma_tree_in_place.ensures.0 c.learn_ma_tree_in_place.ensures.1 c.finished.result c.finished.ensures.0 c.finished.ensures.1,
-    )
+          (n c) left c.learn_ma_tree_in_place.ensures.finished c.learn_ma_tree_in_place.ensures.lists c.finished.result c.finished.ensures.told c.finished.ensures.many }

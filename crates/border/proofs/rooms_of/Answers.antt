@@ -3,4 +3,4 @@ use mathlib.Core.Path.{refl}
 use Rattle.border.proofs.rooms_of.Goals as goal
 
 pub returns : goal.returns
-returns c = (c.queue_room.ensures, (refl, refl, refl))
+returns c = record { queue = c.queue_room.ensures; rest = (refl, refl, refl) }

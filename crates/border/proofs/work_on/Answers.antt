@@ -33,7 +33,7 @@ shape_of-counts-then-seeded c = c.deepen_on.auto.counts
 
 pub returns-then-seeded : goal.returns-then-seeded
 returns-then-seeded c = let taken = c.if-seeded.true in
-    (c.deepen_on.ensures.0, λ nodes spans same a b. rw taken (c.deepen_on.ensures.1 nodes spans (rw taken at same) a b))
+    record { few = c.deepen_on.ensures.few; worked = λ nodes spans same a b. rw taken (c.deepen_on.ensures.worked nodes spans (rw taken at same) a b) }
 
 pub shape_of-words : goal.shape_of-words
 shape_of-words c = c.learn_on.auto.words
@@ -66,4 +66,4 @@ pub shape_of-counts : goal.shape_of-counts
 shape_of-counts c = c.learn_on.auto.counts
 
 pub returns : goal.returns
-returns c = (c.learn_on.ensures.0, λ nodes spans same a b. rw c.if-seeded.false (c.learn_on.ensures.1 nodes spans c.args.count a b))
+returns c = record { few = c.learn_on.ensures.few; worked = λ nodes spans same a b. rw c.if-seeded.false (c.learn_on.ensures.worked nodes spans c.args.count a b) }

@@ -18,7 +18,7 @@ here c = subst (Here c) (length-set c.args.order.now 0 0) c.loop-head.invariant
 -- no more nodes are waiting than there are places
 fits : (c : goal.In-loop-head) → c.loop-head.head < max_nodes
 fits c =
-    omega (arith, (here c).within, c.loop-head-test.true, (few c.args.words.now (length c.args.order.now) c.requires).1)
+    omega (arith, (here c.before).within, c.loop-head-test.true, (few c.args.words.now (length c.args.order.now) c.requires).1)
 
 pub bounds-order-0 : goal.bounds-order-0
 bounds-order-0 c = (few c.args.words.now (length c.args.order.now) c.requires).0
@@ -39,19 +39,19 @@ queue_children-end-requires c = queueable c.args.words.now (length c.args.order.
     c.loop-head-test.true
 
 pub overflow_add-head : goal.overflow_add-head
-overflow_add-head c = omega (arith, fits c)
+overflow_add-head c = omega (arith, fits c.before.before.before.before.before
 
 pub loop-head-smaller : goal.loop-head-smaller
 loop-head-smaller c = let inv = c.loop-head.invariant in
     omega (arith, inv.within, c.loop-head-test.true)
 
 pub loop-head-preserved : goal.loop-head-preserved
-loop-head-preserved c = rw (c.queue_children-end.ensures.0, c.queue_children-end.ensures.1, length-set c.args.order.now 0 0)
+loop-head-preserved c = rw (c.queue_children-end.ensures.answer, c.queue_children-end.ensures.queue, length-set c.args.order.now 0 0)
     (walked_on c.args.words.now (length c.args.order.now) c.requires c.loop-head.head c.loop-head.end c.loop-head.order (here c)
     c.loop-head-test.true)
 
 pub shape_of-order : goal.shape_of-order
-shape_of-order c = (here c).there
+shape_of-order c = (here c.before).there
 
 pub returns : goal.returns
 returns c = walked_end c.args.words.now (length c.args.order.now) c.requires c.loop-head.head c.loop-head.end c.loop-head.order (here c) c.loop-head-test.false

@@ -11,7 +11,7 @@ use Rattle.compact.proofs.gather.Goals as goal
 lengths : (c : goal.After-loop-q)
     → let a = c.args in
     SameLengths (node_lists a.new-words.now a.new-values.now a.new-costs.now)
-    (node_lists c.loop-q.new-words c.loop-q.new-values c.loop-q.new-costs)
+    (node_lists c.loop-q.new_words c.loop-q.new_values c.loop-q.new_costs)
 lengths c =
     let c.loop-q = c.loop-q in
     let pre = c.requires in
@@ -21,29 +21,29 @@ pub loop-q-init : goal.loop-q-init
 loop-q-init c = (omega arith, gathered_none _ _ _ _ _)
 
 pub offset_bounds-order-q : goal.offset_bounds-order-q
-offset_bounds-order-q c = omega (arith, c.requires.0.order_there)
+offset_bounds-order-q c = omega (arith, c.requires.all_movable.order_there)
 
 pub bounds-order-q : goal.bounds-order-q
-bounds-order-q c = omega (arith, c.requires.0.order_there)
+bounds-order-q c = omega (arith, c.requires.all_movable.order_there)
 
 pub overflow_cast-i : goal.overflow_cast-i
 overflow_cast-i c = omega (arith, c.shared_slice_known-in-loop-q-1.given c.loop-q.q)
 
 pub node_at-node-requires : goal.node_at-node-requires
-node_at-node-requires c = let pre = c.requires.0 in
+node_at-node-requires c = let pre = c.requires.all_movable in
     let room = room-fewer pre.room (pre.old c.loop-q.q c.loop-q-test.true) in
     record { words_there = omega (arith, room.words); values_there = omega (arith, room.values); costs_there = omega (arith, room.costs) }
 
 pub span_at-span-requires : goal.span_at-span-requires
-span_at-span-requires c = let pre = c.requires.0 in
+span_at-span-requires c = let pre = c.requires.all_movable in
     let room = room-fewer pre.room (pre.old c.loop-q.q c.loop-q-test.true) in omega (arith, room.words)
 
 pub bounds-splits-i : goal.bounds-splits-i
-bounds-splits-i c = let pre = c.requires.0 in
+bounds-splits-i c = let pre = c.requires.all_movable in
     let old = pre.old c.loop-q.q c.loop-q-test.true in omega (arith, old, pre.splits_there)
 
 pub renumbered-moved-requires : goal.renumbered-moved-requires
-renumbered-moved-requires c = let pre = c.requires.0 in
+renumbered-moved-requires c = let pre = c.requires.all_movable in
     let old = pre.old c.loop-q.q c.loop-q-test.true in
     rw c.node_at-node.ensures (λ is. pre.children _ old is)
 
@@ -70,7 +70,7 @@ loop-q-preserved c = let pre = c.requires in
     let span_at_lem = c.span_at_lem in
     (
       omega arith,
-      rw (c.put_span.ensures, c.put_node.ensures.0, c.put_node.ensures.1.0, c.put_node.ensures.1.1)
+      rw (c.put_span.ensures, c.put_node.ensures.words, c.put_node.ensures.values, c.put_node.ensures.costs)
           (gathered-more _ _ _ _ pre.1 c.loop-q.q c.loop-q.invariant.1 (stored_of c.renumbered-moved.result) span_at_lem.result.first span_at_lem.result.end taken
           (ap stored_of (rw c.node_at-node.ensures at c.renumbered-moved.ensures)) span_at_lem.ensures.0 span_at_lem.ensures.1),
     )

@@ -16,7 +16,7 @@ pub gather-requires : goal.gather-requires
 gather-requires c = let pre = c.requires in
     let few = pre.few in
     let most = pre.most in
-    (pre, record { words = omega arith; values = omega arith; costs = omega arith })
+    record { all_movable = pre; has_room = record { words = omega arith; values = omega arith; costs = omega arith } }
 
 pub copy_f32-requires : goal.copy_f32-requires
 copy_f32-requires c = let pre = c.requires in

@@ -19,7 +19,7 @@ held c = rw c.nodes_held.ensures at c.if-nodes_held-n.false
 -- no fault was found
 sound : (c : goal.In_default) → let start = c.args in SoundTree start.words.now start.count
 sound c = record {
-  held = let h = held c in omega arith;
+  held = let h = held c.before.before.before in omega arith;
   faultless = λ values costs h. sym (c.fault_of-fault.ensures values costs h) ∙ ap fault_named c.enum_told-1.given.1;
 }
 
@@ -37,37 +37,37 @@ fault_of-fault-requires c = let h = held c in omega arith
 
 pub returns-in-At : goal.returns-in-At
 returns-in-At c costs = let start = c.args in
-    let h = held c in
+    let h = held c.before.before.before.before in
     let named = sym (c.fault_of-fault.ensures start.values.now costs h) ∙ ap fault_named c.fault-1.given.1 in
     sym (faulty start.words.now start.values.now costs start.count _ h _ named)
 
 pub returns-then-contexts-n : goal.returns-then-contexts-n
 returns-then-contexts-n c costs = let start = c.args in
-    let h = held c in
-    sym (cramped start.words.now start.values.now costs start.count _ h ((sound c).faultless start.values.now costs h) c.if-contexts-n.true)
+    let h = held c.before.before.before.before in
+    sym (cramped start.words.now start.values.now costs start.count _ h ((sound c.before).faultless start.values.now costs h) c.if-contexts-n.true)
 
 pub slice_bounds-number_leaves-end : goal.slice_bounds-number_leaves-end
 slice_bounds-number_leaves-end c = (room c).0
 
 pub slice_bounds-number_leaves-end-2 : goal.slice_bounds-number_leaves-end-2
-slice_bounds-number_leaves-end-2 c = sym (length-take-le _ _ (room c).0)
+slice_bounds-number_leaves-end-2 c = sym (length-take-le _ _ (room c.before).0)
 
 pub slice_bounds-number_leaves-end-3 : goal.slice_bounds-number_leaves-end-3
-slice_bounds-number_leaves-end-3 c = (room c).1
+slice_bounds-number_leaves-end-3 c = (room c.before).1
 
 pub slice_bounds-number_leaves-end-4 : goal.slice_bounds-number_leaves-end-4
-slice_bounds-number_leaves-end-4 c = sym (length-take-le _ _ (room c).1)
+slice_bounds-number_leaves-end-4 c = sym (length-take-le _ _ (room c.before.before).1)
 
 pub number_leaves-leaves-requires : goal.number_leaves-leaves-requires
 number_leaves-leaves-requires c = let start = c.args in
-    let r = room c in
+    let r = room c.before.before in
     let one = length-take-le start.count start.contexts.now r.0 in
-    record { sound = rw one (sound c); queue_there = length-take-le start.count start.queue.now r.1 ∙ sym one }
+    record { sound = rw one (sound c.before.before.before; queue_there = length-take-le start.count start.queue.now r.1 ∙ sym one }
 
 pub returns : goal.returns
 returns c costs = let start = c.args in
-    let h = held c in
+    let h = held c.before.before.before.before in
     let one = length-take-le start.count start.contexts.now (room c).0 in
-    sym (counted start.words.now start.values.now costs start.count _ h ((sound c).faultless start.values.now costs h) _ _ _ c.if-contexts-n.false
+    sym (counted start.words.now start.values.now costs start.count _ h ((sound c.before).faultless start.values.now costs h) _ _ _ c.if-contexts-n.false
     (rw one at (c.number_leaves-leaves.ensures start.values.now costs (rw one h))) (c.number_leaves-leaves.auto.contexts ∙ one)
     (c.clear_u32.ensures ∙ ap (λ (n : ℕ). replicate n 0) (length_front start.queue.now c.number_leaves-leaves.new.queue start.count c.number_leaves-leaves.auto.queue)))

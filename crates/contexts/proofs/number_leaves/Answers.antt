@@ -64,7 +64,7 @@ loop-k-preserved c = (
     )
 
 pub shape_of-contexts : goal.shape_of-contexts
-shape_of-contexts c = c.loop-k.invariant.1.there ∙ many c
+shape_of-contexts c = c.loop-k.invariant.1.there ∙ many c.before.before
 
 pub shape_of-queue : goal.shape_of-queue
 shape_of-queue c = c.breadth_order.auto.order

@@ -25,10 +25,7 @@ flat_bits-flat_bits-requires c = let asked = c.requires.seedable in
     flattened_from asked.fitting asked.counted c.clear_u32.ensures
 
 pub grow_from_seed-requires : goal.grow_from_seed-requires
-grow_from_seed-requires c = let given = c.args in (
-      subst (λ (l : List ℕ). Seedable given.s given.logs.now l (x c).rows (x c).nodes (x c).queue given.rows given.count) (sym (c.flat_bits-flat_bits.ensures.1 ∙ c.clear_u32.ensures)) c.requires.seedable,
-      c.flat_bits-flat_bits.ensures.0 given.res.now,
-    )
+grow_from_seed-requires c = let given = c.args in record { seedable = subst (λ (l : List ℕ). Seedable given.s given.logs.now l (x c).rows (x c).nodes (x c).queue given.rows given.count) (sym (c.flat_bits-flat_bits.ensures.zeros ∙ c.clear_u32.ensures)) c.requires.seedable; flat_bits_value = c.flat_bits-flat_bits.ensures.answer given.res.now }
 
 pub shape_of-props : goal.shape_of-props
 shape_of-props c = c.grow_from_seed.auto.props
@@ -63,11 +60,8 @@ shape_of-counts c = c.grow_from_seed.auto.counts ∙ c.flat_bits-flat_bits.auto.
 pub returns : goal.returns
 returns c = let given = c.args in
     let made = deepened_in given.s given.logs.now given.count (x c).rows (x c).nodes in
-    let f = c.grow_from_seed.ensures.0 in (
-      learned_as f,
-      made-lists (x c) made (flat c.grow_from_seed.new.props c.grow_from_seed.new.tok c.grow_from_seed.new.res)
+    let f = c.grow_from_seed.ensures.finished in record { finished = learned_as f; lists = made-lists (x c) made (flat c.grow_from_seed.new.props c.grow_from_seed.new.tok c.grow_from_seed.new.res)
           (node_lists c.grow_from_seed.new.words c.grow_from_seed.new.values c.grow_from_seed.new.costs)
           (queue_lists c.grow_from_seed.new.queue_words c.grow_from_seed.new.queue_values c.grow_from_seed.new.queue_gains) c.grow_from_seed.new.counts c.grow_from_seed.result
           c.requires.seedable.fitting.shaped f
-          c.grow_from_seed.ensures.1.1 (c.grow_from_seed.ensures.1.0 ∙ c.flat_bits-flat_bits.ensures.1 ∙ c.clear_u32.ensures),
-    )
+          c.grow_from_seed.ensures.queue (c.grow_from_seed.ensures.zeros ∙ c.flat_bits-flat_bits.ensures.zeros ∙ c.clear_u32.ensures) }

@@ -57,7 +57,7 @@ room c = room-there c.requires.node c.loop-k.invariant.space
 
 -- the flags came back as they were
 same-space : (c : Picking) → space c ≡ c.loop-k.counts
-same-space c = front-back 4096 c.loop-k.counts (flags c) c.pick_candidates-plan.ensures.1
+same-space c = front-back 4096 c.loop-k.counts (flags c) c.pick_candidates-plan.ensures.zeros
 
 -- what the plan says of the candidates
 told : (c : Picking) (plan : Plan) → c.pick_candidates-plan.result ≡ plan
@@ -66,7 +66,7 @@ told : (c : Picking) (plan : Plan) → c.pick_candidates-plan.result ≡ plan
 told c plan e =
     let a = c.args in
     subst (λ (p : Plan). Picked a.s.max_candidates (column a.props.now (prop c) a.first a.end) c.loop-k.cands p (cands c)) e
-    c.pick_candidates-plan.ensures.0
+    c.pick_candidates-plan.ensures.answer
 
 -- as many candidates as are asked for are lent
 lent : (c : Picking) (n : ℕ) → c.pick_candidates-plan.result ≡ Candidates n → (n ≤ length (cands c)) × (n ≡ length (take n (cands c)))
@@ -92,10 +92,10 @@ slice_bounds-is_repeated-end c = sym c.loop-k.invariant.marks
 
 pub is_repeated-requires : goal.is_repeated-requires
 is_repeated-requires c = let node = c.requires.node in
-    (node.tokens.order, node.props, below c, c.loop-k.invariant.marks)
+    (node.tokens.order, node.props, below c.before, c.loop-k.invariant.marks)
 
 pub overflow_step-k : goal.overflow_step-k
-overflow_step-k c = omega (arith, few c)
+overflow_step-k c = omega (arith, few c.before.before.before.before
 
 pub loop-k-smaller-then-is_repeated : goal.loop-k-smaller-then-is_repeated
 loop-k-smaller-then-is_repeated c = omega (arith, c.loop-k-test.true)
@@ -107,20 +107,20 @@ loop-k-preserved-then-is_repeated c = let a = c.args in
     c.property_at-prop.result c.property_at-prop.ensures (sym c.is_repeated.ensures ∙ c.if-is_repeated.true)
 
 pub slice_bounds-pick_candidates-end : goal.slice_bounds-pick_candidates-end
-slice_bounds-pick_candidates-end c = omega (arith, room c)
+slice_bounds-pick_candidates-end c = omega (arith, room c.before.before.before.before
 
 pub slice_bounds-pick_candidates-end-in-loop-k : goal.slice_bounds-pick_candidates-end-in-loop-k
-slice_bounds-pick_candidates-end-in-loop-k c = omega (arith, room c, length-take 4096 c.loop-k.counts)
+slice_bounds-pick_candidates-end-in-loop-k c = omega (arith, room c.before.before.before.before.before, length-take 4096 c.loop-k.counts)
 
 pub slice_bounds-pick_candidates-end-in-loop-k-2 : goal.slice_bounds-pick_candidates-end-in-loop-k-2
 slice_bounds-pick_candidates-end-in-loop-k-2 c = sym c.loop-k.invariant.room
 
 pub pick_candidates-plan-requires : goal.pick_candidates-plan-requires
 pick_candidates-plan-requires c = let held = c.loop-k.invariant in
-    pickable c.requires.node c.property_at-prop.result (below c) held.space held.room
+    pickable c.requires.node c.property_at-prop.result (below c.before.before.before.before.before held.space held.room
 
 pub overflow_step-k-in_default : goal.overflow_step-k-in_default
-overflow_step-k-in_default c = omega (arith, few c)
+overflow_step-k-in_default c = omega (arith, few c.before.before.before.before.before
 
 pub loop-k-smaller-in_default : goal.loop-k-smaller-in_default
 loop-k-smaller-in_default c = omega (arith, c.loop-k-test.true)
@@ -132,22 +132,22 @@ loop-k-preserved-in_default c = let a = c.args in
     (prop c) c.property_at-prop.ensures (same-space c) (told c Nothing c.enum_told-1.given.1)
 
 pub bounds-planned-prop : goal.bounds-planned-prop
-bounds-planned-prop c = below c
+bounds-planned-prop c = below c.before.before.before.before.before.before.before.before.before.before.before.before
 
 pub slice_bounds-cands-end : goal.slice_bounds-cands-end
-slice_bounds-cands-end c = let plan = c.plan-1.given in (lent c plan.0.0 plan.1).0
+slice_bounds-cands-end c = let plan = c.plan-1.given in (lent c.before.before.before.before.before.before plan.0.0 plan.1).0
 
 pub slice_bounds-score_property-end : goal.slice_bounds-score_property-end
-slice_bounds-score_property-end c = let plan = c.plan-1.given in (lent c plan.0.0 plan.1).1
+slice_bounds-score_property-end c = let plan = c.plan-1.given in (lent c.before.before.before.before.before.before.before plan.0.0 plan.1).1
 
 pub offset_bounds-counts-room : goal.offset_bounds-counts-room
 offset_bounds-counts-room c = record { fits = omega (arith, c.requires.node.settings.alphabet) }
 
 pub slice_bounds-score_property-count : goal.slice_bounds-score_property-count
-slice_bounds-score_property-count c = omega (arith, room c, ap length (same-space c))
+slice_bounds-score_property-count c = omega (arith, room c.before.before.before.before.before.before.before, ap length (same-space c.before.before.before.before.before.before.before)
 
 pub slice-bounds-score-property-start : goal.slice-bounds-score-property-start
-slice-bounds-score-property-start c = omega (arith, room c, ap length (same-space c))
+slice-bounds-score-property-start c = omega (arith, room c.before.before.before.before.before.before.before, ap length (same-space c.before.before.before.before.before.before.before)
 
 pub score_property-score-requires : goal.score_property-score-requires
 score_property-score-requires c = let ready = c.requires in
@@ -155,7 +155,7 @@ score_property-score-requires c = let ready = c.requires in
     let plan = c.plan-1.given in
     let p = told c (Candidates plan.0.0) plan.1 in
     let held = c.loop-k.invariant in (
-      scorable ready (prop c) p (below c) held.room,
+      scorable ready (prop c) p (below c.before.before.before.before.before.before held.room,
       (
         ready.windows,
         subst (Spare (length a.preds.now) a.s.alphabet (length (take plan.0.0 (cands c)))) (sym (part_to_end (space c) (base c)))
@@ -164,10 +164,10 @@ score_property-score-requires c = let ready = c.requires in
     )
 
 pub overflow_cast-prop : goal.overflow_cast-prop
-overflow_cast-prop c = record { fits = omega (arith, below c) }
+overflow_cast-prop c = record { fits = omega (arith, below c.before.before.before.before.before.before.before.before.before.before.before.before.before.before.before.before.before }
 
 pub overflow_step-k-in-loop-k : goal.overflow_step-k-in-loop-k
-overflow_step-k-in-loop-k c = omega (arith, few c)
+overflow_step-k-in-loop-k c = omega (arith, few c.before.before.before.before.before.before.before.before.before.before.before.before
 
 pub loop-k-smaller : goal.loop-k-smaller
 loop-k-smaller c = omega (arith, c.loop-k-test.true)
@@ -179,18 +179,15 @@ loop-k-preserved c = let a = c.args in
     turn-scored a.props.now a.tok.now a.first a.end a.preds.now a.logs.now a.s.alphabet a.s.max_candidates
     c.property_count-k-end.result a.counts.now c.requires.node.tokens.order (few c) c.loop-k.invariant c.loop-k-test.true
     (prop c) c.property_at-prop.ensures
-    (ap (put_mid (base c) width (space c)) c.score_property-score.ensures.1 ∙ put_same (base c) width (space c) ∙ same-space c)
+    (ap (put_mid (base c) width (space c)) c.score_property-score.ensures.zeros ∙ put_same (base c) width (space c) ∙ same-space c)
     (told c (Candidates plan.0.0) plan.1) (sym c.is_repeated.ensures ∙ c.if-is_repeated.false)
-    c.score_property-score.result c.score_property-score.ensures.0 c.better_of-best.result c.better_of-best.ensures
+    c.score_property-score.result c.score_property-score.ensures.answer c.better_of-best.result c.better_of-best.ensures
 
 pub shape_of-counts : goal.shape_of-counts
 shape_of-counts c = ap length c.loop-k.invariant.space
 
 pub returns : goal.returns
 returns c = let a = c.args in
-    let held = c.loop-k.invariant in (
-      (λ rows rs h.
+    let held = c.loop-k.invariant in record { answer = (λ rows rs h.
           turn_end a.props.now a.tok.now a.first a.end a.preds.now a.logs.now a.s.alphabet a.s.max_candidates
-          c.property_count-k-end.result a.counts.now held c.loop-k-test.false (settings_of a.s) rows rs refl refl c.property_count-k-end.ensures h),
-      held.space,
-    )
+          c.property_count-k-end.result a.counts.now held c.loop-k-test.false (settings_of a.s) rows rs refl refl c.property_count-k-end.ensures h); zeros = held.space }

@@ -7,28 +7,22 @@ use Rattle.evaluate.proofs.Nodes.{usable-node, evaluated_scored, evaluated_not}
 use Rattle.evaluate.proofs.evaluate_counts.Goals as goal
 
 pub predictor_costs-best-requires : goal.predictor_costs-best-requires
-predictor_costs-best-requires c = usable-node c.requires.0 c.requires.1 _ refl
+predictor_costs-best-requires c = usable-node c.requires.evaluable c.requires.counts_span _ refl
 
 pub returns-then-score_split-is_scored : goal.returns-then-score_split-is_scored
 returns-then-score_split-is_scored c = let a = c.args in
-    (
-      (λ rows rs h.
-          evaluated_scored c.requires.0 c.requires.1
-          c.predictor_costs-best.ensures.0 a.mode a.depth rows rs h
+    record { answer = (λ rows rs h.
+          evaluated_scored c.requires.evaluable c.requires.counts_span
+          c.predictor_costs-best.ensures.answer a.mode a.depth rows rs h
           a.score-split c.is_scored.ensures
           (c.info_of-info.ensures
           ∙ ap (info_with c.predictor_costs-best.result)
           (to_z-of_z w32 a.mode c.ranges.mode))
-          c.if-score_split-is_scored.true (c.offer_split-offer.ensures.0 rows rs h)),
-      c.offer_split-offer.ensures.1,
-    )
+          c.if-score_split-is_scored.true (c.offer_split-offer.ensures.answer rows rs h)); zeros = c.offer_split-offer.ensures.zeros }
 
 pub returns : goal.returns
-returns c = let a = c.args in (
-      (λ rows rs h.
-          evaluated_not c.requires.0 c.requires.1 c.predictor_costs-best.ensures.0 a.mode a.depth rows rs h
+returns c = let a = c.args in record { answer = (λ rows rs h.
+          evaluated_not c.requires.evaluable c.requires.counts_span c.predictor_costs-best.ensures.answer a.mode a.depth rows rs h
           a.score-split c.is_scored.ensures (c.info_of-info.ensures
           ∙ ap (info_with c.predictor_costs-best.result) (to_z-of_z w32 a.mode c.ranges.mode))
-          c.if-score_split-is_scored.false),
-      refl,
-    )
+          c.if-score_split-is_scored.false); zeros = refl }

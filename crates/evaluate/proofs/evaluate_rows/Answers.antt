@@ -12,7 +12,7 @@ pub slice_bounds-count_tokens-end : goal.slice_bounds-count_tokens-end
 slice_bounds-count_tokens-end c = cells-lent c.requires
 
 pub count_tokens-requires : goal.count_tokens-requires
-count_tokens-requires c = (c.requires.tokens, cells-zero c.requires)
+count_tokens-requires c = record { span_fits = c.requires.tokens; hist_value = cells-zero c.requires }
 
 pub slice_bounds-hist-end-2 : goal.slice_bounds-hist-end-2
 slice_bounds-hist-end-2 c = cells-there c.requires c.count_tokens.ensures _
@@ -22,15 +22,12 @@ slice_bounds-evaluate_counts-end c = cells-back c.requires
     c.count_tokens.ensures _
 
 pub evaluate_counts-requires : goal.evaluate_counts-requires
-evaluate_counts-requires c = (c.requires, cells-counted c.requires c.count_tokens.ensures _)
+evaluate_counts-requires c = record { evaluable = c.requires; counts_span = cells-counted c.requires c.count_tokens.ensures _ }
 
 pub returns : goal.returns
 returns c = let a = c.args in
-    (
-      (λ rows rs h.
+    record { answer = (λ rows rs h.
           subst
           (λ (mode : ℤ). Evaluated c.evaluate_counts.result a.score-split (settings_of a.s) a.logs.now mode a.depth
           (span_rows a.first a.end a.props.now a.tok.now rows rs))
-          (to_z-of_z w32 a.mode c.ranges.mode) (c.evaluate_counts.ensures.0 rows rs h)),
-      c.evaluate_counts.ensures.1,
-    )
+          (to_z-of_z w32 a.mode c.ranges.mode) (c.evaluate_counts.ensures.answer rows rs h)); zeros = c.evaluate_counts.ensures.zeros }

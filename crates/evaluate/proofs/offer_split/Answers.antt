@@ -14,52 +14,49 @@ use Rattle.evaluate.proofs.offer_split.Goals as goal
 lent : (c : goal.After-cheapest_predictors-sides) → c.cheapest_predictors-sides.result ≡ length
     (take c.cheapest_predictors-sides.result c.cheapest_predictors-sides.new.out)
 lent c =
-    lent_length c.requires.0 c.requires.1.0 c.args.costs.now c.cheapest_predictors-sides.result (replicate 14 0) c.cheapest_predictors-sides.new.out
-    c.requires.1.1 c.cheapest_predictors-sides.ensures.0
-    c.cheapest_predictors-sides.ensures.1
+    lent_length c.requires.evaluable c.requires.counts_span c.args.costs.now c.cheapest_predictors-sides.result (replicate 14 0) c.cheapest_predictors-sides.new.out
+    c.requires.costs_value c.cheapest_predictors-sides.ensures.answer
+    c.cheapest_predictors-sides.ensures.sorted
 
 pub cheapest_predictors-sides-requires : goal.cheapest_predictors-sides-requires
 cheapest_predictors-sides-requires c = (
-  ap length c.requires.1.1 ∙ costs-length c.args.hist.now (c.args.end - c.args.first) c.args.s.alphabet
+  ap length c.requires.costs_value ∙ costs-length c.args.hist.now (c.args.end - c.args.first) c.args.s.alphabet
       c.args.s.allow_wp c.args.s.allowed_preds c.args.logs.now,
   refl,
 )
 
 pub slice_bounds-set_windows-end : goal.slice_bounds-set_windows-end
-slice_bounds-set_windows-end c = lent c
+slice_bounds-set_windows-end c = lent c.before.before
 
 pub set_windows-requires : goal.set_windows-requires
-set_windows-requires c = windowable c.requires.0 c.requires.1.0 c.args.costs.now c.cheapest_predictors-sides.result (replicate 14 0) c.cheapest_predictors-sides.new.out
-    c.requires.1.1 c.cheapest_predictors-sides.ensures.0 c.cheapest_predictors-sides.ensures.1
+set_windows-requires c = windowable c.requires.evaluable c.requires.counts_span c.args.costs.now c.cheapest_predictors-sides.result (replicate 14 0) c.cheapest_predictors-sides.new.out
+    c.requires.costs_value c.cheapest_predictors-sides.ensures.answer c.cheapest_predictors-sides.ensures.sorted
     (omega arith) (omega arith)
 
 pub slice_bounds-preds-end-2 : goal.slice_bounds-preds-end-2
 slice_bounds-preds-end-2 c = omega (
   arith,
-  lent c,
+  lent c.before.before.before.before.before.before.before,
   length-take c.cheapest_predictors-sides.result
       c.cheapest_predictors-sides.new.out,
 )
 
 pub slice_bounds-best_split-end : goal.slice_bounds-best_split-end
-slice_bounds-best_split-end c = lent c
+slice_bounds-best_split-end c = lent c.before.before.before.before.before.before.before.before
 
 pub best_split-best-requires : goal.best_split-best-requires
-best_split-best-requires c = splittable c.requires.0 c.requires.1.0 c.args.costs.now c.cheapest_predictors-sides.result (replicate 14 0) c.cheapest_predictors-sides.new.out
-    c.requires.1.1 c.cheapest_predictors-sides.ensures.0 c.cheapest_predictors-sides.ensures.1
+best_split-best-requires c = splittable c.requires.evaluable c.requires.counts_span c.args.costs.now c.cheapest_predictors-sides.result (replicate 14 0) c.cheapest_predictors-sides.new.out
+    c.requires.costs_value c.cheapest_predictors-sides.ensures.answer c.cheapest_predictors-sides.ensures.sorted
     c.set_windows.ensures
 
 pub returns : goal.returns
 unfolding best_split
 returns c = let a = c.args in
-    (
-      (λ rows rs h.
+    record { answer = (λ rows rs h.
           c.offer_of.ensures
           ∙ ap (offer_of (settings_of a.s) a.cost)
-          (c.best_split-best.ensures.0 rows rs h
+          (c.best_split-best.ensures.answer rows rs h
           ∙ ap (λ (ps : List ℕ). best_from (settings_of a.s) a.logs.now ps (span_rows a.first a.end a.props.now a.tok.now rows rs) nowhere
           (property_order a.s.allow_wp))
-          (preds_are c.requires.0 c.requires.1.0 a.costs.now c.cheapest_predictors-sides.result (replicate 14 0) c.cheapest_predictors-sides.new.out c.requires.1.1
-          c.cheapest_predictors-sides.ensures.0 c.cheapest_predictors-sides.ensures.1 rows rs h))),
-      c.best_split-best.ensures.1,
-    )
+          (preds_are c.requires.evaluable c.requires.counts_span a.costs.now c.cheapest_predictors-sides.result (replicate 14 0) c.cheapest_predictors-sides.new.out c.requires.costs_value
+          c.cheapest_predictors-sides.ensures.answer c.cheapest_predictors-sides.ensures.sorted rows rs h))); zeros = c.best_split-best.ensures.zeros }

@@ -48,16 +48,13 @@ pub shape_of-counts : goal.shape_of-counts
 shape_of-counts c = c.settle_if.auto.counts
 
 pub returns : goal.returns
-returns c = let given = c.args in (
-      λ props logs lent st seeds rows g.
+returns c = let given = c.args in record { finished = λ props logs lent st seeds rows g.
           let cut = c.prune_if-kept.ensures st.tree lent (grew-holds g) in
           finished-lists g cut given.flat-bits
           (subst
           (λ (u : Bool). Changed (λ (l : List Row). cond given.s.settle (modes u (cut_tree given.s.prune_leaf_bits st.tree) l) l) (flat props given.tok.now given.res.now)
           (flat props c.settle_if.new.tok given.res.now))
           (flag c)
-          (c.settle_if.ensures.0 (cut_tree given.s.prune_leaf_bits st.tree) (behind g cut) props
+          (c.settle_if.ensures.rows (cut_tree given.s.prune_leaf_bits st.tree) (behind g cut) props
           (subst (λ (u : Bool). HoldsLeaves (m c).words c.prune_if-kept.result.nodes u (flat props given.tok.now given.res.now) (cut_tree given.s.prune_leaf_bits st.tree) (behind g cut)) (sym (flag c)) (cut-leaves g cut))))
-          refl refl refl refl,
-      c.settle_if.ensures.1,
-    )
+          refl refl refl refl; zeros = c.settle_if.ensures.zeros }

@@ -15,7 +15,7 @@ finish_tree-made-requires c = let asked = c.requires in
       state = grown_state asked.grows;
       seeds = asked.seeds;
       given = asked.given;
-      grew = grew_so asked.grows (c.grow_tree-grown.ensures.0 asked.lent asked.state asked.seeds asked.given asked.grows) c.grow_tree-grown.new.counts c.grow_tree-grown.ensures.1.0;
+      grew = grew_so asked.grows (c.grow_tree-grown.ensures.grown asked.lent asked.state asked.seeds asked.given asked.grows) c.grow_tree-grown.new.counts c.grow_tree-grown.ensures.zeros;
     }
 
 pub shape_of-props : goal.shape_of-props
@@ -49,10 +49,7 @@ pub shape_of-counts : goal.shape_of-counts
 shape_of-counts c = c.finish_tree-made.auto.counts ∙ c.grow_tree-grown.auto.counts
 
 pub returns : goal.returns
-returns c = (
-      λ lent st seeds given g.
-          let to = c.grow_tree-grown.ensures.0 lent st seeds given g in
-          finished_so g to c.grow_tree-grown.new.counts c.grow_tree-grown.ensures.1.0 c.args.flat-bits
-          (c.finish_tree-made.ensures.0 c.grow_tree-grown.new.props c.args.logs.now lent (grown_state g) seeds given (grew_so g to c.grow_tree-grown.new.counts c.grow_tree-grown.ensures.1.0)),
-      (c.finish_tree-made.ensures.1 ∙ c.grow_tree-grown.ensures.1.0, c.clear_queue.ensures ∙ clear-same c.grow_tree-grown.ensures.1.1),
-    )
+returns c = record { finished = λ lent st seeds given g.
+          let to = c.grow_tree-grown.ensures.grown lent st seeds given g in
+          finished_so g to c.grow_tree-grown.new.counts c.grow_tree-grown.ensures.zeros c.args.flat_bits
+          (c.finish_tree-made.ensures.finished c.grow_tree-grown.new.props c.args.logs.now lent (grown_state g) seeds given (grew_so g to c.grow_tree-grown.new.counts c.grow_tree-grown.ensures.zeros)); zeros = c.finish_tree-made.ensures.zeros ∙ c.grow_tree-grown.ensures.zeros; queue = c.clear_queue.ensures ∙ clear-same c.grow_tree-grown.ensures.lengths }

@@ -23,7 +23,7 @@ unfolding group_bits
 own c =
     let a = c.args in
     let size = get_or a.sizes.now a.group 0 in
-    ap (λ (b : Cheapest). b.bits) c.predictor_costs-best.ensures.0
+    ap (λ (b : Cheapest). b.bits) c.predictor_costs-best.ensures.answer
     ∙ ap (λ (h : List ℕ). (cheapest_of (cost_at h size a.alphabet a.logs.now) (usable_predictors a.weighted a.allowed)).bits)
     (part-is a.hist.now (14 * a.alphabet) a.group)
 
@@ -32,30 +32,30 @@ unfolding with_group_bits
 returns-then-size-eq0 c = rw (eq-eqb _ _ c.if-size-eq0.true)
 
 pub overflow_mul-first : goal.overflow_mul-first
-overflow_mul-first c = omega (arith, part_end c.args.group 4 (14 * c.args.alphabet) c.requires.1, c.requires.0.tokens)
+overflow_mul-first c = omega (arith, part_end c.args.group 4 (14 * c.args.alphabet) c.requires.group_bound, c.requires.groups_counted.tokens)
 
 pub overflow_add-first : goal.overflow_add-first
-overflow_add-first c = omega (arith, part_end c.args.group 4 (14 * c.args.alphabet) c.requires.1, c.requires.0.tokens)
+overflow_add-first c = omega (arith, part_end c.args.group 4 (14 * c.args.alphabet) c.requires.group_bound, c.requires.groups_counted.tokens)
 
 pub offset_bounds-hist-first : goal.offset_bounds-hist-first
-offset_bounds-hist-first c = omega (arith, part_end c.args.group 4 (14 * c.args.alphabet) c.requires.1, c.requires.0.tokens)
+offset_bounds-hist-first c = omega (arith, part_end c.args.group 4 (14 * c.args.alphabet) c.requires.group_bound, c.requires.groups_counted.tokens)
 
 pub slice-bounds-predictor-costs-end : goal.slice-bounds-predictor-costs-end
-slice-bounds-predictor-costs-end c = omega (arith, part_end c.args.group 4 (14 * c.args.alphabet) c.requires.1, c.requires.0.room)
+slice-bounds-predictor-costs-end c = omega (arith, part_end c.args.group 4 (14 * c.args.alphabet) c.requires.group_bound, c.requires.groups_counted.room)
 
 pub predictor_costs-best-requires : goal.predictor_costs-best-requires
 predictor_costs-best-requires c = let a = c.args in
     let size = get_or a.sizes.now a.group 0 in
-    let node = c.requires.0.node a.group c.requires.1 in
+    let node = c.requires.groups_counted.node a.group c.requires.group_bound in
     record {
       counted = subst (λ (h : List ℕ). NodeCounted h size a.alphabet a.logs.now) (sym (part-is a.hist.now (14 * a.alphabet) a.group)) node;
-      some = c.requires.0.some;
+      some = c.requires.groups_counted.some;
       long = refl;
     }
 
 pub float_to_float-result : goal.float_to_float-result
-float_to_float-result c = subst (λ (x : Float). T (fits binary64 x && not (is_nan x))) (sym (own c)) (group_widens _ _ _ _ _ _ c.requires.0 _ c.requires.1)
+float_to_float-result c = subst (λ (x : Float). T (fits binary64 x && not (is_nan x))) (sym (own c.before.before) (group_widens _ _ _ _ _ _ c.requires.groups_counted _ c.requires.group_bound)
 
 pub returns : goal.returns
 unfolding with_group_bits
-returns c = rw (ne_eqb _ _ c.if-size-eq0.false, own c)
+returns c = rw (ne_eqb _ _ c.if-size-eq0.false, own c.before.before

@@ -4,8 +4,6 @@ use Prim.Native.Nat.{ℕ, ◌-◌, ◌*◌}
 use native.Mathlib.Omega.{arith}
 use lib.IntN.{pos}
 use lib.ListN.{get_or}
-use mir.Syntax.{w32}
-use mir.ValLaws.{to_z-of_z}
 use Rattle.model.specs.Flat.{clamped}
 use Rattle.cost.specs.Histograms.{RowFits}
 use Rattle.flat.specs.Flat.{CountsGroups}
@@ -16,29 +14,29 @@ use Rattle.flat.proofs.count_groups.Goals as goal
 own : (c : goal.After-group_of-group) → let props = c.args.props.now in c.Group-of.result ≡ clamped (get_or props (c.loop-row.row * 24) (pos 0))
 own c =
     let props = c.args.props.now in
-    rw (to_z-of_z w32 (get_or props (c.loop-row.row * 24) (pos 0)) (record { sfits = c.group_of-arg-1.given })) at c.Group-of.ensures
+    c.Group-of.ensures
 
 -- it has room there
 fits : (c : goal.After-slice_known-in-loop-row-1)
     → let a = c.args in RowFits a.tok.now c.loop-row.row (c.Group-of.result * (14 * a.alphabet)) a.alphabet c.loop-row.hist
 fits c =
     let c.loop-row = c.loop-row in
-    row_fits _ _ _ _ c.requires.0 c.loop-row.row c.loop-row-test.true c.loop-row.hist c.loop-row.sizes c.loop-row.invariant.1 c.Group-of.result (own c)
+    row_fits _ _ _ _ c.requires.rows_fit c.loop-row.row c.loop-row-test.true c.loop-row.hist c.loop-row.sizes c.loop-row.invariant.1 c.Group-of.result (own c)
 
 pub loop-row-init : goal.loop-row-init
-loop-row-init c = (omega arith, groups_start _ _ _ _ c.requires.0 _ _ c.requires.1, omega arith, omega arith)
+loop-row-init c = (omega arith, groups_start _ _ _ _ c.requires.rows_fit _ _ c.requires.groups_empty, omega arith, omega arith)
 
 pub overflow_mul-row : goal.overflow_mul-row
-overflow_mul-row c = omega (arith, c.requires.0.few)
+overflow_mul-row c = omega (arith, c.requires.rows_fit.few)
 
 pub offset_bounds-props-row : goal.offset_bounds-props-row
-offset_bounds-props-row c = omega (arith, c.requires.0.few)
+offset_bounds-props-row c = omega (arith, c.requires.rows_fit.few)
 
 pub bounds-props-row : goal.bounds-props-row
-bounds-props-row c = omega (arith, c.requires.0.props)
+bounds-props-row c = omega (arith, c.requires.rows_fit.props)
 
 pub bump-requires : goal.bump-requires
-bump-requires c = sizes_fit _ _ _ _ c.requires.0 c.loop-row.row c.loop-row-test.true c.loop-row.hist c.loop-row.sizes c.loop-row.invariant.1 c.Group-of.result (own c)
+bump-requires c = sizes_fit _ _ _ _ c.requires.rows_fit c.loop-row.row c.loop-row-test.true c.loop-row.hist c.loop-row.sizes c.loop-row.invariant.1 c.Group-of.result (own c)
 
 pub overflow_mul-alphabet : goal.overflow_mul-alphabet
 overflow_mul-alphabet c = omega (arith, (fits c).room, c.loop-row.invariant.2)
@@ -47,11 +45,11 @@ pub overflow_mul-group : goal.overflow_mul-group
 overflow_mul-group c = omega (arith, (fits c).room, c.loop-row.invariant.2)
 
 pub count_row-requires : goal.count_row-requires
-count_row-requires c = fits c
+count_row-requires c = fits c.before
 
 pub loop-row-preserved : goal.loop-row-preserved
 loop-row-preserved c = let taken = c.loop-row-test.true in
-    let turn = groups_turn _ _ _ _ c.requires.0 c.loop-row.row taken c.loop-row.hist c.loop-row.sizes c.loop-row.invariant.1 c.Group-of.result (own c) in
+    let turn = groups_turn _ _ _ _ c.requires.rows_fit c.loop-row.row taken c.loop-row.hist c.loop-row.sizes c.loop-row.invariant.1 c.Group-of.result (own c) in
     (omega arith, turn _ _ c.bump.ensures c.count_row.ensures, c.count_row.auto.hist ∙ c.loop-row.invariant.2, c.bump.auto.cells ∙ c.loop-row.invariant.3)
 
 pub shape_of-hist : goal.shape_of-hist

@@ -12,4 +12,4 @@ pub returns : goal.returns
 returns c = let total = c.groups_cost-total.ensures in
     let room = 56 * c.args.alphabet in
     let long : length c.args.hist.now ≡ room = ap length c.requires.empty ∙ length-replicate {A = ℕ} room 0 in
-    ((λ t rs u. total ∙ flat-is _ _ _ _ _ _ _ _ _ _ c.requires c.count_groups.ensures t rs u), c.clear_u32.ensures ∙ ap (λ (n : ℕ). replicate n 0) (c.count_groups.auto.hist ∙ long))
+    record { answer = (λ t rs u. total ∙ flat-is _ _ _ _ _ _ _ _ _ _ c.requires c.count_groups.ensures t rs u); zeros = c.clear_u32.ensures ∙ ap (λ (n : ℕ). replicate n 0) (c.count_groups.auto.hist ∙ long) }

@@ -12,7 +12,7 @@ unfolding of_bits groups_bits
 loop-group-init c = (omega arith, refl)
 
 pub add_group-total-requires : goal.add_group-total-requires
-add_group-total-requires c = (c.requires, c.loop-group-test.true)
+add_group-total-requires c = record { groups_counted = c.requires; group_bound = c.loop-group-test.true }
 
 pub loop-group-preserved : goal.loop-group-preserved
 unfolding groups_bits

@@ -15,7 +15,7 @@ use Rattle.from_root.proofs.grow_from_root.Goals as goal
 module _ (c : goal.After-plant_root-root) where
 
 pub overflow_cast-more : goal.overflow_cast-more
-overflow_cast-more c = record { fits = omega (arith, c.requires.0.fitting.settings.limit) }
+overflow_cast-more c = record { fits = omega (arith, c.requires.plantable.fitting.settings.limit) }
 
 pub grow_and_finish-requires : goal.grow_and_finish-requires
 grow_and_finish-requires c = let given = c.args in
@@ -25,7 +25,7 @@ grow_and_finish-requires c = let given = c.args in
       state = root_state (job_in given.s given.logs.now x) (held_in x);
       seeds = no_seeds;
       given = held_in x;
-      grows = c.plant_root-root.ensures.0;
+      grows = c.plant_root-root.ensures.planted;
     }
 
 pub shape_of-props : goal.shape_of-props
@@ -63,8 +63,5 @@ unfolding learned
 returns c = let given = c.args in
     let x = flat given.props.now given.tok.now given.res.now in
     let n = node_lists given.words.now given.values.now given.costs.now in
-    let j = job_in given.s given.logs.now x in (
-      flat-is j (steps j (given.s.max_leaves - 1) (root_state j (held_in x))) c.requires.1
-          (finished_from (record { props = refl; toks = c.plant_root-root.auto.tok; res = refl }) (c.grow_and_finish.ensures.0 n (root_state j (held_in x)) no_seeds (held_in x) c.plant_root-root.ensures.0)),
-      (c.grow_and_finish.ensures.1.0 ∙ c.plant_root-root.ensures.1, c.grow_and_finish.ensures.1.1 ∙ clear-same (record { words = c.plant_root-root.auto.queue_words; values = c.plant_root-root.auto.queue_values; gains = c.plant_root-root.auto.queue_gains })),
-    )
+    let j = job_in given.s given.logs.now x in record { finished = flat-is j (steps j (given.s.max_leaves - 1) (root_state j (held_in x))) c.requires.flat_bits_value
+          (finished_from (record { props = refl; toks = c.plant_root-root.auto.tok; res = refl }) (c.grow_and_finish.ensures.finished n (root_state j (held_in x)) no_seeds (held_in x) c.plant_root-root.ensures.planted)); zeros = c.grow_and_finish.ensures.zeros ∙ c.plant_root-root.ensures.zeros; queue = c.grow_and_finish.ensures.queue ∙ clear-same (record { words = c.plant_root-root.auto.queue_words; values = c.plant_root-root.auto.queue_values; gains = c.plant_root-root.auto.queue_gains }) }

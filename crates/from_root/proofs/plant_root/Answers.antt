@@ -22,7 +22,7 @@ make_leaf-root-requires c = root-fits c.requires
 pub put_leaf-requires : goal.put_leaf-requires
 put_leaf-requires c = let p = c.requires in
     let limit = p.fitting.settings.limit in
-    (room-fewer p.room (omega arith), omega (arith, p.counted, p.fitting.few))
+    record { has_room = room-fewer p.room (omega arith); i_lt_max_nodes = omega (arith, p.counted, p.fitting.few) }
 
 pub enqueue-waiting-requires : goal.enqueue-waiting-requires
 enqueue-waiting-requires c = let p = c.requires in
@@ -30,7 +30,7 @@ enqueue-waiting-requires c = let p = c.requires in
     (omega arith, λ o e. fewer-room p.queue_room (omega arith))
 
 pub as_total-requires : goal.as_total-requires
-as_total-requires c = root-number c.requires c.make_leaf-root.ensures.0
+as_total-requires c = root-number c.requires c.make_leaf-root.ensures.answer
 
 pub shape_of-tok : goal.shape_of-tok
 shape_of-tok c = c.make_leaf-root.auto.tok
@@ -63,12 +63,9 @@ returns c = let given = c.args in
     let n : NodeLists = node_lists given.words.now given.values.now given.costs.now in
     let q : QueueLists = queue_lists given.queue-words.now given.queue-values.now given.queue-gains.now in
     let q' : QueueLists = queue_lists c.enqueue-waiting.new.words c.enqueue-waiting.new.values c.enqueue-waiting.new.gains in
-    let counts : List ℕ = c.make_leaf-root.new.counts in (
-      subst
+    let counts : List ℕ = c.make_leaf-root.new.counts in record { planted = subst
           (λ (m : NodeLists). Grows given.s given.logs.now counts y m q' (record { nodes = 1; waiting = c.enqueue-waiting.result; bits = c.as_total.result }) (given.s.max_leaves - 1) n
           (root_state (job_in given.s given.logs.now x) (held_in x)) no_seeds (held_in x))
           (sym c.put_leaf.ensures)
-          (planted c.requires c.make_leaf-root.ensures.0 q' c.enqueue-waiting.result c.as_total.result c.enqueue-waiting.ensures.1.1 (c.enqueue-waiting.ensures.0 [] (none-queued q))
-          c.enqueue-waiting.ensures.1.0 c.as_total.ensures counts c.make_leaf-root.ensures.1),
-      c.make_leaf-root.ensures.1,
-    )
+          (planted c.requires c.make_leaf-root.ensures.answer q' c.enqueue-waiting.result c.as_total.result c.enqueue-waiting.ensures.answer.1 (c.enqueue-waiting.ensures.queue [] (none-queued q))
+          c.enqueue-waiting.ensures.answer.0 c.as_total.ensures counts c.make_leaf-root.ensures.zeros); zeros = c.make_leaf-root.ensures.zeros }

@@ -16,13 +16,13 @@ abbrev seeded : goal.After-slice_known-18-1 → goal.After-plant_seed-planted
 seeded c = c
 
 pub overflow_cast-s : goal.overflow_cast-s
-overflow_cast-s c = record { fits = omega (arith, c.requires.0.fitting.settings.limit) }
+overflow_cast-s c = record { fits = omega (arith, c.requires.seedable.fitting.settings.limit) }
 
 pub leaves_left-more-requires : goal.leaves_left-more-requires
-leaves_left-more-requires c = seed-few c.plant_seed-planted.ensures.0
+leaves_left-more-requires c = seed-few c.plant_seed-planted.ensures.planted
 
 pub grow_and_finish-requires : goal.grow_and_finish-requires
-grow_and_finish-requires c = seed-growable c.plant_seed-planted.ensures.0 c.leaves_left-more.ensures
+grow_and_finish-requires c = seed-growable c.plant_seed-planted.ensures.planted c.leaves_left-more.ensures
 
 pub shape_of-props : goal.shape_of-props
 shape_of-props c = c.grow_and_finish.auto.props ∙ (seeded c).plant-seed.auto.0
@@ -63,8 +63,5 @@ returns c = let planted = seeded c in
     let n = node_lists given.words.now given.values.now given.costs.now in
     let j = job_in given.s given.logs.now x in
     let seed = seed_in given.count n in
-    let sown = seeding.ensures.0 in (
-      seed-finished sown left planted.pre.1
-          (c.grow_and_finish.ensures.0 n (seed_state j seed (held_in x)) (splits_of seed) (held_in x) (seed-grows sown left)),
-      (c.grow_and_finish.ensures.1.0 ∙ seeding.ensures.1, c.grow_and_finish.ensures.1.1 ∙ clear-same sown.queue),
-    )
+    let sown = seeding.ensures.0 in record { finished = seed-finished sown left planted.pre.1
+          (c.grow_and_finish.ensures.finished n (seed_state j seed (held_in x)) (splits_of seed) (held_in x) (seed-grows sown left)); zeros = c.grow_and_finish.ensures.zeros ∙ seeding.ensures.1; queue = c.grow_and_finish.ensures.queue ∙ clear-same sown.queue }

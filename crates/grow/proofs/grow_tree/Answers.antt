@@ -33,7 +33,7 @@ loop-left-preserved c = turn c.requires c.loop-left.invariant c.loop-left-test.t
     {x' = flat c.split_leaf-tree.new.props c.split_leaf-tree.new.tok c.split_leaf-tree.new.res}
     {lists' = node_lists c.split_leaf-tree.new.words c.split_leaf-tree.new.values c.split_leaf-tree.new.costs}
     {q' = queue_lists c.split_leaf-tree.new.queue_words c.split_leaf-tree.new.queue_values c.split_leaf-tree.new.queue_gains}
-    {tree' = c.split_leaf-tree.result} c.split_leaf-tree.ensures.0 c.split_leaf-tree.ensures.1
+    {tree' = c.split_leaf-tree.result} c.split_leaf-tree.ensures.grown c.split_leaf-tree.ensures.zeros
     (record { props = c.split_leaf-tree.auto.props; toks = c.split_leaf-tree.auto.tok; res = c.split_leaf-tree.auto.res })
     (record { words = c.split_leaf-tree.auto.words; values = c.split_leaf-tree.auto.values; costs = c.split_leaf-tree.auto.costs })
     (record { words = c.split_leaf-tree.auto.queue_words; values = c.split_leaf-tree.auto.queue_values; gains = c.split_leaf-tree.auto.queue_gains })
@@ -69,4 +69,4 @@ pub shape_of-counts : goal.shape_of-counts
 shape_of-counts c = ap length c.loop-left.invariant.space
 
 pub returns : goal.returns
-returns c = (grown c.requires c.loop-left.invariant c.loop-left-test.false, (c.loop-left.invariant.space, c.loop-left.invariant.queue))
+returns c = record { grown = grown c.requires c.loop-left.invariant c.loop-left-test.false; zeros = c.loop-left.invariant.space; lengths = c.loop-left.invariant.queue }

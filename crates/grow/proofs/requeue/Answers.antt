@@ -12,9 +12,9 @@ pub enqueue-requires : goal.enqueue-requires
 enqueue-requires c = let given = c.args in
     let few = few-waits given.count given.depth (offer_is given.gt) in
     let k = c.requires.0 in
-    let many = c.enqueue-one.ensures.1.0 in
+    let many = c.enqueue-one.ensures.answer.0 in
     let fewer : c.enqueue-one.result + 1 ≤ given.waiting + 1 = omega arith in
-    let room = same-room c.enqueue-one.ensures.1.1 (same-room c.unqueue.ensures.1 c.requires.2) in
+    let room = same-room c.enqueue-one.ensures.answer.1 (same-room c.unqueue.ensures.lengths c.requires.2) in
     (omega (arith, c.requires.1), λ o e. fewer-room room fewer)
 
 pub shape_of-words : goal.shape_of-words
@@ -31,13 +31,10 @@ returns c = let given = c.args in
     let few-gt = few-waits given.count given.depth (offer_is given.gt) in
     let few-le = few-waits (given.count + 1) given.depth (offer_is given.le) in
     let k = c.requires.0 in
-    let many-gt = c.enqueue-one.ensures.1.0 in
-    let many-le = c.enqueue.ensures.1.0 in
+    let many-gt = c.enqueue-one.ensures.answer.0 in
+    let many-le = c.enqueue.ensures.answer.0 in
     let few : c.enqueue.result ≤ given.waiting + 1 = omega arith in
-    let rest = c.unqueue.ensures.0 in
-    let then = c.enqueue-one.ensures.0 in (
-      λ leaves h.
+    let rest = c.unqueue.ensures.queue in
+    let then = c.enqueue-one.ensures.queue in record { queue = λ leaves h.
           let left = without given.k leaves in
-          c.enqueue.ensures.0 (left ++ waits given.count given.depth (offer_is given.gt)) (then left (rest leaves h)),
-      (few, same_queue (same_queue c.unqueue.ensures.1 c.enqueue-one.ensures.1.1) c.enqueue.ensures.1.1),
-    )
+          c.enqueue.ensures.queue (left ++ waits given.count given.depth (offer_is given.gt)) (then left (rest leaves h)); lengths = (few, same_queue (same_queue c.unqueue.ensures.lengths c.enqueue-one.ensures.answer.1) c.enqueue.ensures.answer.1) }

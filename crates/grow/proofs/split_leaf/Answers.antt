@@ -5,7 +5,7 @@ use native.Mathlib.Omega.{arith}
 use lib.IntN.{ℤ}
 use lib.Dec.{ltb}
 use mir.Syntax.{w32}
-use mir.Val.{to_z, of_z}
+use mir.Val.{of_z}
 use mir.ValLaws.{to_z-of_z}
 use Rattle.layout.specs.declared.Tree.{Tree}
 use Rattle.layout.specs.Tree.{NodeLists, node_lists}
@@ -44,14 +44,14 @@ module _ (c : goal.After-split_rows-sides) where
   b = c.span_at_lem.result
   abbrev y : Flat
   y = flat c.split_rows-sides.new.props c.split_rows-sides.new.tok c.split_rows-sides.new.res
-  same-val : to_z w32 (of_z w32 p.val) ≡ p.val
+  same-val : (of_z w32 p.val) ≡ p.val
   same-val = to_z-of_z w32 p.val (record { sfits = c.struct_told-1.given.1.1.0.1 })
   abbrev Cut : ℤ → Type 0
   Cut val =
       RowsSplit (ltb 1 begun.args.left) begun.args.s begun.args.logs.now begun.args.counts.now (p.depth + 1) p.prop val
       (span b.first b.end) (x begun) y c.split_rows-sides.result
   cut : Cut p.val
-  cut = subst Cut same-val c.split_rows-sides.ensures.0
+  cut = subst Cut same-val c.split_rows-sides.ensures.split
   -- the node lists after the split
   abbrev Stored : ℤ → NodeLists
   Stored val =
@@ -105,13 +105,13 @@ split_nodes-requires c = let start = in
     c.span_at_lem.result.first c.span_at_lem.result.end c.span_at_lem.ensures.0 c.span_at_lem.ensures.1 (cut c)
 
 pub requeue-waiting-requires : goal.requeue-waiting-requires
-requeue-waiting-requires c = let start = begun c in
+requeue-waiting-requires c = let start = begun c.before.before.before.before.before.before.before.before in
     let inside = choosing.inside (grows start) start.args.k start.pre.one_more start.pre.some_wait start.pre.best in
     let few = choosing.few-nodes (grows start) start.args.k start.pre.one_more start.pre.some_wait start.pre.best in
     (inside, few, choosing.queue_room (grows start) start.args.k start.pre.one_more start.pre.some_wait start.pre.best)
 
 pub overflow_add-result : goal.overflow_add-result
-overflow_add-result c = let start = begun c in
+overflow_add-result c = let start = begun c.before.before.before.before.before.before in
     let few = choosing.few-nodes (grows start) start.args.k start.pre.one_more start.pre.some_wait start.pre.best in
     record { fits = omega (arith, few) }
 
@@ -161,12 +161,9 @@ returns c = let nodes = (after-split-nodes c).split-nodes in
     let lists' = node_lists last.0 last.1.0 last.1.1.0 in
     let q' = queue_lists c.requeue-waiting.new.words c.requeue-waiting.new.values c.requeue-waiting.new.gains in
     let tree' : Tree = record { nodes = start.args.tree.nodes + 2; waiting = c.requeue-waiting.result; bits = c.grown_bits.result } in
-    let stored : lists' ≡ Stored rowed (p rowed).val = nodes.ensures ∙ ap (Stored rowed) (same-val rowed) in (
-      λ lent st seeds rows g.
+    let stored : lists' ≡ Stored rowed (p rowed).val = nodes.ensures ∙ ap (Stored rowed) (same-val rowed) in record { grown = λ lent st seeds rows g.
           coding.grows-on g start.args.k start.pre.one_more start.pre.some_wait start.pre.best
           (p rowed) rowed.pending-at.ensures
           (b rowed).first (b rowed).end bounded.ensures.0 bounded.ensures.1
           {y = y rowed} (cut rowed) {lists' = lists'} {q' = q'} {tree' = tree'} refl stored
-          c.requeue-waiting.ensures.0 c.requeue-waiting.ensures.1.0 c.requeue-waiting.ensures.1.1 c.grown_bits.ensures,
-      rowed.split_rows.ensures.1,
-    )
+          c.requeue-waiting.ensures.queue c.requeue-waiting.ensures.lengths.0 c.requeue-waiting.ensures.lengths.1 c.grown_bits.ensures; zeros = rowed.split_rows.ensures.1 }

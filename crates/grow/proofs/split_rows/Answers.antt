@@ -4,7 +4,7 @@ use mathlib.Core.List.{List}
 use Prim.Native.Nat.{ℕ}
 use lib.IntN.{ℤ}
 use mir.Syntax.{w32}
-use mir.Val.{to_z, of_z}
+use mir.Val.{of_z}
 use mir.ValLaws.{to_z-of_z}
 use Rattle.rows.specs.Cells.{span}
 use Rattle.rows.specs.Flat.{Flat, flat}
@@ -26,7 +26,7 @@ module _ (c : goal.After-partition-at) where
   Parts val = Partitioned c.args.prop val (span c.args.first c.args.end) x y c.partition-at.result
   parted : Parts c.args.val
   parted =
-      let same : to_z w32 (of_z w32 c.args.val) ≡ c.args.val = to_z-of_z w32 c.args.val c.ranges.val in
+      let same : (of_z w32 c.args.val) ≡ c.args.val = to_z-of_z w32 c.args.val c.ranges.val in
       subst Parts same c.partition-at.ensures
 
 pub make_leaf-gt-requires : goal.make_leaf-gt-requires
@@ -35,8 +35,8 @@ make_leaf-gt-requires c = gt-fits c.requires (parted c)
 pub make_leaf-le-requires : goal.make_leaf-le-requires
 make_leaf-le-requires c = let given = c.args in
     subst (λ (l : List ℕ). LeafFits (mid c c.make_leaf-gt.new.tok) c.partition-at.result given.end given.s given.logs.now l)
-    (sym c.make_leaf-gt.ensures.1)
-    (le-fits {y = y c} c.requires (parted c) {mid = mid c c.make_leaf-gt.new.tok} c.make_leaf-gt.ensures.0)
+    (sym c.make_leaf-gt.ensures.zeros)
+    (le-fits {y = y c} c.requires (parted c) {mid = mid c c.make_leaf-gt.new.tok} c.make_leaf-gt.ensures.answer)
 
 pub shape_of-props : goal.shape_of-props
 shape_of-props c = c.partition-at.auto.props
@@ -51,8 +51,5 @@ pub shape_of-counts : goal.shape_of-counts
 shape_of-counts c = c.make_leaf-le.auto.counts ∙ c.make_leaf-gt.auto.counts
 
 pub returns : goal.returns
-returns c = (
-      rows_split {y = y c} c.requires (parted c) {mid = mid c c.make_leaf-gt.new.tok} c.make_leaf-gt.ensures.0
-          {z = mid c c.make_leaf-le.new.tok} c.make_leaf-le.ensures.0,
-      c.make_leaf-le.ensures.1 ∙ c.make_leaf-gt.ensures.1,
-    )
+returns c = record { split = rows_split {y = y c} c.requires (parted c) {mid = mid c c.make_leaf-gt.new.tok} c.make_leaf-gt.ensures.answer
+          {z = mid c c.make_leaf-le.new.tok} c.make_leaf-le.ensures.answer; zeros = c.make_leaf-le.ensures.zeros ∙ c.make_leaf-gt.ensures.zeros }

@@ -11,4 +11,4 @@ shape_of-words c = let a = c.args in c.put_span.auto.words ∙ length-set a.word
 
 pub returns : goal.returns
 returns c = rw c.put_span.ensures
-    (split-kept c.args.i c.requires.0 c.requires.1.1 c.infinity.ensures)
+    (split-kept c.args.i c.requires.has_room c.requires.i_lt_max_nodes.1 c.infinity.ensures)

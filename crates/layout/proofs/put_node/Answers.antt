@@ -21,4 +21,4 @@ pub bounds-values-value_at-2 : goal.bounds-values-value_at-2
 bounds-values-value_at-2 c = simp length-set (omega arith)
 
 pub returns : goal.returns
-returns c = (refl, (search rules, refl))
+returns c = record { words = refl; values = search rules; costs = refl }

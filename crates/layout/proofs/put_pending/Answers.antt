@@ -12,4 +12,4 @@ pub bounds-words-at-3 : goal.bounds-words-at-3
 bounds-words-at-3 c = simp length-set (omega arith)
 
 pub returns : goal.returns
-returns c = (refl, (search rules, refl))
+returns c = record { words = refl; values = search rules; gains = refl }

@@ -2,7 +2,7 @@
 use mathlib.Core.Path.{◌≡◌, sym, ap, ◌∙◌}
 use mathlib.Core.Bool.{Bool, ◌&&◌}
 use mir.Syntax.{w32}
-use mir.Val.{to_z, of_z}
+use mir.Val.{of_z}
 use mir.ValLaws.{to_z-of_z}
 use lib.Dec.{ltb}
 use lib.ListN.{length}
@@ -28,10 +28,10 @@ module _ (c : goal.After-mode_step-offset) where
       let learnt = c.mode_step-offset.ensures in
       after-step c.requires.fitting c.requires.spanned (c.args.s.modal_offsets && ltb 0 (length c.args.res.now)) c.mode_step-offset.new.tok c.mode_step-offset.new.counts
       flag learnt.1.0 learnt.1.1.0 learnt.1.1.1
-  mode-is : to_z w32 (of_z w32 c.mode_step-offset.result) ≡ span_mode (uses_of c.args.s x) (within (span c.args.first c.args.end) (held_in x))
+  mode-is : (of_z w32 c.mode_step-offset.result) ≡ span_mode (uses_of c.args.s x) (within (span c.args.first c.args.end) (held_in x))
   mode-is =
-      to_z-of_z w32 c.mode_step-offset.result (record { sfits = c.mode_step-offset.type-inv })
-      ∙ c.mode_step-offset.ensures.0
+      to_z-of_z w32 c.mode_step-offset.result (record { sfits = c.mode_step-offset.type_inv })
+      ∙ c.mode_step-offset.ensures.answer
       ∙ ap (λ (b : Bool). step_mode b c.args.first c.args.end c.args.res.now) flag
       ∙ mode-stepped c.requires.fitting c.requires.spanned
 
@@ -39,13 +39,10 @@ pub mode_step-offset-requires : goal.mode_step-offset-requires
 mode_step-offset-requires c = rw (← given c.args.res.now) (steppable c.requires.fitting c.requires.spanned)
 
 pub evaluate_rows-requires : goal.evaluate_rows-requires
-evaluate_rows-requires c = let after = stepped c in
+evaluate_rows-requires c = let after = stepped c.before.before.before.before.before.before in
     evaluable after.fitting after.spanned
 
 pub returns : goal.returns
 returns c = let learnt = c.evaluate_rows.ensures in
-    let given = c.args in (
-      made (to_z w32 (of_z w32 c.mode_step-offset.result)) c.requires.spanned (stepped c) (mode-is c)
-          (learnt.0 (row_count (x c)) given.res.now c.requires.spanned.inside),
-      learnt.1 ∙ c.mode_step-offset.ensures.1.1.0,
-    )
+    let given = c.args in record { answer = made ((of_z w32 c.mode_step-offset.result)) c.requires.spanned (stepped c) (mode-is c)
+          (learnt.0 (row_count (x c)) given.res.now c.requires.spanned.inside); zeros = learnt.1 ∙ c.mode_step-offset.ensures.zeros }

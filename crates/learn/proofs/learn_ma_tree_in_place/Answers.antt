@@ -25,10 +25,7 @@ flat_bits-flat_bits-requires c = let asked = c.requires.plantable in
     flattened_from asked.fitting asked.counted c.clear_u32.ensures
 
 pub grow_from_root-requires : goal.grow_from_root-requires
-grow_from_root-requires c = let given = c.args in (
-      subst (λ (l : List ℕ). Plantable given.s given.logs.now l (x c).rows (x c).nodes (x c).queue given.rows) (sym (c.flat_bits-flat_bits.ensures.1 ∙ c.clear_u32.ensures)) c.requires.plantable,
-      c.flat_bits-flat_bits.ensures.0 given.res.now,
-    )
+grow_from_root-requires c = let given = c.args in record { plantable = subst (λ (l : List ℕ). Plantable given.s given.logs.now l (x c).rows (x c).nodes (x c).queue given.rows) (sym (c.flat_bits-flat_bits.ensures.zeros ∙ c.clear_u32.ensures)) c.requires.plantable; flat_bits_value = c.flat_bits-flat_bits.ensures.answer given.res.now }
 
 pub shape_of-props : goal.shape_of-props
 shape_of-props c = c.grow_from_root.auto.props
@@ -63,11 +60,8 @@ shape_of-counts c = c.grow_from_root.auto.counts ∙ c.flat_bits-flat_bits.auto.
 pub returns : goal.returns
 returns c = let given = c.args in
     let made = result_in given.s given.logs.now (x c).rows in
-    let f = c.grow_from_root.ensures.0 in (
-      learned_as f,
-      made-lists (x c) made (flat c.grow_from_root.new.props c.grow_from_root.new.tok c.grow_from_root.new.res)
+    let f = c.grow_from_root.ensures.finished in record { finished = learned_as f; lists = made-lists (x c) made (flat c.grow_from_root.new.props c.grow_from_root.new.tok c.grow_from_root.new.res)
           (node_lists c.grow_from_root.new.words c.grow_from_root.new.values c.grow_from_root.new.costs)
           (queue_lists c.grow_from_root.new.queue_words c.grow_from_root.new.queue_values c.grow_from_root.new.queue_gains) c.grow_from_root.new.counts c.grow_from_root.result
           c.requires.plantable.fitting.shaped f
-          c.grow_from_root.ensures.1.1 (c.grow_from_root.ensures.1.0 ∙ c.flat_bits-flat_bits.ensures.1 ∙ c.clear_u32.ensures),
-    )
+          c.grow_from_root.ensures.queue (c.grow_from_root.ensures.zeros ∙ c.flat_bits-flat_bits.ensures.zeros ∙ c.clear_u32.ensures) }

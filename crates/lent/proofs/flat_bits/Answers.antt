@@ -18,7 +18,4 @@ pub flat_cost-requires : goal.flat_cost-requires
 flat_cost-requires c = flat-asked c.requires
 
 pub returns : goal.returns
-returns c = let t = settings_of c.args.s in (
-      λ rs. c.flat_cost.ensures.0 t rs (uses-settings c.requires) ∙ ap (λ (n : ℕ). flat_bits t c.args.logs.now (rows_of n c.args.props.now c.args.tok.now rs)) c.requires.counted,
-      counts-back c.requires c.flat_cost.new.hist c.flat_cost.ensures.1,
-    )
+returns c = let t = settings_of c.args.s in record { answer = λ rs. c.flat_cost.ensures.answer t rs (uses-settings c.requires) ∙ ap (λ (n : ℕ). flat_bits t c.args.logs.now (rows_of n c.args.props.now c.args.tok.now rs)) c.requires.counted; zeros = counts-back c.requires c.flat_cost.new.hist c.flat_cost.ensures.zeros }

@@ -6,7 +6,7 @@ use native.Mathlib.Omega.{arith}
 use lib.ListN.{length}
 use lib.Signed.{mag}
 use mir.Syntax.{w32}
-use mir.Val.{to_z, of_z}
+use mir.Val.{of_z}
 use mir.ValLaws.{to_z-of_z}
 use Rattle.listing.specs.Listing.{residual_at, part_count, part_text, part_of}
 use Rattle.listing.proofs.Writing.{from_front}
@@ -21,11 +21,11 @@ room : (c : goal.After-smaller-taken) → c.smaller-taken.result ≤ length c.ar
 room c = rw c.smaller-taken.ensures (min-le_right _ _)
 
 -- the residual that was read is the one at its place
-is : (c : goal.After-residual_at) → to_z w32 (of_z w32 c.residual_at.result) ≡ residual_at c.args.input.now (4 * c.loop-i.i)
-is c = to_z-of_z w32 c.residual_at.result (record { sfits = c.residual_at.type-inv }) ∙ c.residual_at.ensures
+is : (c : goal.After-residual_at) → (of_z w32 c.residual_at.result) ≡ residual_at c.args.input.now (4 * c.loop-i.i)
+is c = to_z-of_z w32 c.residual_at.result (record { sfits = c.residual_at.type_inv }) ∙ c.residual_at.ensures
 
-fits : (c : goal.After-residual_at) → mag (to_z w32 (of_z w32 c.residual_at.result)) < 2 ^ 31
-fits c = rw (to_z-of_z w32 c.residual_at.result (record { sfits = c.residual_at.type-inv })) c.residual_at.type-inv
+fits : (c : goal.After-residual_at) → mag ((of_z w32 c.residual_at.result)) < 2 ^ 31
+fits c = c.residual_at.type_inv
 
 pub smaller-taken-requires : goal.smaller-taken-requires
 smaller-taken-requires c = tt
@@ -34,25 +34,25 @@ pub loop-i-init : goal.loop-i-init
 loop-i-init c = part_none c.args.input.now c.args.out.now c.smaller-taken.result
 
 pub overflow_mul-i : goal.overflow_mul-i
-overflow_mul-i c = omega (arith, all c)
+overflow_mul-i c = omega (arith, all c.before.before.before
 
 pub residual_at-requires : goal.residual_at-requires
-residual_at-requires c = omega (arith, all c)
+residual_at-requires c = omega (arith, all c.before.before.before
 
 pub line-at-requires : goal.line-at-requires
-line-at-requires c = part_room c.loop-i.invariant (all c) (room c) c.loop-i-test.true (to_z w32 (of_z w32 c.residual_at.result)) (fits c) (is c)
+line-at-requires c = part_room c.loop-i.invariant (all c) (room c) c.loop-i-test.true ((of_z w32 c.residual_at.result)) (fits c) (is c)
 
 pub overflow_step-i : goal.overflow_step-i
-overflow_step-i c = omega (arith, all c)
+overflow_step-i c = omega (arith, all c.before.before.before.before.before.before.before
 
 pub loop-i-preserved : goal.loop-i-preserved
-loop-i-preserved c = part-more c.loop-i.invariant (all c) (room c) c.loop-i-test.true (to_z w32 (of_z w32 c.residual_at.result)) (fits c) (is c) c.line-at.ensures
+loop-i-preserved c = part-more c.loop-i.invariant (all c) (room c) c.loop-i-test.true ((of_z w32 c.residual_at.result)) (fits c) (is c) c.line-at.ensures
 
 pub shape_of-out : goal.shape_of-out
-shape_of-out c = part_length c.loop-i.invariant (all c) (room c)
+shape_of-out c = part_length c.loop-i.invariant (all c.before.before (room c.before.before
 
 pub returns : goal.returns
 unfolding part_of part_text part_count
 returns c = let part = c.loop-i.invariant in
     let end = from_front (part_end part (all c) (room c) c.loop-i-test.false) (part-fits part (all c) (room c) c.loop-i-test.false) in
-    (rw (← c.smaller-taken.ensures, end.0), (rw (← c.smaller-taken.ensures) end.1.0, end.1.1))
+    record { answer = rw (← c.smaller-taken.ensures, end.0); text = rw (← c.smaller-taken.ensures) end.1.0; fits = end.1.1 }

@@ -4,7 +4,7 @@ use borrow.Author.Tests.{eq-eqb, ne_eqb}
 use Rattle.lookup.proofs.step.Goals as goal
 
 pub follow-requires : goal.follow-requires
-follow-requires c = (eq-eqb _ _ c.if-m-eq-SPLIT.true, search rules)
+follow-requires c = record { m_value = eq-eqb _ _ c.if-m-eq-SPLIT.true; one_row = search rules }
 
 pub end_at-requires : goal.end_at-requires
 end_at-requires c = ne_eqb _ _ c.if-m-eq-SPLIT.false

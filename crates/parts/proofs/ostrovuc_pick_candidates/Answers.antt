@@ -17,4 +17,4 @@ pub returns : goal.returns
 returns c = let picked = c.pick_candidates.ensures in
     let start = c.args in
     let found = candidates_of start.max-candidates (column start.props.now start.prop start.first start.end) in
-    (c.plan_answer.ensures ∙ ap planned_in picked.0.plan ∙ as_many found, (picked.0.written, picked.1))
+    record { answer = c.plan_answer.ensures ∙ ap planned_in picked.0.plan ∙ as_many found; candidates = picked.0.written; zeros = picked.1 }

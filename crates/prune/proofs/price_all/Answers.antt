@@ -10,8 +10,8 @@ pub loop-i-init : goal.loop-i-init
 loop-i-init c = (omega arith, refl, refl, refl, λ tree shows k a b. absurd (omega arith))
 
 pub price_node-node-requires : goal.price_node-node-requires
-price_node-node-requires c = let pre = c.requires.0 in
-    let room = c.requires.1 in
+price_node-node-requires c = let pre = c.requires.all_priceable in
+    let room = c.requires.count_in_bounds in
     let some = c.loop-i-test.true in
     record {
       there = record {
@@ -31,8 +31,8 @@ price_node-node-requires c = let pre = c.requires.0 in
 
 pub loop-i-preserved : goal.loop-i-preserved
 loop-i-preserved c = let args = c.args in
-    let pre = c.requires.0 in
-    let room = c.requires.1 in
+    let pre = c.requires.all_priceable in
+    let room = c.requires.count_in_bounds in
     let some = c.loop-i-test.true in (
       omega arith,
       simp length-set c.loop-i.invariant.1,

@@ -23,16 +23,16 @@ returns-then-node-ne1 c = let is = c.node_at-node.ensures in
     rw leaf (rw is at c.price_leaf.ensures)
 
 pub bounds-priced-gt : goal.bounds-priced-gt
-bounds-priced-gt c = (children c).2
+bounds-priced-gt c = (children c.before).2
 
 pub bounds-priced-le : goal.bounds-priced-le
-bounds-priced-le c = (children c).3
+bounds-priced-le c = (children c.before.before).3
 
 pub bounds-bits-gt : goal.bounds-bits-gt
-bounds-bits-gt c = (children c).0
+bounds-bits-gt c = (children c.before.before.before.before).0
 
 pub bounds-bits-le : goal.bounds-bits-le
-bounds-bits-le c = (children c).1
+bounds-bits-le c = (children c.before.before.before.before.before).1
 
 pub price_split-requires : goal.price_split-requires
 price_split-requires c = rw c.node_at-node.ensures c.requires.number

@@ -15,13 +15,13 @@ pub overflow_mul-scored-2 : goal.overflow_mul-scored-2
 overflow_mul-scored-2 c = record { fits = lt_of_le_of_lt (mul-le-mul_left c.larger-sides.result c.requires.alphabet.1) (omega (arith, c.larger-sides.ensures)) }
 
 pub overflow_mul-scored-3 : goal.overflow_mul-scored-3
-overflow_mul-scored-3 c = omega (arith, scored c)
+overflow_mul-scored-3 c = omega (arith, scored c.before
 
 pub overflow_add-scored-2 : goal.overflow_add-scored-2
-overflow_add-scored-2 c = omega (arith, scored c)
+overflow_add-scored-2 c = omega (arith, scored c.before
 
 pub overflow_add-result : goal.overflow_add-result
-overflow_add-result c = omega (arith, c.larger.ensures, scored c)
+overflow_add-result c = omega (arith, c.larger.ensures, scored c.before.before
 
 pub returns : goal.returns
 returns c = rw (c.larger.ensures, c.larger-sides.ensures)

@@ -2,9 +2,6 @@
 use mathlib.Core.Path.{◌≡◌}
 use Prim.Native.Nat.{◌<◌, ◌≤◌, ◌+◌, ◌-◌, ◌*◌}
 use native.Mathlib.Omega.{arith}
-use mir.Syntax.{w32}
-use mir.ValLaws.{to_z-of_z}
-use lib.IntN.{pos}
 use lib.ListN.{length, get_or}
 use Rattle.model.specs.Settings.{max_rows}
 use Rattle.score.specs.Scored.{size_at}
@@ -28,13 +25,13 @@ width : (s : goal.Start) → s.args.k * s.args.stride + get_or s.args.offs.now 1
 width s = omega arith
 
 found : (c : goal.After-rows_in-size) → c.rows_in-size.result ≡ size_at c.args.cells.now c.args.offs.now (c.args.k * c.args.stride)
-found c = rw (width c) at c.rows_in-size.ensures
+found c = rw (width c.before.before.before.before.before.before.before.before.before.before at c.rows_in-size.ensures
 
 pub overflow_mul-base : goal.overflow_mul-base
 overflow_mul-base c = omega (arith, here c, c.well-formed)
 
 pub bounds-offs-1 : goal.bounds-offs-1
-bounds-offs-1 c = omega (arith, here c)
+bounds-offs-1 c = omega (arith, here c.before.before.before.before.before.before.before.before
 
 pub overflow_cast-end : goal.overflow_cast-end
 overflow_cast-end c = omega (arith, here c, c.well-formed)
@@ -52,22 +49,22 @@ pub rows_in-size-requires : goal.rows_in-size-requires
 rows_in-size-requires c = rw (width c) (omega (arith, here c))
 
 pub returns-then-size-eq0 : goal.returns-then-size-eq0
-returns-then-size-eq0 c = at_no_le _ _ _ _ _ _ _ _ _ _ _ c.rows_in-size.result (found c) c.if-size-eq0.true
+returns-then-size-eq0 c = at_no_le _ _ _ _ _ _ _ _ _ _ _ c.rows_in-size.result (found c.before c.if-size-eq0.true
 
 pub returns-then-size-total : goal.returns-then-size-total
-returns-then-size-total c = at_no_gt _ _ _ _ _ _ _ _ _ _ _ c.rows_in-size.result (found c) c.if-size-eq0.false c.if-size-total.true
+returns-then-size-total c = at_no_gt _ _ _ _ _ _ _ _ _ _ _ c.rows_in-size.result (found c.before.before c.if-size-eq0.false c.if-size-total.true
 
 pub bounds-logs-size : goal.bounds-logs-size
-bounds-logs-size c = omega (arith, here c, found c)
+bounds-logs-size c = omega (arith, here c.before.before.before.before.before.before.before.before.before.before.before.before.before, found c.before.before.before
 
 pub overflow_sub-log_gt : goal.overflow_sub-log_gt
-overflow_sub-log_gt c = omega (arith, here c, found c)
+overflow_sub-log_gt c = omega (arith, here c.before.before.before.before.before.before.before.before.before.before.before.before.before, found c.before.before.before
 
 pub lowest_sides-sides-requires : goal.lowest_sides-sides-requires
-lowest_sides-sides-requires c = c.requires.0.ready c.args.k c.requires.1
+lowest_sides-sides-requires c = c.requires.binned.ready c.args.k c.requires.k_in_bounds
 
 pub returns : goal.returns
 returns c = let h = here c in
-    let size = found c in
-    rw (to_z-of_z w32 (get_or c.args.cands.now c.args.k (pos 0)) (record { sfits = c.result-1.given }))
+    let size = found c.before.before.before.before.before.before.before in
+    
     (at_both _ _ _ _ _ _ _ _ _ _ _ c.rows_in-size.result size c.if-size-eq0.false c.if-size-total.false (omega (arith, h, size)) h.reach c.lowest_sides-sides.result c.lowest_sides-sides.ensures)

@@ -12,28 +12,25 @@ room-long : (s : goal.Start) → length s.args.room.now ≡ (length s.args.cands
 room-long s = ap length s.requires.1.1.1 ∙ length-replicate {A = ℕ} ((length s.args.cands.now + 1) * s.args.stride) 0
 
 pub scan_split_plan-requires : goal.scan_split_plan-requires
-scan_split_plan-requires c = let h = c.requires.0 in
-    let there = rows-there _ _ _ _ _ _ _ _ _ _ h _ _ c.requires.1.0 _ c.requires.1.1.0 in
-    let lanes = all_lanes _ _ _ _ _ _ _ _ _ _ h _ _ c.requires.1.0 _ c.requires.1.1.0 in
-    let low = c-low _ _ _ _ _ _ _ _ _ _ h _ _ c.requires.1.0 _ c.requires.1.1.0 _ c.requires.1.1.1 in
-    (there, ((h.property, h.few_cands, omega (arith, room-long c)), (lanes, low)))
+scan_split_plan-requires c = let h = c.requires.scorable in
+    let there = rows-there _ _ _ _ _ _ _ _ _ _ h _ _ c.requires.windows _ c.requires.stride_value in
+    let lanes = all_lanes _ _ _ _ _ _ _ _ _ _ h _ _ c.requires.windows _ c.requires.stride_value in
+    let low = c-low _ _ _ _ _ _ _ _ _ _ h _ _ c.requires.windows _ c.requires.stride_value _ c.requires.room_value in
+    record { rows_there = there; prop_lt_props_per_row = (h.property, h.few_cands, omega (arith, room-long c)); lanes = lanes; low = low }
 
 pub overflow_mul-cands : goal.overflow_mul-cands
 overflow_mul-cands c = omega (arith, part_end (length c.args.cands.now) (length c.args.cands.now + 1) c.args.stride (omega arith), room-long c, c.well-formed)
 
 pub accumulate-requires : goal.accumulate-requires
-accumulate-requires c = sums_fit _ _ _ _ _ _ _ _ _ _ c.requires.0 _ _ c.requires.1.0 _ c.requires.1.1.0 _ c.requires.1.1.1 _ c.scan_split_plan.ensures
+accumulate-requires c = sums_fit _ _ _ _ _ _ _ _ _ _ c.requires.scorable _ _ c.requires.windows _ c.requires.stride_value _ c.requires.room_value _ c.scan_split_plan.ensures
 
 pub set_extras-requires : goal.set_extras-requires
-set_extras-requires c = extras-fit _ _ _ _ _ _ _ _ _ _ c.requires.0 _ _ c.requires.1.0 _ c.requires.1.1.0 (replicate 14 0) c.requires.0.few_preds
+set_extras-requires c = extras-fit _ _ _ _ _ _ _ _ _ _ c.requires.scorable _ _ c.requires.windows _ c.requires.stride_value (replicate 14 0) c.requires.scorable.few_preds
 
 pub score_split_plan-score-requires : goal.score_split_plan-score-requires
-score_split_plan-score-requires c = ready _ _ _ _ _ _ _ _ _ _ c.requires.0 _ _ c.requires.1.0 _ c.requires.1.1.0 _ c.requires.1.1.1 _ c.scan_split_plan.ensures _ c.accumulate.ensures _ (omega (arith, c.requires.0.few_preds, c.set_extras.auto)) c.set_extras.ensures
+score_split_plan-score-requires c = ready _ _ _ _ _ _ _ _ _ _ c.requires.scorable _ _ c.requires.windows _ c.requires.stride_value _ c.requires.room_value _ c.scan_split_plan.ensures _ c.accumulate.ensures _ (omega (arith, c.requires.scorable.few_preds, c.set_extras.auto)) c.set_extras.ensures
 
 pub returns : goal.returns
 returns c = let counted = c.scan_split_plan.ensures in
     let left = c.accumulate.ensures in
-    (
-      scored _ _ _ _ _ _ _ _ _ _ c.requires.0 _ _ c.requires.1.0 _ c.requires.1.1.0 _ c.requires.1.1.1 _ counted _ left (score_is c.score_split_plan-score.result) c.score_split_plan-score.ensures,
-      cleared _ _ _ _ _ _ _ _ _ _ c.requires.0 _ _ c.requires.1.0 _ c.requires.1.1.0 _ c.requires.1.1.1 _ counted _ left _ c.clear_u32.ensures,
-    )
+    record { answer = scored _ _ _ _ _ _ _ _ _ _ c.requires.scorable _ _ c.requires.windows _ c.requires.stride_value _ c.requires.room_value _ counted _ left (score_is c.score_split_plan-score.result) c.score_split_plan-score.ensures; zeros = cleared _ _ _ _ _ _ _ _ _ _ c.requires.scorable _ _ c.requires.windows _ c.requires.stride_value _ c.requires.room_value _ counted _ left _ c.clear_u32.ensures }

@@ -16,10 +16,10 @@ fits : (s : goal.Start) → bins s ≤ length s.args.room.now
 fits s = bins_fit _ _ _ _ _ _ _ _ _ _ s.requires.0 _ _ s.requires.1.0 _ refl s.args.room.now s.requires.1.1
 
 pub offset_bounds-offs-last : goal.offset_bounds-offs-last
-offset_bounds-offs-last c = omega (arith, c.requires.1.0.offs_room, c.well-formed)
+offset_bounds-offs-last c = omega (arith, c.requires.windows.offs_room, c.well-formed)
 
 pub bounds-offs-last : goal.bounds-offs-last
-bounds-offs-last c = omega (arith, c.requires.1.0.offs_room)
+bounds-offs-last c = omega (arith, c.requires.windows.offs_room)
 
 pub overflow_cast-stride : goal.overflow_cast-stride
 overflow_cast-stride c = omega (arith, c.shared_slice_known-7-1.given (length c.args.preds.now))
@@ -28,13 +28,13 @@ pub overflow_mul-bins : goal.overflow_mul-bins
 overflow_mul-bins c = omega (arith, fits c, c.well-formed)
 
 pub slice_bounds-score_in-end : goal.slice_bounds-score_in-end
-slice_bounds-score_in-end c = fits c
+slice_bounds-score_in-end c = fits c.before.before.before.before.before.before.before.before
 
 pub slice_bounds-score_in-end-2 : goal.slice_bounds-score_in-end-2
 slice_bounds-score_in-end-2 c = sym (length-take-le (bins c) c.args.room.now (fits c))
 
 pub score_in-requires : goal.score_in-requires
-score_in-requires c = (c.requires.0, (c.requires.1.0, (refl, zeros-front c.args.room.now (bins c) c.requires.1.1.zeros (fits c))))
+score_in-requires c = record { scorable = c.requires.scorable; windows = c.requires.windows; stride_value = refl; room_value = zeros-front c.args.room.now (bins c) c.requires.spare.zeros (fits c) }
 
 pub returns : goal.returns
-returns c = (c.score_in.ensures.0, ap (λ (l : List ℕ). l ++ drop (bins c) c.args.room.now) c.score_in.ensures.1 ∙ take-append-drop (bins c) c.args.room.now)
+returns c = record { answer = c.score_in.ensures.answer; zeros = ap (λ (l : List ℕ). l ++ drop (bins c) c.args.room.now) c.score_in.ensures.zeros ∙ take-append-drop (bins c) c.args.room.now }

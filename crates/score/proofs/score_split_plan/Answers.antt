@@ -16,7 +16,7 @@ pub loop-k-init : goal.loop-k-init
 loop-k-init c = (refl, omega arith, sym (scored_to-none _))
 
 pub score_at-next-requires : goal.score_at-next-requires
-score_at-next-requires c = (c.requires, c.loop-k-test.true)
+score_at-next-requires c = record { binned = c.requires; k_in_bounds = c.loop-k-test.true }
 
 pub overflow_step-k : goal.overflow_step-k
 overflow_step-k c = omega (arith, c.loop-k-test.true, c.well-formed)

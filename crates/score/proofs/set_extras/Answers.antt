@@ -40,45 +40,45 @@ pub offset_bounds-preds-j : goal.offset_bounds-preds-j
 offset_bounds-preds-j c = omega (arith, here c, c.well_formed)
 
 pub bounds-preds-j : goal.bounds-preds-j
-bounds-preds-j c = omega (arith, here c, c.well_formed)
+bounds-preds-j c = omega (arith, here c.before, c.well_formed)
 
 pub overflow_cast-start : goal.overflow_cast-start
-overflow_cast-start c = omega (arith, here c, c.well_formed)
+overflow_cast-start c = omega (arith, here c.before, c.well_formed)
 
 pub overflow_mul-start : goal.overflow_mul-start
-overflow_mul-start c = omega (arith, here c, c.well_formed)
+overflow_mul-start c = omega (arith, here c.before, c.well_formed)
 
 pub overflow_add-end : goal.overflow_add-end
-overflow_add-end c = omega (arith, here c, c.well_formed)
+overflow_add-end c = omega (arith, here c.before, c.well_formed)
 
 pub offset_bounds-node-start : goal.offset_bounds-node-start
-offset_bounds-node-start c = omega (arith, here c, c.well_formed)
+offset_bounds-node-start c = omega (arith, here c.before, c.well_formed)
 
 pub slice_bounds-window_extra-count : goal.slice_bounds-window_extra-count
-slice_bounds-window_extra-count c = omega (arith, here c, c.well_formed)
+slice_bounds-window_extra-count c = omega (arith, here c.before, c.well_formed)
 
 pub slice-bounds-window-extra-start : goal.slice-bounds-window-extra-start
-slice-bounds-window-extra-start c = omega (arith, here c, c.well_formed)
+slice-bounds-window-extra-start c = omega (arith, here c.before, c.well_formed)
 
 pub slice-bounds-window-extra-end : goal.slice-bounds-window-extra-end
-slice-bounds-window-extra-end c = omega (arith, here c, c.well_formed)
+slice-bounds-window-extra-end c = omega (arith, here c.before, c.well_formed)
 
 pub window_extra-requires : goal.window_extra-requires
-window_extra-requires c = let h = here c in
+window_extra-requires c = let h = here c.before.before in
     let p = get_or c.args.preds.now c.loop-j.j 0 in
     rw (part-is c.args.node.now c.args.alphabet p) (simp (length-take, length-drop) (omega (arith, h)), c.requires.rows p h.pred)
 
 pub offset_bounds-extras-j : goal.offset_bounds-extras-j
-offset_bounds-extras-j c = omega (arith, here c, c.well_formed)
+offset_bounds-extras-j c = omega (arith, here c.before.before.before, c.well_formed)
 
 pub bounds-extras-j : goal.bounds-extras-j
-bounds-extras-j c = omega (arith, here c, c.well_formed)
+bounds-extras-j c = omega (arith, here c.before.before.before, c.well_formed)
 
 pub overflow_step-j : goal.overflow_step-j
-overflow_step-j c = omega (arith, here c, c.well_formed)
+overflow_step-j c = omega (arith, here c.before.before.before, c.well_formed)
 
 pub loop-j-smaller : goal.loop-j-smaller
-loop-j-smaller c = omega (arith, here c, c.well_formed)
+loop-j-smaller c = omega (arith, here c.before.before.before, c.well_formed)
 
 pub loop-j-preserved : goal.loop-j-preserved
 loop-j-preserved c = let h = here c in

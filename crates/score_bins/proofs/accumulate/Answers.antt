@@ -11,7 +11,7 @@ pub loop-i-init : goal.loop-i-init
 loop-i-init c = (omega arith, sym (summed-none _ _), omega arith)
 
 pub overflow_add-cells-in-loop-i : goal.overflow_add-cells-in-loop-i
-overflow_add-cells-in-loop-i c = let low = c.requires.1 c.loop-i.i c.loop-i-test.true in
+overflow_add-cells-in-loop-i c = let low = c.requires.sums_low c.loop-i.i c.loop-i-test.true in
     let a = ap (λ (d : List ℕ). get_or d (c.args.stride + c.loop-i.i) 0) c.loop-i.invariant.1 in
     let b = ap (λ (d : List ℕ). get_or d c.loop-i.i 0) c.loop-i.invariant.1 in
     omega (arith, low, a, b)

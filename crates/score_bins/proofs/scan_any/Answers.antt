@@ -2,8 +2,6 @@
 use mathlib.Core.Path.{◌≡◌, refl, sym, ap, ◌∙◌}
 use Prim.Native.Nat.{ℕ, ◌≤◌, ◌<◌, ◌-◌, ◌+◌, ◌*◌}
 use native.Mathlib.Omega.{arith}
-use mir.Syntax.{w32}
-use mir.ValLaws.{to_z-of_z}
 use lib.IntN.{pos}
 use lib.ListN.{length, get_or}
 use Rattle.cost.specs.Histograms.{tallied}
@@ -24,39 +22,39 @@ unfolding bin_at
 bin-le s k = bin_of_le s.args.cands.now (get_or s.args.props.now ((s.args.first + k) * 24 + s.args.prop) (pos 0))
 
 -- the bin that the call found
-found : (c : goal.After-bin_for-bin) → c.bin_for-bin.result ≡ bin c c.loop-k.k
+found : (c : goal.After-bin_for-bin) → c.bin_for-bin.result ≡ bin c.before.before.before.before.before.before.before.before.before c.loop-k.k
 unfolding bin_at
 found c =
     let at = (c.args.first + c.loop-k.k) * 24 + c.args.prop in
-    rw (to_z-of_z w32 (get_or c.args.props.now at (pos 0)) (record { sfits = c.bin_for-arg-1.given })) at c.bin_for-bin.ensures
+    c.bin_for-bin.ensures
 
 pub loop-k-init : goal.loop-k-init
 loop-k-init c = (omega arith, sym (rows_none _ _ _), refl)
 
 pub overflow_add-row : goal.overflow_add-row
-overflow_add-row c = omega (arith, c.requires.0, c.requires.1.0, c.well_formed, c.loop-k-test.true)
+overflow_add-row c = omega (arith, c.requires.rows_there, c.requires.prop_lt_props_per_row, c.well_formed, c.loop-k-test.true)
 
 pub overflow_mul-row : goal.overflow_mul-row
-overflow_mul-row c = omega (arith, c.requires.0, c.requires.1.0, c.well_formed, c.loop-k-test.true)
+overflow_mul-row c = omega (arith, c.requires.rows_there, c.requires.prop_lt_props_per_row, c.well_formed, c.loop-k-test.true)
 
 pub overflow_add-row-in-loop-k : goal.overflow_add-row-in-loop-k
-overflow_add-row-in-loop-k c = omega (arith, c.requires.0, c.requires.1.0, c.well_formed, c.loop-k-test.true)
+overflow_add-row-in-loop-k c = omega (arith, c.requires.rows_there, c.requires.prop_lt_props_per_row, c.well_formed, c.loop-k-test.true)
 
 pub offset_bounds-props-row : goal.offset_bounds-props-row
-offset_bounds-props-row c = omega (arith, c.requires.0, c.requires.1.0, c.well_formed, c.loop-k-test.true)
+offset_bounds-props-row c = omega (arith, c.requires.rows_there, c.requires.prop_lt_props_per_row, c.well_formed, c.loop-k-test.true)
 
 pub bounds-props-row : goal.bounds-props-row
-bounds-props-row c = omega (arith, c.requires.0, c.requires.1.0, c.well_formed, c.loop-k-test.true)
+bounds-props-row c = omega (arith, c.requires.rows_there, c.requires.prop_lt_props_per_row, c.well_formed, c.loop-k-test.true)
 
 pub bin_for-bin-requires : goal.bin_for-bin-requires
-bin_for-bin-requires c = c.requires.1.0.1
+bin_for-bin-requires c = c.requires.prop_lt_props_per_row.1
 
 pub overflow_cast-bin : goal.overflow_cast-bin
-overflow_cast-bin c = omega (arith, found c, bin-le c c.loop-k.k, c.requires.1.0.1)
+overflow_cast-bin c = omega (arith, found c, bin-le c c.loop-k.k, c.requires.prop_lt_props_per_row.1)
 
 pub overflow_mul-bin : goal.overflow_mul-bin
 overflow_mul-bin c = let k = c.loop-k.k in
-    omega (arith, part_end c.bin_for-bin.result (length c.args.cands.now + 1) c.args.stride (omega (arith, found c, bin-le c k)), c.requires.1.0.2, c.well_formed)
+    omega (arith, part_end c.bin_for-bin.result (length c.args.cands.now + 1) c.args.stride (omega (arith, found c, bin-le c k)), c.requires.prop_lt_props_per_row.2, c.well_formed)
 
 pub scan_row-requires : goal.scan_row-requires
 scan_row-requires c = let p = c.requires in
@@ -68,16 +66,16 @@ scan_row-requires c = let p = c.requires in
     (omega (arith, c.loop-k.invariant.2, p.1.0.2)) in
     let low = rows-turn (cell c) (length a.preds.now) c.loop-k.k a.rows a.cells.now c.loop-k.cells (λ k j l m. omega (arith, room k j l m, p.1.0.2)) p.1.1.1 w.few p.0.few taken
     c.loop-k.invariant.1 in
-    (rw (found c) inside, low)
+    (rw (found c.before inside, low)
 
 pub overflow_step-k : goal.overflow_step-k
-overflow_step-k c = omega (arith, c.requires.0, c.requires.1.0, c.well_formed, c.loop-k-test.true)
+overflow_step-k c = omega (arith, c.requires.rows_there, c.requires.prop_lt_props_per_row, c.well_formed, c.loop-k-test.true)
 
 pub loop-k-smaller : goal.loop-k-smaller
-loop-k-smaller c = omega (arith, c.requires.0, c.requires.1.0, c.well_formed, c.loop-k-test.true)
+loop-k-smaller c = omega (arith, c.requires.rows_there, c.requires.prop_lt_props_per_row, c.well_formed, c.loop-k-test.true)
 
 pub loop-k-preserved : goal.loop-k-preserved
-loop-k-preserved c = let cells = rw (found c) at c.scan_row.ensures in (
+loop-k-preserved c = let cells = rw (found c.before.before.before.before at c.scan_row.ensures in (
       omega (arith, c.loop-k-test.true),
       cells ∙ ap (tallied (cell c c.loop-k.k) (length c.args.preds.now)) c.loop-k.invariant.1 ∙ sym (rows_more (cell c) (length c.args.preds.now) c.loop-k.k c.args.cells.now),
       c.scan_row.auto.cells ∙ c.loop-k.invariant.2,

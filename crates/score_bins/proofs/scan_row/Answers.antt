@@ -47,62 +47,62 @@ pub offset_bounds-preds-j : goal.offset_bounds-preds-j
 offset_bounds-preds-j c = omega (arith, here c, (start c).good)
 
 pub bounds-preds-j : goal.bounds-preds-j
-bounds-preds-j c = omega (arith, here c, (start c).good)
+bounds-preds-j c = omega (arith, here c.before, (start c.before).good)
 
 pub overflow_cast-token : goal.overflow_cast-token
-overflow_cast-token c = omega (arith, here c, (start c).good)
+overflow_cast-token c = omega (arith, here c.before, (start c.before).good)
 
 pub overflow_add-token : goal.overflow_add-token
-overflow_add-token c = omega (arith, here c, (start c).good)
+overflow_add-token c = omega (arith, here c.before, (start c.before).good)
 
 pub bounds-tok-row : goal.bounds-tok-row
-bounds-tok-row c = omega (arith, here c, (start c).good)
+bounds-tok-row c = omega (arith, here c.before.before, (start c.before.before).good)
 
 pub overflow_cast-token-in-loop-j : goal.overflow_cast-token-in-loop-j
-overflow_cast-token-in-loop-j c = let s = start c in
+overflow_cast-token-in-loop-j c = let s = start c.before.before in
     omega (arith, c.shared_slice_known-in-loop-j-2-1.given (s.args.row * 14 + get_or s.args.preds.now c.loop-j.j 0))
 
 pub offset_bounds-offs-j : goal.offset_bounds-offs-j
-offset_bounds-offs-j c = omega (arith, here c, (start c).good)
+offset_bounds-offs-j c = omega (arith, here c.before.before.before, (start c.before.before.before).good)
 
 pub bounds-offs-j : goal.bounds-offs-j
-bounds-offs-j c = omega (arith, here c, (start c).good)
+bounds-offs-j c = omega (arith, here c.before.before.before.before, (start c.before.before.before.before).good)
 
 pub overflow_cast-offs : goal.overflow_cast-offs
 overflow_cast-offs c = omega (arith, c.shared_slice_known-in-loop-j-3-1.given c.loop-j.j)
 
 pub overflow_add-base : goal.overflow_add-base
-overflow_add-base c = omega (arith, here c, (start c).good)
+overflow_add-base c = omega (arith, here c.before.before.before.before, (start c.before.before.before.before).good)
 
 pub offset_bounds-firsts-j : goal.offset_bounds-firsts-j
-offset_bounds-firsts-j c = omega (arith, here c, (start c).good)
+offset_bounds-firsts-j c = omega (arith, here c.before.before.before.before, (start c.before.before.before.before).good)
 
 pub bounds-firsts-j : goal.bounds-firsts-j
-bounds-firsts-j c = omega (arith, here c, (start c).good)
+bounds-firsts-j c = omega (arith, here c.before.before.before.before.before, (start c.before.before.before.before.before).good)
 
 pub overflow_cast-firsts : goal.overflow_cast-firsts
 overflow_cast-firsts c = omega (arith, c.shared_slice_known-in-loop-j-4-1.given c.loop-j.j)
 
 pub overflow_sub-token : goal.overflow_sub-token
-overflow_sub-token c = omega (arith, here c, (start c).good)
+overflow_sub-token c = omega (arith, here c.before.before.before.before.before, (start c.before.before.before.before.before).good)
 
 pub overflow_add-base-in-loop-j : goal.overflow_add-base-in-loop-j
-overflow_add-base-in-loop-j c = omega (arith, here c, (start c).good)
+overflow_add-base-in-loop-j c = omega (arith, here c.before.before.before.before.before, (start c.before.before.before.before.before).good)
 
 pub bump-requires : goal.bump-requires
-bump-requires c = let s = start c in
+bump-requires c = let s = start c.before.before.before.before.before in
     let row = lane_cell s.args.tok.now s.args.preds.now s.args.firsts.now s.args.offs.now s.args.base s.args.row in
-    tally-turn row (length s.args.preds.now) c.loop-j.j s.args.cells.now c.loop-j.cells s.pre.0.room s.pre.1 s.pre.0.few (here c).lane c.loop-j.invariant.2
+    tally-turn row (length s.args.preds.now) c.loop-j.j s.args.cells.now c.loop-j.cells s.pre.0.room s.pre.1 s.pre.0.few (here c.before.before.before.before.before).lane c.loop-j.invariant.2
 
 pub overflow_step-j : goal.overflow_step-j
-overflow_step-j c = omega (arith, here c, (start c).good)
+overflow_step-j c = omega (arith, here c.before.before.before.before.before.before.before.before, (start c.before.before.before.before.before.before.before.before).good)
 
 pub loop-j-smaller : goal.loop-j-smaller
-loop-j-smaller c = omega (arith, here c, (start c).good)
+loop-j-smaller c = omega (arith, here c.before.before.before.before.before.before.before.before, (start c.before.before.before.before.before.before.before.before).good)
 
 pub loop-j-preserved : goal.loop-j-preserved
 loop-j-preserved c = let row = lane_cell c.args.tok.now c.args.preds.now c.args.firsts.now c.args.offs.now c.args.base c.args.row in
-    (refl, omega (arith, here c), cc (tallied-more row c.loop-j.j c.args.cells.now), c.bump.auto.cells ∙ c.loop-j.invariant.3)
+    (refl, omega (arith, here c.before.before.before.before.before.before.before.before, cc (tallied-more row c.loop-j.j c.args.cells.now), c.bump.auto.cells ∙ c.loop-j.invariant.3)
 
 pub shape_of-cells : goal.shape_of-cells
 shape_of-cells c = c.loop-j.invariant.3

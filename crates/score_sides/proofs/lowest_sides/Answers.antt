@@ -13,10 +13,10 @@ abbrev lane : goal.Start → ℕ → Sides
 lane s = lane_at s.args.cells.now s.args.node.now s.args.alphabet s.args.preds.now s.args.firsts.now s.args.offs.now s.args.base s.args.log-le s.args.log-gt s.args.logs.now
 
 pub loop-j-init : goal.loop-j-init
-loop-j-init c = (refl, omega arith, cc (lowest_to-none (lane c)))
+loop-j-init c = (refl, omega arith, cc (lowest_to-none (lane c.before.before.before.before.before.before.before.before.before))
 
 pub try_predictor-best-requires : goal.try_predictor-best-requires
-try_predictor-best-requires c = (c.requires, c.loop-j-test.true)
+try_predictor-best-requires c = record { ready = c.requires; j_in_bounds = c.loop-j-test.true }
 
 pub loop-j-preserved : goal.loop-j-preserved
 loop-j-preserved c = (refl, omega (arith, c.loop-j-test.true), c.try_predictor-best.ensures ∙ ap (λ (b : Sides). lower_sides b (lane c c.loop-j.j)) c.loop-j.invariant.2 ∙ sym (lowest_to-more (lane c) c.loop-j.j))

@@ -23,7 +23,7 @@ pub offset_bounds-preds-j : goal.offset_bounds-preds-j
 offset_bounds-preds-j c = omega (arith, here c, c.well-formed)
 
 pub bounds-preds-j : goal.bounds-preds-j
-bounds-preds-j c = omega (arith, here c, c.requires.1)
+bounds-preds-j c = omega (arith, here c, c.requires.j_in_bounds)
 
 pub overflow_cast-from : goal.overflow_cast-from
 overflow_cast-from c = omega (arith, c.shared_slice_known-9-1.given c.args.j)
@@ -86,9 +86,9 @@ pub slice-bounds-window-costs-end-2 : goal.slice-bounds-window-costs-end-2
 slice-bounds-window-costs-end-2 c = omega (arith, here c, c.well-formed)
 
 pub window_costs-costs-requires : goal.window_costs-costs-requires
-window_costs-costs-requires c = let h = here c in rw (h.width_node, h.width) (h.counted, (h.top, h.extra))
+window_costs-costs-requires c = let h = here c.before.before.before.before.before.before.before.before.before.before.before.before.before.before in rw (h.width_node, h.width) (h.counted, (h.top, h.extra))
 
 pub returns : goal.returns
 unfolding lane_at
-returns c = let h = here c in
+returns c = let h = here c.before.before.before.before.before.before.before.before.before.before.before.before.before.before.before.before in
     c.lower_sides.ensures ∙ ap (lower_sides _) (rw (h.width_node, h.width) at c.window_costs-costs.ensures)

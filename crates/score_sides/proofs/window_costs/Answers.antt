@@ -16,24 +16,24 @@ pub record Bits (c : tie.After-window-extra) : Type 0 where
   pub small : c.before.before.before.before.before.args.extra ≤ 3997696
 bits : (c : goal.After-window_extra-le) → Bits c
 bits c =
-    let h = c.requires.0 in
+    let h = c.requires.side_counted in
     let le = c.window_extra-le.ensures in
     let sides = extra-sides c.args.first c.args.node.now c.args.left.now h.long h.under in
-    let few = extra_le_rows c.args.first c.args.node.now (omega (arith, c.requires.1.0, h.long)) in
-    record { le = le; both = omega (arith, c.requires.1.1); small = omega (arith, c.requires.1.1, h.small) }
+    let few = extra_le_rows c.args.first c.args.node.now (omega (arith, c.requires.left_bound.0, h.long)) in
+    record { le = le; both = omega (arith, c.requires.left_bound.1); small = omega (arith, c.requires.left_bound.1, h.small) }
 
 pub window_extra-le-requires : goal.window_extra-le-requires
-window_extra-le-requires c = (c.requires.1.0, few-left _ _ _ c.requires.0)
+window_extra-le-requires c = (c.requires.left_bound.0, few-left _ _ _ c.requires.side_counted)
 
 pub int_to_float-result : goal.int_to_float-result
-int_to_float-result c = single_exact _ (omega (arith, bits c))
+int_to_float-result c = single_exact _ (omega (arith, bits c.before)
 
 pub overflow_sub-result : goal.overflow_sub-result
-overflow_sub-result c = omega (arith, bits c)
+overflow_sub-result c = omega (arith, bits c.before.before
 
 pub int_to_float-result-2 : goal.int_to_float-result-2
-int_to_float-result-2 c = single_exact _ (omega (arith, bits c))
+int_to_float-result-2 c = single_exact _ (omega (arith, bits c.before.before.before)
 
 pub returns : goal.returns
-returns c = let b = bits c in
+returns c = let b = bits c.before.before.before.before in
     costs-join _ _ _ _ _ _ _ _ _ c.window_entropies-bits.ensures b.le (omega (arith, b))

@@ -21,33 +21,33 @@ pub offset_bounds-left-t : goal.offset_bounds-left-t
 offset_bounds-left-t c = omega (arith, here c, c.well_formed)
 
 pub bounds-left-t : goal.bounds-left-t
-bounds-left-t c = omega (arith, here c)
+bounds-left-t c = omega (arith, here c.before
 
 pub add_count-le-requires : goal.add_count-le-requires
-add_count-le-requires c = omega (arith, here c)
+add_count-le-requires c = omega (arith, here c.before
 
 pub offset_bounds-node-t : goal.offset_bounds-node-t
-offset_bounds-node-t c = omega (arith, here c, c.well_formed)
+offset_bounds-node-t c = omega (arith, here c.before.before, c.well_formed)
 
 pub bounds-node-t : goal.bounds-node-t
-bounds-node-t c = omega (arith, here c)
+bounds-node-t c = omega (arith, here c.before.before.before
 
 pub overflow_sub-node : goal.overflow_sub-node
-overflow_sub-node c = omega (arith, here c)
+overflow_sub-node c = omega (arith, here c.before.before.before
 
 pub add_count-gt-requires : goal.add_count-gt-requires
-add_count-gt-requires c = omega (arith, here c)
+add_count-gt-requires c = omega (arith, here c.before.before.before
 
 pub overflow_step-t : goal.overflow_step-t
-overflow_step-t c = omega (arith, here c, c.well_formed)
+overflow_step-t c = omega (arith, here c.before.before.before.before, c.well_formed)
 
 pub loop-t-smaller : goal.loop-t-smaller
-loop-t-smaller c = omega (arith, here c)
+loop-t-smaller c = omega (arith, here c.before.before.before.before
 
 pub loop-t-preserved : goal.loop-t-preserved
 loop-t-preserved c = let turn = here c in
     let inv = c.loop-t.invariant in
-    let other = c.add_count-gt.ensures ∙ ap (with_count singles c.args.logs.now c.args.log-gt c.loop-t.gt) (sym turn.others) in (
+    let other = c.add_count-gt.ensures ∙ ap (with_count singles c.args.logs.now c.args.log_gt c.loop-t.gt) (sym turn.others) in (
       refl,
       entropy_turn _ _ _ _ _ _ _ turn.at c.add_count-le.ensures inv.1,
       entropy_turn _ _ _ _ _ _ _ turn.at_rest other inv.2,
@@ -60,5 +60,5 @@ returns c = let inv = c.loop-t.invariant in
     let node = c.args.node.now in
     let end = rest-length node left c.requires.long in
     let le = entropy_end _ _ _ _ _ _ c.loop-t-test.false inv.1 in
-    let gt = entropy_end c.args.logs.now c.args.log-gt (rest node left) c.loop-t.t c.loop-t.gt _ (omega (arith, c.loop-t-test.false, inv.0)) inv.2 in
+    let gt = entropy_end c.args.logs.now c.args.log_gt (rest node left) c.loop-t.t c.loop-t.gt _ (omega (arith, c.loop-t-test.false, inv.0)) inv.2 in
     cc

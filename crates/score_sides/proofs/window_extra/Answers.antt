@@ -19,28 +19,28 @@ pub offset_bounds-counts-t : goal.offset_bounds-counts-t
 offset_bounds-counts-t c = omega (arith, turn c, c.requires, c.well_formed, c.loop-t-test.true, c.loop-t.invariant.1)
 
 pub bounds-counts-t : goal.bounds-counts-t
-bounds-counts-t c = omega (arith, turn c, c.requires, c.well_formed, c.loop-t-test.true, c.loop-t.invariant.1)
+bounds-counts-t c = omega (arith, turn c.before, c.requires, c.well_formed, c.loop-t-test.true, c.loop-t.invariant.1)
 
 pub overflow_add-extra : goal.overflow_add-extra
-overflow_add-extra c = omega (arith, turn c, c.requires, c.well_formed, c.loop-t-test.true, c.loop-t.invariant.1)
+overflow_add-extra c = omega (arith, turn c.before, c.requires, c.well_formed, c.loop-t-test.true, c.loop-t.invariant.1)
 
 pub overflow_cast-extra : goal.overflow_cast-extra
-overflow_cast-extra c = omega (arith, turn c, c.requires, c.well_formed, c.loop-t-test.true, c.loop-t.invariant.1)
+overflow_cast-extra c = omega (arith, turn c.before, c.requires, c.well_formed, c.loop-t-test.true, c.loop-t.invariant.1)
 
 pub overflow_sub-extra : goal.overflow_sub-extra
-overflow_sub-extra c = omega (arith, turn c, c.requires, c.well_formed, c.loop-t-test.true, c.loop-t.invariant.1)
+overflow_sub-extra c = omega (arith, turn c.before, c.requires, c.well_formed, c.loop-t-test.true, c.loop-t.invariant.1)
 
 pub overflow_mul-extra : goal.overflow_mul-extra
-overflow_mul-extra c = omega (arith, turn c, c.requires, c.well_formed, c.loop-t-test.true, c.loop-t.invariant.1)
+overflow_mul-extra c = omega (arith, turn c.before, c.requires, c.well_formed, c.loop-t-test.true, c.loop-t.invariant.1)
 
 pub overflow_add-extra-in-loop-t : goal.overflow_add-extra-in-loop-t
-overflow_add-extra-in-loop-t c = omega (arith, turn c, c.requires, c.well_formed, c.loop-t-test.true, c.loop-t.invariant.1)
+overflow_add-extra-in-loop-t c = omega (arith, turn c.before, c.requires, c.well_formed, c.loop-t-test.true, c.loop-t.invariant.1)
 
 pub overflow_step-t : goal.overflow_step-t
-overflow_step-t c = omega (arith, turn c, c.requires, c.well_formed, c.loop-t-test.true, c.loop-t.invariant.1)
+overflow_step-t c = omega (arith, turn c.before, c.requires, c.well_formed, c.loop-t-test.true, c.loop-t.invariant.1)
 
 pub loop-t-smaller : goal.loop-t-smaller
-loop-t-smaller c = omega (arith, turn c, c.requires, c.well_formed, c.loop-t-test.true, c.loop-t.invariant.1)
+loop-t-smaller c = omega (arith, turn c.before, c.requires, c.well_formed, c.loop-t-test.true, c.loop-t.invariant.1)
 
 pub loop-t-preserved : goal.loop-t-preserved
 loop-t-preserved c = (refl, omega (arith, c.loop-t.invariant.1), (turn c).whole)

@@ -54,69 +54,69 @@ pub offset_bounds-preds-j : goal.offset_bounds-preds-j
 offset_bounds-preds-j c = omega (arith, here c, c.well_formed)
 
 pub bounds-preds-j : goal.bounds-preds-j
-bounds-preds-j c = omega (arith, here c, c.well_formed)
+bounds-preds-j c = omega (arith, here c.before, c.well_formed)
 
 pub overflow_cast-start : goal.overflow_cast-start
-overflow_cast-start c = omega (arith, here c, c.well_formed)
+overflow_cast-start c = omega (arith, here c.before, c.well_formed)
 
 pub overflow_mul-start : goal.overflow_mul-start
-overflow_mul-start c = omega (arith, here c, c.well_formed)
+overflow_mul-start c = omega (arith, here c.before, c.well_formed)
 
 pub overflow_add-end : goal.overflow_add-end
-overflow_add-end c = omega (arith, here c, c.well_formed)
+overflow_add-end c = omega (arith, here c.before, c.well_formed)
 
 pub offset_bounds-node-start : goal.offset_bounds-node-start
-offset_bounds-node-start c = omega (arith, here c, c.well_formed)
+offset_bounds-node-start c = omega (arith, here c.before, c.well_formed)
 
 pub slice-bounds-window-of-end : goal.slice-bounds-window-of-end
-slice-bounds-window-of-end c = omega (arith, here c, c.well_formed)
+slice-bounds-window-of-end c = omega (arith, here c.before, c.well_formed)
 
 pub window_of-w-requires : goal.window_of-w-requires
-window_of-w-requires c = let h = here c in
+window_of-w-requires c = let h = here c.before.before in
     omega (arith, h, part_length c.args.node.now (get_or c.args.preds.now c.loop-j.j 0 * c.args.alphabet) c.args.alphabet h.room)
 
 pub overflow_cast-firsts : goal.overflow_cast-firsts
-overflow_cast-firsts c = let h = here c in
-    omega (arith, h, found c c.window_of-w.result (c.window_of-w.ensures ∙ part_window _ _ _ h.room))
+overflow_cast-firsts c = let h = here c.before.before.before.before in
+    omega (arith, h, found c.before.before.before.before c.window_of-w.result (c.window_of-w.ensures ∙ part_window _ _ _ h.room))
 
 pub offset_bounds-firsts-j : goal.offset_bounds-firsts-j
-offset_bounds-firsts-j c = omega (arith, here c, c.well_formed)
+offset_bounds-firsts-j c = omega (arith, here c.before.before.before.before, c.well_formed)
 
 pub bounds-firsts-j : goal.bounds-firsts-j
-bounds-firsts-j c = omega (arith, here c, c.well_formed)
+bounds-firsts-j c = omega (arith, here c.before.before.before.before, c.well_formed)
 
 pub offset_bounds-offs-j : goal.offset_bounds-offs-j
-offset_bounds-offs-j c = omega (arith, here c, c.well_formed)
+offset_bounds-offs-j c = omega (arith, here c.before.before.before.before, c.well_formed)
 
 pub bounds-offs-j : goal.bounds-offs-j
-bounds-offs-j c = omega (arith, here c, c.well_formed)
+bounds-offs-j c = omega (arith, here c.before.before.before.before.before, c.well_formed)
 
 pub overflow_sub-offs : goal.overflow_sub-offs
-overflow_sub-offs c = let h = here c in
-    omega (arith, h, found c c.window_of-w.result (c.window_of-w.ensures ∙ part_window _ _ _ h.room))
+overflow_sub-offs c = let h = here c.before.before.before.before.before.before in
+    omega (arith, h, found c.before.before.before.before.before.before c.window_of-w.result (c.window_of-w.ensures ∙ part_window _ _ _ h.room))
 
 pub overflow_cast-offs : goal.overflow_cast-offs
-overflow_cast-offs c = let h = here c in
-    omega (arith, h, found c c.window_of-w.result (c.window_of-w.ensures ∙ part_window _ _ _ h.room))
+overflow_cast-offs c = let h = here c.before.before.before.before.before.before in
+    omega (arith, h, found c.before.before.before.before.before.before c.window_of-w.result (c.window_of-w.ensures ∙ part_window _ _ _ h.room))
 
 pub overflow_add-offs : goal.overflow_add-offs
-overflow_add-offs c = let h = here c in
-    omega (arith, h, found c c.window_of-w.result (c.window_of-w.ensures ∙ part_window _ _ _ h.room))
+overflow_add-offs c = let h = here c.before.before.before.before.before.before in
+    omega (arith, h, found c.before.before.before.before.before.before c.window_of-w.result (c.window_of-w.ensures ∙ part_window _ _ _ h.room))
 
 pub overflow_add-offs-in-loop-j : goal.overflow_add-offs-in-loop-j
-overflow_add-offs-in-loop-j c = omega (arith, here c, c.well_formed)
+overflow_add-offs-in-loop-j c = omega (arith, here c.before.before.before.before.before.before, c.well_formed)
 
 pub offset_bounds-offs-j-in-loop-j : goal.offset_bounds-offs-j-in-loop-j
-offset_bounds-offs-j-in-loop-j c = omega (arith, here c, c.well_formed)
+offset_bounds-offs-j-in-loop-j c = omega (arith, here c.before.before.before.before.before.before, c.well_formed)
 
 pub bounds-offs-j-in-loop-j : goal.bounds-offs-j-in-loop-j
-bounds-offs-j-in-loop-j c = omega (arith, here c, c.well_formed)
+bounds-offs-j-in-loop-j c = omega (arith, here c.before.before.before.before.before.before, c.well_formed)
 
 pub overflow_step-j : goal.overflow_step-j
-overflow_step-j c = omega (arith, here c, c.well_formed)
+overflow_step-j c = omega (arith, here c.before.before.before.before.before.before, c.well_formed)
 
 pub loop-j-smaller : goal.loop-j-smaller
-loop-j-smaller c = omega (arith, here c, c.well_formed)
+loop-j-smaller c = omega (arith, here c.before.before.before.before.before.before, c.well_formed)
 
 pub loop-j-preserved : goal.loop-j-preserved
 loop-j-preserved c = let h = here c in

@@ -5,10 +5,10 @@ use Rattle.seed_leaves.proofs.Planting.{made_widens, offer-room}
 use Rattle.seed_leaves.proofs.plant_leaf.Goals as goal
 
 pub enqueue-waiting-requires : goal.enqueue-waiting-requires
-enqueue-waiting-requires c = (c.requires.few, offer-room c.make_leaf-leaf.ensures.0 c.requires.queue_room)
+enqueue-waiting-requires c = (c.requires.few, offer-room c.make_leaf-leaf.ensures.answer c.requires.queue_room)
 
 pub float_to_float-bits : goal.float_to_float-bits
-float_to_float-bits c = made_widens c.make_leaf-leaf.ensures.0 c.requires.fitting c.requires.spanned
+float_to_float-bits c = made_widens c.make_leaf-leaf.ensures.answer c.requires.fitting c.requires.spanned
 
 pub overflow_add-result : goal.overflow_add-result
 overflow_add-result c = record { fits = omega (arith, c.requires.few) }
@@ -41,12 +41,12 @@ pub returns : goal.returns
 returns c = let learnt = c.enqueue-waiting.ensures in
     record {
       leaf = c.make_leaf-leaf.result;
-      c.make_leaf-leaf = c.make_leaf-leaf.ensures.0;
+      c.make_leaf-leaf = c.make_leaf-leaf.ensures.answer;
       nodes = c.put_leaf.ensures;
       queued = learnt.0;
       counted = refl;
       many = learnt.1.0;
       queue = learnt.1.1;
       summed = refl;
-      zeros = c.make_leaf-leaf.ensures.1;
+      zeros = c.make_leaf-leaf.ensures.zeros;
     }

@@ -77,5 +77,5 @@ returns c given p = let start = c.args in
     (node_lists start.words.now start.values.now start.costs.now)
     (node_lists c.loop-tree.words c.loop-tree.values c.loop-tree.costs)
     (queue_lists start.queue-words.now start.queue-values.now start.queue-gains.now)
-    (queue_lists c.loop-tree.queue-words c.loop-tree.queue-values c.loop-tree.queue-gains)
+    (queue_lists c.loop-tree.queue_words c.loop-tree.queue_values c.loop-tree.queue_gains)
     c.loop-tree.tree start.count k start.score-split given) e (c.loop-tree.invariant.planted given p)

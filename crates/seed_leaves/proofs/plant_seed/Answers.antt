@@ -48,9 +48,9 @@ pub shape_of-counts : goal.shape_of-counts
 shape_of-counts c = c.plant_nodes.auto.counts ∙ c.order_by_leaf.auto.counts
 
 pub returns : goal.returns
-returns c = let start = entry c in
+returns c = let start = entry c.before in
     let ordered = c.order_by_leaf.ensures in
     let given = rows_held start.args.props.now start.args.tok.now start.args.res.now in
     let leaves = c.Leaves-of.ensures in
     let planted = c.plant_nodes.ensures given (plants start.pre ordered.1 ordered.0 leaves) in
-    (seeded start.pre ordered.1 ordered.0 leaves planted, seeded-zeros start.pre ordered.1 ordered.0 leaves planted)
+    record { planted = seeded start.pre ordered.1 ordered.0 leaves planted; zeros = seeded-zeros start.pre ordered.1 ordered.0 leaves planted }

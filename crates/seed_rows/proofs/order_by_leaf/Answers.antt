@@ -31,7 +31,7 @@ slice_bounds-order_by_number-end-2 c = sym (space-long c.requires (numbers c) c.
 
 pub order_by_number-requires : goal.order_by_number-requires
 order_by_number-requires c = let pre = c.requires in
-    (hold-rows pre (numbers c) c.leaf_numbers.auto.number c.leaf_numbers.ensures, hold-space pre (numbers c) c.leaf_numbers.auto.number c.leaf_numbers.ensures)
+    record { hold_rows = hold-rows pre (numbers c) c.leaf_numbers.auto.number c.leaf_numbers.ensures; holds = hold-space pre (numbers c) c.leaf_numbers.auto.number c.leaf_numbers.ensures }
 
 pub pair_spans-requires : goal.pair_spans-requires
 pair_spans-requires c = let pre = c.requires in
@@ -56,13 +56,10 @@ shape_of-words c = c.pair_spans.auto.words
 pub returns : goal.returns
 returns c = let pre = c.requires in
     let is = c.leaf_numbers.ensures in
-    let ordered = c.order_by_number.ensures in (
-      record {
+    let ordered = c.order_by_number.ensures in record { rows = record {
         rows = rows-ordered pre (numbers c) c.leaf_numbers.auto.number is (rows c) (space c) c.order_by_number.auto.space ordered;
         size = record { props = c.order_by_number.auto.props; toks = c.order_by_number.auto.tok; res = c.order_by_number.auto.res };
         spans_are = spans-of pre (numbers c) c.leaf_numbers.auto.number is (rows c) (space c) c.order_by_number.auto.space ordered
             c.pair_spans.ensures;
-      },
-      space-clear pre (numbers c) c.leaf_numbers.auto.number is (rows c) (space c) c.order_by_number.auto.space ordered c.clear_u32.new.list
-          c.clear_u32.ensures,
-    )
+      }; zeros = space-clear pre (numbers c) c.leaf_numbers.auto.number is (rows c) (space c) c.order_by_number.auto.space ordered c.clear_u32.new.list
+          c.clear_u32.ensures }

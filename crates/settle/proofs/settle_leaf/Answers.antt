@@ -6,7 +6,7 @@ use borrow.Author.Tests.{eq-eqb, ne_eqb}
 use Rattle.settle.proofs.settle_leaf.Goals as goal
 
 pub returns-then-kind_at-eq1 : goal.returns-then-kind_at-eq1
-returns-then-kind_at-eq1 c = (rw (ap (λ (k : ℕ). eqb k 1) (sym c.kind_at.ensures) ∙ eq-eqb _ _ c.if-kind_at-eq1.true), refl)
+returns-then-kind_at-eq1 c = record { tokens = rw (ap (λ (k : ℕ). eqb k 1) (sym c.kind_at.ensures) ∙ eq-eqb _ _ c.if-kind_at-eq1.true); zeros = refl }
 
 pub mode_step-requires : goal.mode_step-requires
 mode_step-requires c = let is = ap (λ (k : ℕ). eqb k 1) (sym c.kind_at.ensures) ∙ ne_eqb _ _ c.if-kind_at-eq1.false in
@@ -14,4 +14,4 @@ mode_step-requires c = let is = ap (λ (k : ℕ). eqb k 1) (sym c.kind_at.ensure
 
 pub returns : goal.returns
 returns c = let is = ap (λ (k : ℕ). eqb k 1) (sym c.kind_at.ensures) ∙ ne_eqb _ _ c.if-kind_at-eq1.false in
-    (rw is (rw (c.span_at_lem.ensures.0, c.span_at_lem.ensures.1) at c.mode_step.ensures.1.0), c.mode_step.ensures.1.1.0)
+    record { tokens = rw is (rw (c.span_at_lem.ensures.0, c.span_at_lem.ensures.1) at c.mode_step.ensures.tokens); zeros = c.mode_step.ensures.zeros }

@@ -23,9 +23,9 @@ loop-i-preserved c = let args = c.args in
     (
       omega arith,
       c.settle_leaf.auto.tok ∙ c.loop-i.invariant.1,
-      c.settle_leaf.ensures.0 ∙ ap (leaf_tokens args.words.now args.uses args.res.now c.loop-i.i) c.loop-i.invariant.2
+      c.settle_leaf.ensures.tokens ∙ ap (leaf_tokens args.words.now args.uses args.res.now c.loop-i.i) c.loop-i.invariant.2
           ∙ settled-more args.words.now args.uses args.res.now c.loop-i.i args.tok.now,
-      c.settle_leaf.ensures.1 ∙ c.loop-i.invariant.3,
+      c.settle_leaf.ensures.zeros ∙ c.loop-i.invariant.3,
     )
 
 pub shape_of-tok : goal.shape_of-tok
@@ -36,7 +36,4 @@ shape_of-counts c = ap length c.loop-i.invariant.3
 
 pub returns : goal.returns
 returns c = let args = c.args in
-    let all : c.loop-i.i ≡ args.count = omega arith in (
-      λ tree lent props holds. settles holds (rw all at c.loop-i.invariant.2) c.loop-i.invariant.1,
-      c.loop-i.invariant.3,
-    )
+    let all : c.loop-i.i ≡ args.count = omega arith in record { rows = λ tree lent props holds. settles holds (rw all at c.loop-i.invariant.2) c.loop-i.invariant.1; zeros = c.loop-i.invariant.3 }

@@ -35,11 +35,11 @@ towards-node-requires c = let inside = c.loop-node.invariant.1.inside in
     record { words_there = omega arith; value_there = omega arith; prop_there = omega (arith, c.requires.one_row) }
 
 pub loop-node-smaller : goal.loop-node-smaller
-loop-node-smaller c = let next = on c in
+loop-node-smaller c = let next = on c.before in
     rw c.towards-node.ensures (omega (arith, next.1, next.2.inside))
 
 pub loop-node-preserved : goal.loop-node-preserved
-loop-node-preserved c = (c.loop-node.invariant.0, rw c.towards-node.ensures (on c).2)
+loop-node-preserved c = (c.loop-node.invariant.0, rw c.towards-node.ensures (on c.before).2)
 
 pub returns : goal.returns
 returns c costs = let start = c.args in

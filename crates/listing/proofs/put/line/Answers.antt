@@ -3,8 +3,7 @@ use mathlib.Core.Path.{◌≡◌}
 use mathlib.Core.List.{List, [], ◌∷◌, ◌++◌}
 use Prim.Native.Nat.{ℕ}
 use mir.Syntax.{w32}
-use mir.Val.{to_z, of_z}
-use mir.ValLaws.{to_z-of_z}
+use mir.Val.{of_z}
 use Rattle.listing.specs.Text.{signed_decimal, joined, Room}
 use Rattle.listing.specs.Listing.{field, line_of}
 use Rattle.listing.proofs.Writing.{room-left, room-more, wrote-more}
@@ -12,7 +11,7 @@ use Rattle.listing.proofs.put.line.Goals as goal
 
 -- the line's pieces, as the code has them
 abbrev sign : goal.After-uint_encode-coded → List ℕ
-sign c = signed_decimal (to_z w32 (of_z w32 c.args.z))
+sign c = signed_decimal ((of_z w32 c.args.z))
 
 abbrev rest : goal.After-uint_encode-coded → List ℕ
 rest c = let e = c.uint_encode-coded.result in joined field (c.pack_signed-packed.result ∷ e.token ∷ e.nbits ∷ e.bits ∷ [])
@@ -20,7 +19,7 @@ rest c = let e = c.uint_encode-coded.result in joined field (c.pack_signed-packe
 pieces : (c : goal.After-uint_encode-coded) → line_of c.args.z ≡ sign c ++ rest c ++ (10 ∷ [])
 unfolding line_of
 pieces c =
-    rw (c.uint_encode-coded.ensures, c.pack_signed-packed.ensures, to_z-of_z w32 c.args.z c.ranges.z)
+    rw (c.uint_encode-coded.ensures, c.pack_signed-packed.ensures)
 
 room : (c : goal.After-uint_encode-coded) → Room c.args.out.now c.args.at (sign c ++ rest c ++ (10 ∷ []))
 room c = rw (pieces c) at c.requires
@@ -29,7 +28,7 @@ room-rest : (c : goal.After-uint_encode-coded) → Room c.args.out.now c.args.at
 room-rest c = room-left c.args.out.now c.args.at (sign c ++ rest c) (10 ∷ []) (room c)
 
 pub signed_decimal-first-requires : goal.signed_decimal-first-requires
-signed_decimal-first-requires c = room-left c.args.out.now c.args.at (sign c) (rest c) (room-rest c)
+signed_decimal-first-requires c = room-left c.args.out.now c.args.at (sign c.before (rest c.before (room-rest c.before
 
 pub fields-end-requires : goal.fields-end-requires
 fields-end-requires c = room-more c.signed_decimal-first.ensures (rest c) (room-rest c)

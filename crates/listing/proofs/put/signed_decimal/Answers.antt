@@ -16,7 +16,7 @@ room : (c : goal.Then-z-lt0) → Room c.args.out.now c.args.at ((45 ∷ []) ++ d
 room c = rw (negative c) at c.requires
 
 pub byte-first-requires : goal.byte-first-requires
-byte-first-requires c = room-left c.args.out.now c.args.at (45 ∷ []) (decimal c.magnitude-size.result) (room c)
+byte-first-requires c = room-left c.args.out.now c.args.at (45 ∷ []) (decimal c.magnitude-size.result) (room c.before
 
 pub decimal-requires : goal.decimal-requires
 decimal-requires c = room-more c.byte-first.ensures (decimal c.magnitude-size.result) (room c)
@@ -25,7 +25,7 @@ pub returns-then-z-lt0 : goal.returns-then-z-lt0
 returns-then-z-lt0 c = rw (negative c) (wrote-more c.byte-first.ensures c.decimal.ensures (room c))
 
 pub decimal-requires-2 : goal.decimal-requires-2
-decimal-requires-2 c = rw (natural c) at c.requires
+decimal-requires-2 c = rw (natural c.before at c.requires
 
 pub returns : goal.returns
-returns c = rw (natural c) c.decimal-2.ensures
+returns c = rw (natural c.before.before.before.before c.decimal-2.ensures
