@@ -4,6 +4,8 @@ use Prim.Native.Nat.{ℕ, ◌-◌, ◌*◌}
 use native.Mathlib.Omega.{arith}
 use lib.IntN.{pos}
 use lib.ListN.{get_or}
+use mir.Syntax.{w32}
+use mir.ValLaws.{to_z-of_z}
 use Rattle.model.specs.Flat.{clamped}
 use Rattle.cost.specs.Histograms.{RowFits}
 use Rattle.flat.specs.Flat.{CountsGroups}
@@ -14,7 +16,7 @@ use Rattle.flat.proofs.count_groups.Goals as goal
 own : (c : goal.After-group_of-group) → let props = c.args.props.now in c.Group-of.result ≡ clamped (get_or props (c.loop-row.row * 24) (pos 0))
 own c =
     let props = c.args.props.now in
-    c.Group-of.ensures
+    rw (to_z-of_z w32 (get_or props (c.loop-row.row * 24) (pos 0)) (record { sfits = c.group_of-arg-1.given })) at c.Group-of.ensures
 
 -- it has room there
 fits : (c : goal.After-slice_known-in-loop-row-1)

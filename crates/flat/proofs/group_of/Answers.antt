@@ -13,13 +13,13 @@ own c =
     clamped-own v (rw back at c.if-v-lt0.false) (rw back at c.if-v-gt3.false)
 
 pub returns-then-v-lt0 : goal.returns-then-v-lt0
-returns-then-v-lt0 c = clamped_low c.args.v (c.if-v-lt0.true)
+returns-then-v-lt0 c = clamped_low c.args.v (rw (to_z-of_z w32 c.args.v c.ranges.v) at c.if-v-lt0.true)
 
 pub returns-then-v-gt3 : goal.returns-then-v-gt3
-returns-then-v-gt3 c = clamped_high c.args.v (c.if-v-gt3.true)
+returns-then-v-gt3 c = clamped_high c.args.v (rw (to_z-of_z w32 c.args.v c.ranges.v) at c.if-v-gt3.true)
 
 pub overflow_cast-result : goal.overflow_cast-result
-overflow_cast-result c = ((own c).whole, omega (arith, (own c).small))
+overflow_cast-result c = rw (to_z-of_z w32 c.args.v c.ranges.v) ((own c).whole, omega (arith, (own c).small))
 
 pub returns : goal.returns
-returns c = (own c).is
+returns c = rw (to_z-of_z w32 c.args.v c.ranges.v) (own c).is

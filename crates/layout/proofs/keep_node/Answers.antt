@@ -1,6 +1,9 @@
 -- `layout::keep_node` meets its contract: a split keeps its fields, and an empty leaf its predictor and offset. Assumes nothing.
 use mathlib.Core.Path.{◌∙◌}
+use mir.Syntax.{w32}
+use mir.ValLaws.{to_z-of_z}
 use lib.Ieee.{of_bits}
+use Rattle.layout.specs.Layout.{offset_at}
 use borrow.Author.Tests.{eq-eqb, ne_eqb}
 use Rattle.layout.specs.Tree.{NodeLists, node_lists}
 use Rattle.layout.proofs.Stores.{kept-split, kept-leaf}
@@ -19,4 +22,4 @@ pub returns : goal.returns
 unfolding of_bits
 returns c = let offset = c.info-1.given in
     c.put_leaf.ensures ∙ kept-leaf (lists c) c.args.i (ne_eqb _ 1 c.if-words-i-eq1.false) _
-    ()
+    (rw (to_z-of_z w32 (offset_at c.args.values.now c.args.i) (record { sfits = offset })))

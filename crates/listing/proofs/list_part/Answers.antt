@@ -25,7 +25,7 @@ is : (c : goal.After-residual_at) → (of_z w32 c.residual_at.result) ≡ residu
 is c = to_z-of_z w32 c.residual_at.result (record { sfits = c.residual_at.type_inv }) ∙ c.residual_at.ensures
 
 fits : (c : goal.After-residual_at) → mag ((of_z w32 c.residual_at.result)) < 2 ^ 31
-fits c = c.residual_at.type_inv
+fits c = rw (to_z-of_z w32 c.residual_at.result (record { sfits = c.residual_at.type_inv })) c.residual_at.type_inv
 
 pub smaller-taken-requires : goal.smaller-taken-requires
 smaller-taken-requires c = tt

@@ -7,6 +7,7 @@ use lib.IntN.{pos}
 use lib.Signed.{lt_z}
 use mir.Syntax.{w32}
 use mir.Val.{of_z}
+use mir.ValLaws.{to_z-of_z}
 use borrow.Author.Tests.{not-true, not-false}
 use Rattle.lookup.specs.Ways.{goes_on, stepped}
 use Rattle.lookup.proofs.Looking.{in_order, child_of, split_in_order, stepped-fault, stepped-on}
@@ -33,7 +34,10 @@ numbers : (c : goal.After-struct_told-1) →
     lt_z ((of_z w32 start.m.val)) ((of_z w32 prop)) ≡ lt_z start.m.val prop
 numbers c =
     let start = c.args in
-    
+    rw (
+      to_z-of_z w32 start.m.val (record { sfits = c.struct_told-1.given.1.1.0.1 }),
+      to_z-of_z w32 (get_or start.props.now start.m.prop (pos 0)) (record { sfits = c.t21-1.given }),
+    )
 
 pub returns-then-not-prop-i : goal.returns-then-not-prop-i
 returns-then-not-prop-i c = let start = c.args in c.refuse.ensures ∙ sym (stepped-fault start.m start.node.0 start.count start.props.now (disorderly c.before)

@@ -8,6 +8,7 @@ use lib.ListN.{drop, replicate}
 use lib.Seq.{slice, length-slice}
 use mir.Syntax.{w32}
 use mir.Val.{SFits}
+use mir.ValLaws.{to_z-of_z, to_z_pos}
 use Rattle.mode.specs.Counted.{tallied, first_best}
 use Rattle.mode.proofs.Above.{fits-between}
 use Rattle.mode.proofs.Tallies.{countable, cleared}
@@ -22,7 +23,7 @@ module _ (c : goal.After-first_best-best) where
   abbrev best : ℕ
   best = c.first_best-best.result
   counted : c.tally.new.counts ≡ tallied low values c.args.counts.now
-  counted = c.tally.ensures
+  counted = rw (to_z-of_z w32 low c.ranges.low) at c.tally.ensures
   best-is : best ≡ first_best (tallied low values c.args.counts.now) c.args.width
   best-is = c.first_best-best.ensures ∙ ap (λ (l : List ℕ). first_best l c.args.width) counted
   below : best < c.args.width
@@ -34,18 +35,19 @@ module _ (c : goal.After-first_best-best) where
 
 pub tally-requires : goal.tally-requires
 tally-requires c = let narrow = c.requires.narrow in
-    let n = length-slice c.args.first c.args.end c.args.res.now c.requires.inside.inside in record { inside = c.requires.inside; countable = (countable c.args.low c.args.width _ _ narrow.near narrow.narrow (omega (arith, n, c.requires.inside.few)) c.requires.clear) }
+    let n = length-slice c.args.first c.args.end c.args.res.now c.requires.inside.inside in record { inside = c.requires.inside; countable = rw (to_z-of_z w32 c.args.low c.ranges.low) (countable c.args.low c.args.width _ _ narrow.near narrow.narrow (omega (arith, n, c.requires.inside.few)) c.requires.clear) }
 
 pub overflow_cast-result : goal.overflow_cast-result
 overflow_cast-result c = record { sfits = small c.before.before.before.before }
 
 pub overflow_add-result : goal.overflow_add-result
-overflow_add-result c = (sum c)
+overflow_add-result c = rw (to_z-of_z w32 (low c) c.ranges.low, to_z_pos w32 (best c) (small c)) (sum c)
 
 pub returns : goal.returns
 returns c = let counts = c.args.counts.now in
     let width = c.args.width in
     let narrow = c.requires.narrow in
-    let clear = c.requires.clear in record { answer = (ap (λ (n : ℕ). low c +ℤ pos n) (best-is c) ∙ oftenest-counted (low c) width (values c) counts narrow.near narrow.narrow clear); zeros = c.clear_first_u32.ensures
+    let clear = c.requires.clear in record { answer = rw (to_z-of_z w32 (low c) c.ranges.low, to_z_pos w32 (best c) (small c), to_z-of_z w32 (low c +ℤ pos (best c)) (sum c))
+          (ap (λ (n : ℕ). low c +ℤ pos n) (best-is c) ∙ oftenest-counted (low c) width (values c) counts narrow.near narrow.narrow clear); zeros = c.clear_first_u32.ensures
           ∙ ap (λ (l : List ℕ). replicate width 0 ++ drop width l) (counted c)
           ∙ cleared (low c) width (values c) counts narrow.near narrow.narrow clear }

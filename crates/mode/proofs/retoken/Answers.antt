@@ -26,7 +26,7 @@ module _ (c : goal.In-loop-i) where
   left = rw turn at c.loop-i.invariant.2
 
 pub loop-i-init : goal.loop-i-init
-loop-i-init c = (omega arith, refl, c.requires.each, refl, λ k from below. absurd (omega arith))
+loop-i-init c = (omega arith, refl, rw (to_z-of_z w32 c.args.mode c.ranges.mode) c.requires.each, refl, λ k from below. absurd (omega arith))
 
 pub zero_token-requires : goal.zero_token-requires
 zero_token-requires c = rw (to_z-of_z w32 (value c.before (record { sfits = c.zero_token-arg-1.given })) (left c.before).0
@@ -34,7 +34,7 @@ zero_token-requires c = rw (to_z-of_z w32 (value c.before (record { sfits = c.ze
 pub loop-i-preserved : goal.loop-i-preserved
 unfolding rezeroed
 loop-i-preserved c = let made = c.zero_token.ensures in
-    let token = made.0 in
+    let token = rw (to_z-of_z w32 (value c) (record { sfits = c.zero_token-arg-1.given })) at made.0 in
     let tok = c.loop-i.tok in
     let i = c.loop-i.i in (
       omega arith,
@@ -49,4 +49,4 @@ shape_of-tok c = c.loop-i.invariant.1
 
 pub returns : goal.returns
 unfolding rezeroed
-returns c = let done = slice-done c.args.res.now c.loop-i.i c.args.end (omega arith) in record { tokens = rw (done) at c.loop-i.invariant.3; low = λ k from below. c.loop-i.invariant.4 k from (omega arith) }
+returns c = let done = slice-done c.args.res.now c.loop-i.i c.args.end (omega arith) in record { tokens = rw (done, to_z-of_z w32 c.args.mode c.ranges.mode) at c.loop-i.invariant.3; low = λ k from below. c.loop-i.invariant.4 k from (omega arith) }

@@ -35,7 +35,7 @@ at_lt : (c : goal.After-offset-at) → c.offset-at.result < 4096
 at_lt c = let h = (left c.before.before).near.0 in omega (arith, at c, place h, h.near)
 
 pub loop-i-init : goal.loop-i-init
-loop-i-init c = (omega arith, refl, c.requires.countable, refl)
+loop-i-init c = (omega arith, refl, rw (to_z-of_z w32 c.args.low c.ranges.low) c.requires.countable, refl)
 
 pub offset-at-requires : goal.offset-at-requires
 offset-at-requires c = let h = (left c.before).near.0 in
@@ -63,4 +63,4 @@ shape_of-counts c = c.loop-i.invariant.1
 pub returns : goal.returns
 unfolding tallied
 returns c = let done = slice-done c.args.res.now c.loop-i.i c.args.end (omega arith) in
-    rw (done) at c.loop-i.invariant.3
+    rw (done, to_z-of_z w32 c.args.low c.ranges.low) at c.loop-i.invariant.3

@@ -5,6 +5,7 @@ use native.Mathlib.Omega.{arith}
 use lib.IntN.{◌-ℤ◌}
 use mir.Syntax.{w32}
 use mir.Val.{SFits}
+use mir.ValLaws.{to_z-of_z}
 use Rattle.model.specs.Mode.{zero_token}
 use Rattle.model.specs.Pack.{packed}
 use Rattle.model.specs.Token.{token_of, encoded_of}
@@ -21,13 +22,13 @@ token c =
     let v = c.args.value in
     let m = c.args.mode in
     rw c.uint_encode.ensures
-    (ap token_of (c.pack_signed.ensures))
+    (ap token_of (rw (to_z-of_z w32 v c.ranges.value, to_z-of_z w32 m c.ranges.mode, to_z-of_z w32 (v -ℤ m) (difference c)) at c.pack_signed.ensures))
 
 small : (c : goal.After-struct_known-1) → c.uint_encode.result.token ≤ 127
 small c = rw (token c) (residual_token_fits (c.args.value -ℤ c.args.mode) (difference c).sfits)
 
 pub overflow_sub-value : goal.overflow_sub-value
-overflow_sub-value c = (difference c)
+overflow_sub-value c = rw (to_z-of_z w32 c.args.value c.ranges.value, to_z-of_z w32 c.args.mode c.ranges.mode) (difference c)
 
 pub pack_signed-requires : goal.pack_signed-requires
 pack_signed-requires c = tt

@@ -4,6 +4,8 @@ use mathlib.Core.List.{append-nil}
 use Prim.Native.Nat.{◌+◌}
 use native.Mathlib.Nat.{add-zero}
 use native.Mathlib.Omega.{arith}
+use mir.Syntax.{w32}
+use mir.ValLaws.{to_z-of_z}
 use Rattle.model.specs.Single.{singles}
 use Rattle.model.specs.Job as model
 use Rattle.model.specs.Lent.{Waiting}
@@ -38,7 +40,7 @@ returns c = let stored = c.put_pending.ensures in
     let a = c.args in
     let o = offered c in
     let w : Waiting singles = record { node = a.node; depth = a.depth; offer = o } in
-    rw (stored.0, stored.1.0, stored.1.1, c.offer-1.given.1) (
+    rw (stored.0, stored.1.0, stored.1.1, to_z-of_z w32 o.val (record { sfits = c.known_told-1.given.1.0.1 }), c.offer-1.given.1) (
       λ leaves h. added (lists c) leaves a.waiting h w (room c),
       (refl, same-added (lists c) a.waiting w),
     )

@@ -2,6 +2,9 @@
 use mathlib.Core.Path.{◌≡◌}
 use Prim.Native.Nat.{◌<◌, ◌≤◌, ◌+◌, ◌-◌, ◌*◌}
 use native.Mathlib.Omega.{arith}
+use mir.Syntax.{w32}
+use mir.ValLaws.{to_z-of_z}
+use lib.IntN.{pos}
 use lib.ListN.{length, get_or}
 use Rattle.model.specs.Settings.{max_rows}
 use Rattle.score.specs.Scored.{size_at}
@@ -66,5 +69,5 @@ lowest_sides-sides-requires c = c.requires.binned.ready c.args.k c.requires.k_in
 pub returns : goal.returns
 returns c = let h = here c in
     let size = found c.before.before.before.before.before.before.before in
-    
+    rw (to_z-of_z w32 (get_or c.args.cands.now c.args.k (pos 0)) (record { sfits = c.result-1.given }))
     (at_both _ _ _ _ _ _ _ _ _ _ _ c.rows_in-size.result size c.if-size-eq0.false c.if-size-total.false (omega (arith, h, size)) h.reach c.lowest_sides-sides.result c.lowest_sides-sides.ensures)

@@ -4,6 +4,9 @@ use Prim.Native.Nat.{◌-◌}
 use native.Mathlib.Omega.{arith}
 use mir.Syntax.{w32}
 use mir.Val.{of_z}
+use mir.ValLaws.{to_z-of_z}
+use lib.IntN.{pos}
+use lib.ListN.{get_or}
 use Rattle.score_bins.proofs.Binning.{bin-turn, bin-end, bin_of_le}
 use Rattle.score_bins.proofs.bin_for.Goals as goal
 
@@ -14,8 +17,8 @@ pub next_bin-bin-requires : goal.next_bin-bin-requires
 next_bin-bin-requires c = omega (arith, bin_of_le c.args.cands.now ((of_z w32 c.args.v)), c.loop-k.invariant.1)
 
 pub loop-k-preserved : goal.loop-k-preserved
-loop-k-preserved c = let one = c.next_bin-bin.ensures in
+loop-k-preserved c = let one = rw (to_z-of_z w32 (get_or c.args.cands.now c.loop-k.k (pos 0)) (record { sfits = c.next_bin-arg-1.given })) at c.next_bin-bin.ensures in
     (refl, bin-turn c.args.cands.now ((of_z w32 c.args.v)) c.loop-k.k c.loop-k.bin c.next_bin-bin.result _ c.loop-k-test.true one c.loop-k.invariant.1)
 
 pub returns : goal.returns
-returns c = (bin-end _ _ _ _ _ c.loop-k-test.false c.loop-k.invariant.1)
+returns c = rw (to_z-of_z w32 _ c.ranges.v) at (bin-end _ _ _ _ _ c.loop-k-test.false c.loop-k.invariant.1)

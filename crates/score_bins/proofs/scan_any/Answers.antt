@@ -2,6 +2,8 @@
 use mathlib.Core.Path.{◌≡◌, refl, sym, ap, ◌∙◌}
 use Prim.Native.Nat.{ℕ, ◌≤◌, ◌<◌, ◌-◌, ◌+◌, ◌*◌}
 use native.Mathlib.Omega.{arith}
+use mir.Syntax.{w32}
+use mir.ValLaws.{to_z-of_z}
 use lib.IntN.{pos}
 use lib.ListN.{length, get_or}
 use Rattle.cost.specs.Histograms.{tallied}
@@ -26,7 +28,7 @@ found : (c : goal.After-bin_for-bin) → c.bin_for-bin.result ≡ bin c.before.b
 unfolding bin_at
 found c =
     let at = (c.args.first + c.loop-k.k) * 24 + c.args.prop in
-    c.bin_for-bin.ensures
+    rw (to_z-of_z w32 (get_or c.args.props.now at (pos 0)) (record { sfits = c.bin_for-arg-1.given })) at c.bin_for-bin.ensures
 
 pub loop-k-init : goal.loop-k-init
 loop-k-init c = (omega arith, sym (rows_none _ _ _), refl)

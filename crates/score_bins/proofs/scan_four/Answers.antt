@@ -3,6 +3,8 @@ use mathlib.Core.Path.{◌≡◌, refl, sym, ap, ◌∙◌}
 use mathlib.Core.List.{List}
 use Prim.Native.Nat.{ℕ, suc, ◌≤◌, ◌<◌, ◌-◌, ◌+◌, ◌*◌}
 use native.Mathlib.Omega.{arith}
+use mir.Syntax.{w32}
+use mir.ValLaws.{to_z-of_z}
 use lib.IntN.{pos}
 use lib.ListN.{length, get_or}
 use Rattle.cost.specs.Histograms.{bumped, tallied}
@@ -28,7 +30,7 @@ found : (c : goal.After-bin_for-bin) → c.bin_for-bin.result ≡ bin c.before.b
 unfolding bin_at
 found c =
     let at = (c.args.first + c.loop-k.k) * 24 + c.args.prop in
-    c.bin_for-bin.ensures
+    rw (to_z-of_z w32 (get_or c.args.props.now at (pos 0)) (record { sfits = c.bin_for-arg-1.given })) at c.bin_for-bin.ensures
 
 -- the bin's start, the row's cells, and that they have room
 abbrev base : goal.After-bin_for-bin → ℕ

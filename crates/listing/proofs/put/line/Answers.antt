@@ -4,6 +4,7 @@ use mathlib.Core.List.{List, [], ◌∷◌, ◌++◌}
 use Prim.Native.Nat.{ℕ}
 use mir.Syntax.{w32}
 use mir.Val.{of_z}
+use mir.ValLaws.{to_z-of_z}
 use Rattle.listing.specs.Text.{signed_decimal, joined, Room}
 use Rattle.listing.specs.Listing.{field, line_of}
 use Rattle.listing.proofs.Writing.{room-left, room-more, wrote-more}
@@ -19,7 +20,7 @@ rest c = let e = c.uint_encode-coded.result in joined field (c.pack_signed-packe
 pieces : (c : goal.After-uint_encode-coded) → line_of c.args.z ≡ sign c ++ rest c ++ (10 ∷ [])
 unfolding line_of
 pieces c =
-    rw (c.uint_encode-coded.ensures, c.pack_signed-packed.ensures)
+    rw (c.uint_encode-coded.ensures, c.pack_signed-packed.ensures, to_z-of_z w32 c.args.z c.ranges.z)
 
 room : (c : goal.After-uint_encode-coded) → Room c.args.out.now c.args.at (sign c ++ rest c ++ (10 ∷ []))
 room c = rw (pieces c) at c.requires
