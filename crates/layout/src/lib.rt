@@ -11,7 +11,7 @@ ghost use Rattle.layout.specs.Layout.{words_per_node, values_per_node};
 ghost use Rattle.layout.specs.Layout.{kind_at, prop_at, gt_at, le_at, pred_at, first_at, end_at, val_at, node_at};
 ghost use Rattle.layout.specs.Layout.{put_words, put_span, put_values, HasWords, HasValues, HasNodes};
 ghost use Rattle.layout.specs.Records.{node_of};
-ghost use Rattle.layout.specs.Tree.{nodes_now, HasRoom, put, leaf_with, split_words};
+ghost use Rattle.layout.specs.Tree.{node_lists, HasRoom, put, leaf_with, split_words};
 ghost use Rattle.layout.specs.Kept.{info_at, kept_node};
 ghost use Rattle.layout.specs.Waiting.{words_per_leaf, queue_lists, QueueRoom, PendingAt, put_wait_words};
 
@@ -276,10 +276,10 @@ pub fn put_leaf(
     first: usize,
     end: usize,
 )
-    requires has_room { HasRoom (i + 1) (nodes_now words values costs) }
+    requires has_room { HasRoom (i + 1) (node_lists words.old values.old costs.old) }
     requires i_lt_max_nodes { (i < max_nodes) × (first ≤ max_rows) × (end ≤ max_rows) }
-    ensures { nodes_now words.exit values.exit costs.exit
-        ≡ put i (leaf_with info first end) (nodes_now words.entry values.entry costs.entry) }
+    ensures { node_lists words.new values.new costs.new
+        ≡ put i (leaf_with info first end) (node_lists words.old values.old costs.old) }
 {
     let leaf = MaNode {
         kind: 0,
@@ -313,11 +313,11 @@ pub fn put_split(words: &mut [u32], values: &mut [i32], i: usize, prop: u32, val
 
 // A split keeps its fields: its cost is endless, its predictor and offset are 0, its span (0, 0).
 fn keep_split(words: &mut [u32], values: &mut [i32], costs: &mut [f32], i: usize)
-    requires has_room { HasRoom (i + 1) (nodes_now words values costs) }
+    requires has_room { HasRoom (i + 1) (node_lists words.old values.old costs.old) }
     requires i_lt_max_nodes { (i < max_nodes) × (eqb (kind_at words.old i) 1 ≡ true) }
-    ensures { nodes_now words.exit values.exit costs.exit
+    ensures { node_lists words.new values.new costs.new
         ≡ put i (seed_split (node_at words.old values.old i) 0)
-        (nodes_now words.entry values.entry costs.entry) }
+        (node_lists words.old values.old costs.old) }
 {
     words[i * NODE_WORDS + 4] = 0;
     values[i * NODE_VALUES + 1] = 0;
@@ -327,12 +327,12 @@ fn keep_split(words: &mut [u32], values: &mut [i32], costs: &mut [f32], i: usize
 
 // A node without rows: a split, or a leaf that keeps its predictor and offset and costs nothing.
 pub fn keep_node(words: &mut [u32], values: &mut [i32], costs: &mut [f32], i: usize)
-    requires has_room { HasRoom (i + 1) (nodes_now words values costs) }
+    requires has_room { HasRoom (i + 1) (node_lists words.old values.old costs.old) }
     requires i_lt_max_nodes { i < max_nodes }
-    ensures { nodes_now words.exit values.exit costs.exit
+    ensures { node_lists words.new values.new costs.new
         ≡ put i (kept_node (node_at words.old values.old i)
-        (info_at (nodes_now words.entry values.entry costs.entry) i))
-        (nodes_now words.entry values.entry costs.entry) }
+        (info_at (node_lists words.old values.old costs.old) i))
+        (node_lists words.old values.old costs.old) }
 {
     if words[i * NODE_WORDS] == 1 {
         keep_split(words, values, costs, i);

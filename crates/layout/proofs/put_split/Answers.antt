@@ -20,4 +20,4 @@ bounds-words-at-4 c = simp length-set (omega arith)
 
 pub returns : goal.returns
 returns c = let a = c.args in
-    rw (to_z-of_z w32 a.val c.ranges.val) (stores_four a.words.now (a.i * words_per_node) 1 a.prop a.gt (a.gt + 1) (omega arith), refl)
+    rw (to_z-of_z w32 a.val c.ranges.val) (record { words = stores_four a.words.now (a.i * words_per_node) 1 a.prop a.gt (a.gt + 1) (omega arith); values = refl })
