@@ -24,7 +24,7 @@ pub fn pack_signed(value: i32) -> u32
     ensures { result ≡ packed value }
 {
     let bits = pattern(value);
-    let doubled = std::num::wrapping_add_u32(bits, bits);
+    let doubled = bits.wrapping_add(bits);
     if value < 0 {
         u32::MAX - doubled
     } else {
@@ -43,7 +43,7 @@ pub fn uint_encode(value: u32) -> Encoded
             bits: 0,
         };
     }
-    let n = 31 - u32::leading_zeros(value);
+    let n = 31 - value.leading_zeros();
     let m = value - (1 << n);
     let nbits = n - 2;
     let token = (n << 2) + (m >> nbits);
