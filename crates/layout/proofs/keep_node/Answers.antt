@@ -4,6 +4,7 @@ use mir.Syntax.{w32}
 use mir.ValLaws.{to_z-of_z}
 use lib.Ieee.{of_bits}
 use Rattle.layout.specs.Layout.{offset_at}
+use borrow.Author.Rules.{rules}
 use borrow.Author.Tests.{eq-eqb, ne_eqb}
 use Rattle.layout.specs.Tree.{node_lists}
 use Rattle.layout.proofs.Stores.{kept-split, kept-leaf}
@@ -17,6 +18,5 @@ returns-then-words-i-eq1 c = c.keep_split.ensures ∙ kept-split (node_lists c.a
 
 pub returns : goal.returns
 unfolding of_bits
-returns c = let offset = c.info-1.given in
-    c.put_leaf.ensures ∙ kept-leaf (node_lists c.args.words.now c.args.values.now c.args.costs.now) c.args.i (ne_eqb _ 1 c.if-words-i-eq1.false) _
-    (rw (to_z-of_z w32 (offset_at c.args.values.now c.args.i) (record { sfits = offset })))
+returns c = c.put_leaf.ensures ∙ kept-leaf (node_lists c.args.words.now c.args.values.now c.args.costs.now) c.args.i (ne_eqb _ 1 c.if-words-i-eq1.false) _
+    (rw (to_z-of_z w32 (offset_at c.args.values.now c.args.i) (search rules)))
