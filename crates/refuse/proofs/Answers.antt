@@ -13,6 +13,10 @@ use Rattle.refuse.specs.Given.{found_of, check_of}
 pub tested : (b : Bool) {r v : Bool} → r ≡ not b → not r ≡ v → b ≡ v
 tested b e f = sym (not-not b) ∙ ap not (sym e) ∙ f
 
+-- and where the code asks the result itself
+pub told : (b : Bool) {r v : Bool} → r ≡ not b → r ≡ v → b ≡ not v
+told b e f = tested b e (ap not f)
+
 -- ---- the search for a row
 pub row-found : (o : Option ℕ) (p : ℕ) → found_of o ≡ Row p → o ≡ some p
 row-found none p e = let z : ◌≡◌ {A = ℕ} 0 1 = cc in absurd (omega arith)

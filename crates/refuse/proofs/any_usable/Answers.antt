@@ -1,7 +1,6 @@
 -- The invariant: what is left of the predictors has a usable one if and only if all have. Assumes nothing.
 use mathlib.Core.Path.{sym, ap, ◌∙◌}
 use mathlib.Core.Bool.{not}
-use Prim.Native.Nat.{◌-◌}
 use native.Mathlib.Nat.{le_antisymm}
 use borrow.Author.Rules.{rules}
 use Rattle.refuse.specs.Given.{settings_of}

@@ -1,11 +1,8 @@
 -- The invariant: every entry passed, from 1 on, lies in its range. Assumes nothing.
 use mathlib.Core.Path.{sym, ap, ◌∙◌}
-use mathlib.Core.Bool.{true, not}
-use Prim.Native.Nat.{◌-◌}
+use mathlib.Core.Bool.{not}
 use native.Mathlib.Omega.{arith}
 use borrow.Author.Count.{below_more}
-use borrow.Author.Rules.{scaled_Fits}
-use borrow.Author.Tests.{not-true, not-false}
 use Rattle.refuse.proofs.Scan.{logs-short, logs-found, logs-good}
 use Rattle.refuse.proofs.logs_fit.Goals as goal
 
@@ -15,17 +12,14 @@ returns-then-logs-rows c = λ x h. ap not (sym (logs-short _ x (rw h c.if-logs-r
 pub loop-k-init : goal.loop-k-init
 loop-k-init c = (omega arith, omega arith, λ j h p. absurd (omega arith))
 
-pub offset_bounds-logs-k : goal.offset_bounds-logs-k
-offset_bounds-logs-k c = scaled_Fits _ _ 4 (omega arith) c.well-formed.0.1
-
 pub returns-then-not-log_fits : goal.returns-then-not-log_fits
 returns-then-not-log_fits c = λ x h.
     let k = c.loop-k.k in
-    let bad = not-true _ c.if-not-log_fits.true in
-    ap not (sym (logs-found _ x (omega arith) k c.loop-k.invariant.0 (omega arith) (sym c.log_fits_lem.ensures ∙ bad)))
+    let bad = c.if-not-log_fits.true in
+    ap not (sym (logs-found _ x (omega arith) k c.loop-k.invariant.0 (omega arith) (sym c.log_fits.ensures ∙ bad)))
 
 pub loop-k-preserved : goal.loop-k-preserved
-loop-k-preserved c = (omega arith, omega arith, below_more _ _ c.loop-k.invariant.2 (λ p. sym c.log_fits_lem.ensures ∙ not-false _ c.if-not-log_fits.false))
+loop-k-preserved c = (omega arith, omega arith, below_more _ _ c.loop-k.invariant.2 (λ p. sym c.log_fits.ensures ∙ c.if-not-log_fits.false))
 
 pub returns : goal.returns
 returns c = λ x h.
