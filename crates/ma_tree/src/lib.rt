@@ -1,6 +1,6 @@
 // The public interface, for C, Rust and Rattle: each operation of document 01, with nodes and spans as lent
-// slices of records. Whatever is handed in, the answer is document 01's, and a refusal changes no list. A slice
-// crosses over to C as two arguments, pointer and length.
+// slices of records. Whatever is handed in, the answer is document 01's, and a refusal changes no list. Crate
+// `ma_tree_c` exports each for C and Rust, by the same name and with the same clauses.
 //
 // A function that sees a slice of records is walked by hand, so it does little: it copies records to the core's
 // number lists (crate `border`) and back, or reads one record after another (crate `lookup`).
@@ -23,29 +23,25 @@ use refuse::Settings;
 
 // ---- packing, tokens, even sampling
 
-#[unsafe(no_mangle)]
-pub extern "C" fn ostrovuc_pack_signed(value: i32) -> u32
+pub fn ostrovuc_pack_signed(value: i32) -> u32
     ensures { result ≡ packed value }
 {
     entropy::pack_signed(value)
 }
 
-#[unsafe(no_mangle)]
-pub extern "C" fn ostrovuc_uint_encode(value: u32) -> Encoded
+pub fn ostrovuc_uint_encode(value: u32) -> Encoded
     ensures { result ≡ encoded_of value }
 {
     entropy::uint_encode(value)
 }
 
-#[unsafe(no_mangle)]
-pub extern "C" fn ostrovuc_token_value(token: u32, extra: u32) -> Read
+pub fn ostrovuc_token_value(token: u32, extra: u32) -> Read
     ensures { result ≡ value_in (token_answer token extra) }
 {
     answers::value_answer(entropy::token_value(token, extra))
 }
 
-#[unsafe(no_mangle)]
-pub extern "C" fn ostrovuc_evenly_sampled_indices(
+pub fn ostrovuc_evenly_sampled_indices(
     rows: usize,
     target: usize,
     out: &mut [u32],
@@ -112,8 +108,7 @@ fn work<'n, 'a>(
 }
 
 // Learns a tree from the rows into the node list.
-#[unsafe(no_mangle)]
-pub extern "C" fn ostrovuc_learn<'n, 'a>(
+pub fn ostrovuc_learn<'n, 'a>(
     nodes: &'n mut [MaNode],
     spans: &'n mut [Span],
     s: Settings,
@@ -150,8 +145,7 @@ pub extern "C" fn ostrovuc_learn<'n, 'a>(
 }
 
 // Deepens the tree of the first `count` nodes.
-#[unsafe(no_mangle)]
-pub extern "C" fn ostrovuc_deepen<'n, 'a>(
+pub fn ostrovuc_deepen<'n, 'a>(
     nodes: &'n mut [MaNode],
     spans: &'n mut [Span],
     s: Settings,
@@ -192,8 +186,7 @@ pub extern "C" fn ostrovuc_deepen<'n, 'a>(
 
 // The leaf that 24 properties lead to in the tree of the first `count` nodes. Only the nodes met on the way are
 // looked at.
-#[unsafe(no_mangle)]
-pub extern "C" fn ostrovuc_lookup<'n, 'a>(
+pub fn ostrovuc_lookup<'n, 'a>(
     nodes: &'n [MaNode],
     count: u32,
     props: &'a [i32],
@@ -210,8 +203,7 @@ pub extern "C" fn ostrovuc_lookup<'n, 'a>(
 
 // The context of each leaf of the tree of the first `count` nodes, and how many there are. The queue is room
 // for the walk, and holds zeros afterwards.
-#[unsafe(no_mangle)]
-pub extern "C" fn ostrovuc_leaf_contexts<'n, 'a>(
+pub fn ostrovuc_leaf_contexts<'n, 'a>(
     nodes: &'n [MaNode],
     count: u32,
     contexts: &'a mut [u32],
