@@ -1,4 +1,4 @@
-//! Links the learner's single parts: the archive that `rt staticlib parts` leaves. Crate `ostrovuc` links the port.
+//! Links the learner's single parts: the archive that `interface/library parts` leaves. Crate `ostrovuc` links the port.
 
 use std::env;
 use std::path::Path;

@@ -1,4 +1,4 @@
-//! Links the proved library: the archive that `rt staticlib ma_tree` leaves.
+//! Links the proved library: the archive that `interface/library ma_tree` leaves.
 
 use std::env;
 use std::path::Path;
