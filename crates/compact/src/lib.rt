@@ -8,7 +8,7 @@ ghost use Rattle.model.specs.Tree.{leaf};
 ghost use Rattle.model.specs.Lent.{stored_node};
 ghost use Rattle.layout.specs.Values.{info_is};
 ghost use Rattle.layout.specs.Records.{record_of};
-ghost use Rattle.layout.specs.Tree.{nodes_now, holding, HasRoom};
+ghost use Rattle.layout.specs.Tree.{node_lists, holding, HasRoom};
 ghost use Rattle.compact.specs.Moves.{record_from, entries_from, compacted, AllMovable};
 
 use layout::{MaNode, NodeInfo};
@@ -62,12 +62,12 @@ fn gather<'a, 'b>(
     n: usize,
     count: usize,
 )
-    requires all_movable { AllMovable (nodes_now words values costs) splits.now order.now places.now n count }
-    requires has_room { HasRoom n (nodes_now new_words new_values new_costs) }
-    ensures { nodes_now new_words.exit new_values.exit new_costs.exit
-        ≡ holding (entries_from (nodes_now words.entry values.entry costs.entry)
+    requires all_movable { AllMovable (node_lists words.now values.now costs.now) splits.now order.now places.now n count }
+    requires has_room { HasRoom n (node_lists new_words.old new_values.old new_costs.old) }
+    ensures { node_lists new_words.new new_values.new new_costs.new
+        ≡ holding (entries_from (node_lists words.now values.now costs.now)
         splits.now order.now places.now n)
-        (nodes_now new_words.entry new_values.entry new_costs.entry) }
+        (node_lists new_words.old new_values.old new_costs.old) }
 {
     for q in 0..n {
         let i = order[q] as usize;
@@ -90,11 +90,11 @@ pub fn move_nodes(
     n: usize,
     count: usize,
 )
-    requires { AllMovable (nodes_now words values costs) splits.now order.now places.now n count }
-    ensures { nodes_now words.exit values.exit costs.exit
-        ≡ holding (compacted (nodes_now words.entry values.entry costs.entry)
+    requires { AllMovable (node_lists words.old values.old costs.old) splits.now order.now places.now n count }
+    ensures { node_lists words.new values.new costs.new
+        ≡ holding (compacted (node_lists words.old values.old costs.old)
         splits.now order.now places.now n count)
-        (nodes_now words.entry values.entry costs.entry) }
+        (node_lists words.old values.old costs.old) }
 {
     let mut new_words = [0u32; layout::MAX_WORDS];
     let mut new_values = [0i32; layout::MAX_VALUES];

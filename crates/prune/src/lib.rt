@@ -5,7 +5,7 @@
 ghost use Rattle.std.specs.Prelude.{◌≡◌, List, ℕ, ◌≤◌, ◌<◌, length};
 ghost use Rattle.model.specs.Single.{singles};
 ghost use Rattle.model.specs.Grow.{Entry};
-ghost use Rattle.layout.specs.Tree.{NodeLists, nodes_now};
+ghost use Rattle.layout.specs.Tree.{NodeLists, node_lists};
 ghost use Rattle.prune.specs.Prices.{split_priced, leaf_priced, priced_at, IsNumber, Priceable, AllPriceable};
 ghost use Rattle.prune.specs.Prices.{ShowsTree, IsPriced, PricedAs};
 ghost use Rattle.prune.specs.Held.{HoldsTree, Prunable, PrunedAs};
@@ -138,10 +138,10 @@ pub fn prune_tree(
     count: usize,
     price: f32,
 ) -> Tree
-    requires { Prunable (nodes_now words values costs) count price }
+    requires { Prunable (node_lists words.old values.old costs.old) count price }
     ensures { (tree : List (Entry singles)) (lent : NodeLists)
-        → HoldsTree (nodes_now words.entry values.entry costs.entry) count price tree lent
-        → PrunedAs price tree lent (nodes_now words.exit values.exit costs.exit) result }
+        → HoldsTree (node_lists words.old values.old costs.old) count price tree lent
+        → PrunedAs price tree lent (node_lists words.new values.new costs.new) result }
 {
     let mut splits = [false; layout::MAX_NODES];
     let bits = price_nodes(words, values, costs, &mut splits, count, price);

@@ -7,7 +7,7 @@ ghost use Rattle.model.specs.Settings.{max_nodes};
 ghost use Rattle.model.specs.Single.{singles};
 ghost use Rattle.model.specs.Lent.{Waiting};
 ghost use Rattle.layout.specs.Values.{offer_is};
-ghost use Rattle.layout.specs.Waiting.{first_best, queue_now, Queued, QueueRoom, SameQueue, without, waits};
+ghost use Rattle.layout.specs.Waiting.{first_best, queue_lists, Queued, QueueRoom, SameQueue, without, waits};
 ghost use Rattle.queue.specs.Room.{RoomFor};
 
 use layout::{Offer, Pending};
@@ -47,12 +47,12 @@ pub fn greatest(gains: &[f32], waiting: usize) -> usize
 
 // Takes the leaf at place k out; those behind it keep their order.
 pub fn unqueue(words: &mut [u32], values: &mut [i32], gains: &mut [f32], waiting: usize, k: usize)
-    requires { (k < waiting) × QueueRoom waiting (queue_now words values gains) }
+    requires { (k < waiting) × QueueRoom waiting (queue_lists words.old values.old gains.old) }
     ensures queue { (leaves : List (Waiting singles))
-        → Queued waiting (queue_now words.entry values.entry gains.entry) leaves
-        → Queued (waiting - 1) (queue_now words.exit values.exit gains.exit) (without k leaves) }
-    ensures lengths { SameQueue (queue_now words.entry values.entry gains.entry)
-        (queue_now words.exit values.exit gains.exit) }
+        → Queued waiting (queue_lists words.old values.old gains.old) leaves
+        → Queued (waiting - 1) (queue_lists words.new values.new gains.new) (without k leaves) }
+    ensures lengths { SameQueue (queue_lists words.old values.old gains.old)
+        (queue_lists words.new values.new gains.new) }
 {
     let m = waiting - 1 - k;
     let at = layout::words_for_leaves(k);
@@ -73,14 +73,14 @@ pub fn enqueue(
     depth: u32,
     offer: Offer,
 ) -> usize
-    requires { (node < max_nodes) × RoomFor offer waiting (queue_now words values gains) }
+    requires { (node < max_nodes) × RoomFor offer waiting (queue_lists words.old values.old gains.old) }
     ensures queue { (leaves : List (Waiting singles))
-        → Queued waiting (queue_now words.entry values.entry gains.entry) leaves
-        → Queued result (queue_now words.exit values.exit gains.exit)
+        → Queued waiting (queue_lists words.old values.old gains.old) leaves
+        → Queued result (queue_lists words.new values.new gains.new)
         (leaves ++ waits node depth (offer_is offer)) }
     ensures answer { (result ≡ waiting + length (waits node depth (offer_is offer)))
-        × SameQueue (queue_now words.entry values.entry gains.entry)
-        (queue_now words.exit values.exit gains.exit) }
+        × SameQueue (queue_lists words.old values.old gains.old)
+        (queue_lists words.new values.new gains.new) }
 {
     let Offer::Split { prop, val, gain } = offer else {
         return waiting;

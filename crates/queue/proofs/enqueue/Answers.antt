@@ -6,41 +6,36 @@ use native.Mathlib.Nat.{add-zero}
 use native.Mathlib.Omega.{arith}
 use mir.Syntax.{w32}
 use mir.ValLaws.{to_z-of_z}
+use borrow.Author.Rules.{rules}
 use Rattle.model.specs.Single.{singles}
 use Rattle.model.specs.Job as model
 use Rattle.model.specs.Lent.{Waiting}
 use Rattle.layout.specs.Values.{offer_is}
-use Rattle.layout.specs.Waiting.{QueueLists, queue_lists, QueueRoom}
+use Rattle.layout.specs.Waiting.{queue_lists, QueueRoom}
 use Rattle.layout.proofs.Queue.{same-itself}
 use Rattle.queue.proofs.Queues.{added, same-added}
 use Rattle.queue.proofs.enqueue.Goals as goal
 
-abbrev lists : goal.In-Split → QueueLists
-lists c = queue_lists c.args.words.now c.args.values.now c.args.gains.now
-
-abbrev offered : goal.In-Split → model.Offer singles
-offered c = record { prop = c.offer-1.given.0.0; val = c.offer-1.given.0.1.0; gain = c.offer-1.given.0.1.1.0 }
-
-room : (c : goal.In-Split) → QueueRoom (c.args.waiting + 1) (lists c)
-room c = c.requires.1 (offered c) (ap offer_is c.offer-1.given.1)
-
 pub returns-in_default : goal.returns-in_default
 returns-in_default c = let a = c.args in
     let q = queue_lists a.words.now a.values.now a.gains.now in
-    rw c.enum_told-1.given.1 ((λ leaves h. rw append-nil h), (sym (add-zero a.waiting), same-itself q))
+    rw c.in_default.is (record { queue = λ leaves h. rw append-nil h; answer = (sym (add-zero a.waiting), same-itself q) })
 
 pub put_pending-requires : goal.put_pending-requires
-put_pending-requires c = room c.before.before.before
+put_pending-requires c = c.requires.1 (record { prop = c.in-Split.prop; val = c.in-Split.val; gain = c.in-Split.gain }) (ap offer_is c.in-Split.is)
 
 pub overflow_add-result : goal.overflow_add-result
-overflow_add-result c = omega (arith, room c.before.before.before.before.before.before.before.before.before
+overflow_add-result c = let a = c.args in
+    let room : QueueRoom (a.waiting + 1) (queue_lists a.words.now a.values.now a.gains.now) =
+    c.requires.1 (record { prop = c.in-Split.prop; val = c.in-Split.val; gain = c.in-Split.gain }) (ap offer_is c.in-Split.is) in
+    omega (arith, room.gains)
 
 pub returns : goal.returns
-returns c = let stored = c.put_pending.ensures in
-    let a = c.args in
-    let o = offered c in
+returns c = let a = c.args in
+    let q = queue_lists a.words.now a.values.now a.gains.now in
+    let o : model.Offer singles = record { prop = c.in-Split.prop; val = c.in-Split.val; gain = c.in-Split.gain } in
+    let room : QueueRoom (a.waiting + 1) q = c.requires.1 o (ap offer_is c.in-Split.is) in
     let w : Waiting singles = record { node = a.node; depth = a.depth; offer = o } in
-    rw (stored.0, stored.1.0, stored.1.1, to_z-of_z w32 o.val (record { sfits = c.known_told-1.given.1.0.1 }), c.offer-1.given.1) (
-      λ leaves h. added (lists c) leaves a.waiting h w (room c),
-      (refl, same-added (lists c) a.waiting w),
-    )
+    let stored = c.put_pending.ensures in
+    rw (stored.words, stored.values, stored.gains, to_z-of_z w32 c.in-Split.val (search rules), c.in-Split.is)
+    (record { queue = λ leaves h. added q leaves a.waiting h w room; answer = (refl, same-added q a.waiting w) })

@@ -1,6 +1,5 @@
 -- `queue::greatest` meets its contract: best is the first best of the first k places, and top its gain. Assumes nothing.
 use mathlib.Core.Path.{◌≡◌, refl, sym}
-use Prim.Native.Nat.{◌-◌}
 use native.Mathlib.Omega.{arith}
 use lib.ListN.{get_or}
 use lib.Ieee.{nan, lt}
