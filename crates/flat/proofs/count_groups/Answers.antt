@@ -1,29 +1,21 @@
 -- `flat::count_groups` meets its contract: the rows passed are counted. Assumes nothing.
 use mathlib.Core.Path.{◌≡◌, ◌∙◌, subst}
-use Prim.Native.Nat.{ℕ, ◌-◌, ◌*◌}
+use Prim.Native.Nat.{ℕ, ◌*◌}
 use native.Mathlib.Omega.{arith}
-use lib.IntN.{pos}
+use lib.IntN.{ℤ, pos}
 use lib.ListN.{get_or}
 use mir.Syntax.{w32}
+use mir.Val.{of_z, to_z}
 use mir.ValLaws.{to_z-of_z}
+use Rattle.std.proofs.Common.{SFits}
 use Rattle.model.specs.Flat.{clamped}
-use Rattle.cost.specs.Histograms.{RowFits}
 use Rattle.flat.specs.Flat.{CountsGroups}
 use Rattle.flat.proofs.Flat.{groups_start, sizes_fit, row_fits, groups_turn}
 use Rattle.flat.proofs.count_groups.Goals as goal
 
 -- the row's group
-own : (c : goal.After-group_of-group) → let props = c.args.props.now in c.Group-of.result ≡ clamped (get_or props (c.loop-row.row * 24) (pos 0))
-own c =
-    let props = c.args.props.now in
-    rw (to_z-of_z w32 (get_or props (c.loop-row.row * 24) (pos 0)) (record { sfits = c.group_of-arg-1.given })) at c.Group-of.ensures
-
--- it has room there
-fits : (c : goal.After-slice_known-in-loop-row-1)
-    → let a = c.args in RowFits a.tok.now c.loop-row.row (c.Group-of.result * (14 * a.alphabet)) a.alphabet c.loop-row.hist
-fits c =
-    let c.loop-row = c.loop-row in
-    row_fits _ _ _ _ c.requires.rows_fit c.loop-row.row c.loop-row-test.true c.loop-row.hist c.loop-row.sizes c.loop-row.invariant.1 c.Group-of.result (own c)
+own : (v : ℤ) (g : ℕ) → SFits w32 v → g ≡ clamped (to_z w32 (of_z w32 v)) → g ≡ clamped v
+own v g fits is = rw (to_z-of_z w32 v fits) at is
 
 pub loop-row-init : goal.loop-row-init
 loop-row-init c = (omega arith, groups_start _ _ _ _ c.requires.rows_fit _ _ c.requires.groups_empty, omega arith, omega arith)
@@ -38,20 +30,20 @@ pub bounds-props-row : goal.bounds-props-row
 bounds-props-row c = omega (arith, c.requires.rows_fit.props)
 
 pub bump-requires : goal.bump-requires
-bump-requires c = sizes_fit _ _ _ _ c.requires.rows_fit c.loop-row.row c.loop-row-test.true c.loop-row.hist c.loop-row.sizes c.loop-row.invariant.1 c.Group-of.result (own c)
+bump-requires c = sizes_fit _ _ _ _ c.requires.rows_fit c.loop-row.row c.loop-row-test.true c.loop-row.hist c.loop-row.sizes c.loop-row.invariant.1 c.group_of-group.result ((own (get_or c.args.props.now (c.loop-row.row * 24) (pos 0)) c.group_of-group.result (record { sfits = c.group_of-arg-1.given }) c.group_of-group.ensures))
 
 pub overflow_mul-alphabet : goal.overflow_mul-alphabet
-overflow_mul-alphabet c = omega (arith, (fits c).room, c.loop-row.invariant.2)
+overflow_mul-alphabet c = omega (arith, (row_fits _ _ _ _ c.requires.rows_fit c.loop-row.row c.loop-row-test.true c.loop-row.hist c.loop-row.sizes c.loop-row.invariant.1 c.group_of-group.result (own (get_or c.args.props.now (c.loop-row.row * 24) (pos 0)) c.group_of-group.result (record { sfits = c.group_of-arg-1.given }) c.group_of-group.ensures)).room, c.loop-row.invariant.2)
 
 pub overflow_mul-group : goal.overflow_mul-group
-overflow_mul-group c = omega (arith, (fits c).room, c.loop-row.invariant.2)
+overflow_mul-group c = omega (arith, (row_fits _ _ _ _ c.requires.rows_fit c.loop-row.row c.loop-row-test.true c.loop-row.hist c.loop-row.sizes c.loop-row.invariant.1 c.group_of-group.result (own (get_or c.args.props.now (c.loop-row.row * 24) (pos 0)) c.group_of-group.result (record { sfits = c.group_of-arg-1.given }) c.group_of-group.ensures)).room, c.loop-row.invariant.2)
 
 pub count_row-requires : goal.count_row-requires
-count_row-requires c = fits c.before
+count_row-requires c = row_fits _ _ _ _ c.requires.rows_fit c.loop-row.row c.loop-row-test.true c.loop-row.hist c.loop-row.sizes c.loop-row.invariant.1 c.group_of-group.result (own (get_or c.args.props.now (c.loop-row.row * 24) (pos 0)) c.group_of-group.result (record { sfits = c.group_of-arg-1.given }) c.group_of-group.ensures)
 
 pub loop-row-preserved : goal.loop-row-preserved
 loop-row-preserved c = let taken = c.loop-row-test.true in
-    let turn = groups_turn _ _ _ _ c.requires.rows_fit c.loop-row.row taken c.loop-row.hist c.loop-row.sizes c.loop-row.invariant.1 c.Group-of.result (own c) in
+    let turn = groups_turn _ _ _ _ c.requires.rows_fit c.loop-row.row taken c.loop-row.hist c.loop-row.sizes c.loop-row.invariant.1 c.group_of-group.result ((own (get_or c.args.props.now (c.loop-row.row * 24) (pos 0)) c.group_of-group.result (record { sfits = c.group_of-arg-1.given }) c.group_of-group.ensures)) in
     (omega arith, turn _ _ c.bump.ensures c.count_row.ensures, c.count_row.auto.hist ∙ c.loop-row.invariant.2, c.bump.auto.cells ∙ c.loop-row.invariant.3)
 
 pub shape_of-hist : goal.shape_of-hist
