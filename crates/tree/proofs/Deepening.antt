@@ -17,7 +17,7 @@ use Rattle.model.specs.Lent.{tree_in}
 use Rattle.model.specs.Deepen.{depths_from, depths_of}
 use Rattle.layout.specs.Layout.{kind_at, gt_at, le_at, nodes_held, stored_in, node_at}
 use Rattle.tree.specs.Trees.{AtMost, deeper}
-use Rattle.tree.proofs.Entries.{nodes-length, node_at}
+use Rattle.tree.proofs.Entries.{nodes-length, node_at_lem}
 
 -- ---- no depth passes the number of nodes passed
 set_at_most : (count most : ℕ) (l : List ℕ) (j v : ℕ) → j < length l → v ≤ most → AtMost count most l → AtMost count most (set l j v)
@@ -62,7 +62,7 @@ module _ (words : List ℕ) (values : List ℤ) (costs : List Float) (count : �
   pub depths_on : (i : ℕ) (l : List ℕ) → i < count → depths_from i (drop i nodes) l ≡ depths_from (suc i) (drop (suc i) nodes) (deeper (node_at words values i) i l)
   depths_on i l h =
       let inside : i < length nodes = rw (nodes-length singles words values costs count held) h in
-      rw (drop-cons nodes i leaf inside, node_at singles words values costs count held i h) (one-node i (node_at words values i) (drop (suc i) nodes) l)
+      rw (drop-cons nodes i leaf inside, node_at_lem singles words values costs count held i h) (one-node i (node_at words values i) (drop (suc i) nodes) l)
 
   pub depths_end : (i : ℕ) (l : List ℕ) → i ≡ count → depths_from i (drop i nodes) l ≡ l
   unfolding depths_from

@@ -36,8 +36,8 @@ module _ (M : Meter) (words : List ℕ) (values : List ℤ) (costs : List M.Cost
     pub nodes-length : length (nodes_of (tree_in count (stored_in_of M words values costs))) ≡ count
     nodes-length = length-map (tree_in count (stored_in_of M words values costs)) (λ (r : Record M). r.node) ∙ tree-length
 
-    pub node_at : (i : ℕ) → i < count → get_or (nodes_of (tree_in count (stored_in_of M words values costs))) i leaf ≡ node_at words values i
-    node_at i h = get_or-map (λ (r : Record M). r.node) (tree_in count (stored_in_of M words values costs)) i blank_record ∙ ap (λ (r : Record M). r.node) (record_at_lem i blank_record h)
+    pub node_at_lem : (i : ℕ) → i < count → get_or (nodes_of (tree_in count (stored_in_of M words values costs))) i leaf ≡ node_at words values i
+    node_at_lem i h = get_or-map (λ (r : Record M). r.node) (tree_in count (stored_in_of M words values costs)) i blank_record ∙ ap (λ (r : Record M). r.node) (record_at_lem i blank_record h)
 
     pub nodes-each : nodes_of (tree_in count (stored_in_of M words values costs)) ≡ map (node_at words values) (range 0 count)
     nodes-each = rw tree-each (map-map (λ (r : Record M). r.node) record_at (range 0 count))

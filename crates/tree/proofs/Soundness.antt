@@ -15,7 +15,7 @@ use Rattle.model.specs.Family.{Forward}
 use Rattle.model.proofs.Sound as model
 use Rattle.layout.specs.Layout.{values_per_node, kind_at, prop_at, gt_at, le_at, nodes_held, stored_in, node_at}
 use Rattle.tree.specs.Trees.{SoundTree}
-use Rattle.tree.proofs.Entries.{tree-length, nodes-length, record_at_lem, node_at}
+use Rattle.tree.proofs.Entries.{tree-length, nodes-length, record_at_lem, node_at_lem}
 
 -- the tree with its thresholds all 0, and no costs
 abbrev pub zeros : ℕ → List ℤ
@@ -40,11 +40,11 @@ module _ (words : List ℕ) (count : ℕ) (is : SoundTree words count) where
       let inside : i < length (bare words count) = rw (tree-length singles words (zeros count) [] count bare-held) h in
       let among : i < length (nodes_of (bare words count)) = rw (nodes-length singles words (zeros count) [] count bare-held) h in
       let prop = rw (record_at_lem singles words (zeros count) [] count bare-held i blank_record h, k) at (bare-sound.fits i inside) in
-      (ltb→lt (prop_at words i) props_per_row prop, rw (nodes-length singles words (zeros count) [] count bare-held, node_at singles words (zeros count) [] count bare-held i h, k) at (bare-sound.rooted.family.forward i among))
+      (ltb→lt (prop_at words i) props_per_row prop, rw (nodes-length singles words (zeros count) [] count bare-held, node_at_lem singles words (zeros count) [] count bare-held i h, k) at (bare-sound.rooted.family.forward i among))
 
   -- node i, with its threshold 0
   pub bare-node : (i : ℕ) → i < count → get_or (nodes_of (bare words count)) i leaf ≡ node_at words (zeros count) i
-  bare-node i h = node_at singles words (zeros count) [] count bare-held i h
+  bare-node i h = node_at_lem singles words (zeros count) [] count bare-held i h
 
   pub bare-length : length (nodes_of (bare words count)) ≡ count
   bare-length = nodes-length singles words (zeros count) [] count bare-held

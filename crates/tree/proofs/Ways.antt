@@ -14,7 +14,7 @@ use Rattle.model.specs.Family.{Forward}
 use Rattle.model.proofs.Paths.{towards_in}
 use Rattle.layout.specs.Layout.{kind_at, prop_at, gt_at, le_at, val_at, nodes_held, stored_in}
 use Rattle.tree.specs.Trees.{child_at}
-use Rattle.tree.proofs.Entries.{nodes-length, node_at}
+use Rattle.tree.proofs.Entries.{nodes-length, node_at_lem}
 
 -- the nodes of the tree of the first `count` entries
 abbrev nodes_in : List ℕ → List ℤ → ℕ → List Float → List Node
@@ -25,11 +25,11 @@ module _ (words : List ℕ) (values : List ℤ) (costs : List Float) (count : �
   reach-on : (fuel i : ℕ) → i < count → eqb (kind_at words i) 1 ≡ true
       → reach (suc fuel) (nodes_in words values count costs) ps i ≡ reach fuel (nodes_in words values count costs) ps (child_at words values ps i)
   unfolding reach
-  reach-on fuel i h k = rw (node_at singles words values costs count held i h, k)
+  reach-on fuel i h k = rw (node_at_lem singles words values costs count held i h, k)
 
   pub reach-end : (fuel i : ℕ) → i < count → eqb (kind_at words i) 1 ≡ false → reach (suc fuel) (nodes_in words values count costs) ps i ≡ i
   unfolding reach
-  reach-end fuel i h k = rw (node_at singles words values costs count held i h, k)
+  reach-end fuel i h k = rw (node_at_lem singles words values costs count held i h, k)
 
 -- ---- the way as a loop follows it
 -- node i is met on the way: enough steps are left, and the leaf reached is the one reached from there

@@ -1,6 +1,6 @@
 -- `tree::count_parents` meets its contract. The invariant: of the nodes passed, each node's count says of how many it is a child. Assumes nothing.
 use mathlib.Core.Path.{◌≡◌, sym, ◌∙◌}
-use Prim.Native.Nat.{ℕ, ◌-◌}
+use Prim.Native.Nat.{ℕ}
 use native.Mathlib.Omega.{arith}
 use lib.ListN.{length-replicate}
 use Rattle.model.specs.Settings.{max_nodes}
@@ -12,11 +12,11 @@ loop-i-init c = (omega arith, rw c.requires.zeros (length-replicate {A = ℕ} ma
 
 pub count_children-requires : goal.count_children-requires
 count_children-requires c = record {
-      words_there = omega (arith, c.requires.words_there);
-      places = omega (arith, c.requires.few);
-      few = omega (arith, c.requires.few);
-      low = counts-low c.args.words.now c.args.count c.loop-i.i c.loop-i.parents c.loop-i.invariant.2;
-    }
+  words_there = omega (arith, c.requires.words_there);
+  places = omega (arith, c.requires.few);
+  few = omega (arith, c.requires.few);
+  low = counts-low c.args.words.now c.args.count c.loop-i.i c.loop-i.parents c.loop-i.invariant.2;
+}
 
 pub loop-i-preserved : goal.loop-i-preserved
 loop-i-preserved c = let start = c.args in

@@ -1,6 +1,6 @@
 -- `tree::depths` meets its contract. The invariant: what is left of the pass makes the depths of the list as it stands, and no depth so far is
 use mathlib.Core.Path.{sym, ap, ◌∙◌}
-use Prim.Native.Nat.{ℕ, ◌-◌}
+use Prim.Native.Nat.{ℕ}
 use mathlib.Core.List.{[]}
 use native.Mathlib.Numerals.{add-one}
 use native.Mathlib.Omega.{arith}
@@ -14,11 +14,11 @@ clear_u32-requires c = tt
 
 pub loop-i-init : goal.loop-i-init
 loop-i-init c = let zeros = c.clear_u32.ensures ∙ ap (λ (n : ℕ). replicate n 0) c.requires.places in (
-      omega arith,
-      c.clear_u32.auto.list ∙ c.requires.places,
-      rw zeros (zeros_at_most c.args.count),
-      λ values costs held. rw zeros (depths_first c.args.words.now values costs c.args.count held),
-    )
+  omega arith,
+  c.clear_u32.auto.list ∙ c.requires.places,
+  rw zeros (zeros_at_most c.args.count),
+  λ values costs held. rw zeros (depths_first c.args.words.now values costs c.args.count held),
+)
 
 pub lower_children-requires : goal.lower_children-requires
 lower_children-requires c = let inside = c.loop-i-test.true in
@@ -32,14 +32,13 @@ lower_children-requires c = let inside = c.loop-i-test.true in
     }
 
 pub loop-i-preserved : goal.loop-i-preserved
-loop-i-preserved c = let inside = c.loop-i-test.true in
-    (
-      omega arith,
-      c.lower_children.auto.out ∙ c.loop-i.invariant.1,
-      rw (c.lower_children.ensures []) (deeper-low c.args.words.now [] c.args.count c.loop-i.i c.loop-i.out inside c.loop-i.invariant.2
-          (λ is. let fits = (split-fits c.args.words.now c.args.count c.requires.sound c.loop-i.i inside is).1 in (omega arith, omega arith))),
-      λ values costs held. c.loop-i.invariant.3 values costs held ∙ rw (add-one, c.lower_children.ensures values) (depths_on c.args.words.now values costs c.args.count held c.loop-i.i c.loop-i.out inside),
-    )
+loop-i-preserved c = let inside = c.loop-i-test.true in (
+  omega arith,
+  c.lower_children.auto.out ∙ c.loop-i.invariant.1,
+  rw (c.lower_children.ensures []) (deeper-low c.args.words.now [] c.args.count c.loop-i.i c.loop-i.out inside c.loop-i.invariant.2
+      (λ is. let fits = (split-fits c.args.words.now c.args.count c.requires.sound c.loop-i.i inside is).1 in (omega arith, omega arith))),
+  λ values costs held. c.loop-i.invariant.3 values costs held ∙ rw (add-one, c.lower_children.ensures values) (depths_on c.args.words.now values costs c.args.count held c.loop-i.i c.loop-i.out inside),
+)
 
 pub shape_of-out : goal.shape_of-out
 shape_of-out c = c.loop-i.invariant.1 ∙ sym c.requires.places

@@ -15,12 +15,6 @@ use Rattle.tree.proofs.leaf_numbers.Goals as goal
 pub loop-row-init : goal.loop-row-init
 loop-row-init c = (omega arith, refl, λ costs. refl)
 
-pub offset_bounds-props-at : goal.offset_bounds-props-at
-offset_bounds-props-at c = omega (arith, c.requires.rows, c.well-formed)
-
-pub slice-bounds-leaf-reached-end : goal.slice-bounds-leaf-reached-end
-slice-bounds-leaf-reached-end c = omega (arith, c.requires.rows)
-
 pub leaf_reached-leaf-requires : goal.leaf_reached-leaf-requires
 leaf_reached-leaf-requires c = let pre = c.requires in
     let rows = pre.rows in

@@ -1,6 +1,6 @@
 -- `tree::leaf_numbers` meets its contract. The invariant: the places of the rows passed hold their leaves, the others what they held.
 use mathlib.Core.Path.{◌≡◌}
-use Prim.Native.Nat.{◌+◌, ◌-◌, ◌≤◌}
+use Prim.Native.Nat.{◌-◌, ◌≤◌}
 use mathlib.Core.List.{List, ◌++◌, map}
 use lib.ListN.{length, drop}
 use lib.Ieee.{Float}
