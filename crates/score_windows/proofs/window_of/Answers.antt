@@ -1,6 +1,5 @@
 -- `score_windows::window_of` meets its contract: the window of the counts passed. Assumes nothing.
 use mathlib.Core.Path.{◌≡◌, refl, sym, ap, ◌∙◌}
-use Prim.Native.Nat.{◌-◌}
 use native.Mathlib.Omega.{arith}
 use lib.ListN.{length, get_or}
 use Rattle.score_windows.specs.declared.Window.{Window}
