@@ -3,4 +3,4 @@ use mathlib.Core.Path.{refl}
 use Rattle.lent.proofs.answer.Goals as goal
 
 pub returns : goal.returns
-returns c = rw c.Leaves-of.ensures refl
+returns c = rw c.leaves_of.ensures refl
