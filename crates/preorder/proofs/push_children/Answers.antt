@@ -23,4 +23,4 @@ pub overflow_add-result : goal.overflow_add-result
 overflow_add-result c = omega (arith, c.requires.room c.if-kept.true)
 
 pub returns-then-kept : goal.returns-then-kept
-returns-then-kept c = rw (c.if-kept.true, c.gt_of-gt.ensures, c.le_of-le.ensures) (refl, refl)
+returns-then-kept c = rw (c.if-kept.true, c.gt_of-gt.ensures, c.le_of-le.ensures) (record { answer = refl; stack = refl })

@@ -1,61 +1,73 @@
 -- `preorder::walk` meets its contract: what was found and what waits on the stack are the preorder. Assumes nothing.
 use mathlib.Core.Path.{refl, ◌∙◌}
-use Prim.Native.Nat.{◌+◌, ◌-◌, ◌≤◌, ◌<◌}
 use native.Mathlib.Omega.{arith}
-use lib.ListN.{get_or, length-set}
+use lib.ListN.{length-set}
 use Rattle.preorder.proofs.Walking.{walk_first, walk_turn, walk_safe, walk-room, walk-done}
 use Rattle.preorder.proofs.walk.Goals as goal
 
--- what keeps a turn inside the lists
-safe : (c : goal.In-loop-depth) → let args = c.args in
-    (c.loop-depth.found + c.loop-depth.depth ≤ args.count) × (get_or c.loop-depth.stack (c.loop-depth.depth - 1) 0 < args.count)
-safe c =
-    let tree = c.requires.walkable in
-    walk_safe tree.shows (c.loop-depth.invariant.3 tree.nodes tree.shows) c.loop-depth-test.true
-
 pub loop-depth-init : goal.loop-depth-init
 loop-depth-init c = let args = c.args in (
-      refl,
-      refl,
-      refl,
-      λ nodes shows. walk_first nodes shows.family (omega (arith, c.requires.walkable.some, shows.many)) args.order.now args.places.now
-          args.stack.now
-          c.requires.rooted.root,
-    )
+  refl,
+  refl,
+  refl,
+  λ nodes shows. walk_first nodes shows.family (omega (arith, c.requires.walkable.some, shows.many)) args.order.now args.places.now
+      args.stack.now
+      c.requires.rooted.root,
+)
 
 pub offset_bounds-stack-top : goal.offset_bounds-stack-top
-offset_bounds-stack-top c = let s = safe c in omega (arith, s.0, c.loop-depth.invariant.2, c.requires.rooted.stack_there, c.loop-depth-test.true, c.requires.walkable.few)
+offset_bounds-stack-top c = let tree = c.requires.walkable in
+    let s = walk_safe tree.shows (c.loop-depth.invariant.3 tree.nodes tree.shows) c.loop-depth-test.true in
+    omega (arith, s.0, c.loop-depth.invariant.2, c.requires.rooted.stack_there, c.loop-depth-test.true, c.requires.walkable.few)
 
 pub bounds-stack-top : goal.bounds-stack-top
-bounds-stack-top c = let s = safe c.before in omega (arith, s.0, c.loop-depth.invariant.2, c.requires.rooted.stack_there, c.loop-depth-test.true)
+bounds-stack-top c = let tree = c.requires.walkable in
+    let s = walk_safe tree.shows (c.loop-depth.invariant.3 tree.nodes tree.shows) c.loop-depth-test.true in
+    omega (arith, s.0, c.loop-depth.invariant.2, c.requires.rooted.stack_there, c.loop-depth-test.true)
 
 pub overflow_cast-i : goal.overflow_cast-i
-overflow_cast-i c = let s = safe c.before in omega (arith, s.1, c.requires.walkable.few)
+overflow_cast-i c = let tree = c.requires.walkable in
+    let s = walk_safe tree.shows (c.loop-depth.invariant.3 tree.nodes tree.shows) c.loop-depth-test.true in
+    omega (arith, s.1, c.requires.walkable.few)
 
 pub offset_bounds-order-found : goal.offset_bounds-order-found
-offset_bounds-order-found c = let s = safe c.before in omega (arith, s.0, c.requires.walkable.few, c.loop-depth-test.true)
+offset_bounds-order-found c = let tree = c.requires.walkable in
+    let s = walk_safe tree.shows (c.loop-depth.invariant.3 tree.nodes tree.shows) c.loop-depth-test.true in
+    omega (arith, s.0, c.requires.walkable.few, c.loop-depth-test.true)
 
 pub bounds-order-found : goal.bounds-order-found
-bounds-order-found c = let s = safe c.before in omega (arith, s.0, c.loop-depth.invariant.0, c.requires.walkable.order_there, c.loop-depth-test.true)
+bounds-order-found c = let tree = c.requires.walkable in
+    let s = walk_safe tree.shows (c.loop-depth.invariant.3 tree.nodes tree.shows) c.loop-depth-test.true in
+    omega (arith, s.0, c.loop-depth.invariant.0, c.requires.walkable.order_there, c.loop-depth-test.true)
 
 pub overflow_cast-places : goal.overflow_cast-places
-overflow_cast-places c = let s = safe c.before in omega (arith, s.0, c.requires.walkable.few)
+overflow_cast-places c = let tree = c.requires.walkable in
+    let s = walk_safe tree.shows (c.loop-depth.invariant.3 tree.nodes tree.shows) c.loop-depth-test.true in
+    omega (arith, s.0, c.requires.walkable.few)
 
 pub offset_bounds-places-i : goal.offset_bounds-places-i
-offset_bounds-places-i c = let s = safe c.before in omega (arith, s.1, c.requires.walkable.few)
+offset_bounds-places-i c = let tree = c.requires.walkable in
+    let s = walk_safe tree.shows (c.loop-depth.invariant.3 tree.nodes tree.shows) c.loop-depth-test.true in
+    omega (arith, s.1, c.requires.walkable.few)
 
 pub bounds-places-i : goal.bounds-places-i
-bounds-places-i c = let s = safe c.before in omega (arith, s.1, c.loop-depth.invariant.1, c.requires.walkable.places_there)
+bounds-places-i c = let tree = c.requires.walkable in
+    let s = walk_safe tree.shows (c.loop-depth.invariant.3 tree.nodes tree.shows) c.loop-depth-test.true in
+    omega (arith, s.1, c.loop-depth.invariant.1, c.requires.walkable.places_there)
 
 pub overflow_add-found : goal.overflow_add-found
-overflow_add-found c = let s = safe c.before in omega (arith, s.0, c.requires.walkable.few)
+overflow_add-found c = let tree = c.requires.walkable in
+    let s = walk_safe tree.shows (c.loop-depth.invariant.3 tree.nodes tree.shows) c.loop-depth-test.true in
+    omega (arith, s.0, c.requires.walkable.few)
 
 pub bounds-splits-i : goal.bounds-splits-i
-bounds-splits-i c = let s = safe c.before.before in omega (arith, s.1, c.requires.walkable.splits_there)
+bounds-splits-i c = let tree = c.requires.walkable in
+    let s = walk_safe tree.shows (c.loop-depth.invariant.3 tree.nodes tree.shows) c.loop-depth-test.true in
+    omega (arith, s.1, c.requires.walkable.splits_there)
 
 pub push_children-depth-requires : goal.push_children-depth-requires
-push_children-depth-requires c = let s = safe c.before.before.before in
-    let tree = c.requires.walkable in
+push_children-depth-requires c = let tree = c.requires.walkable in
+    let s = walk_safe tree.shows (c.loop-depth.invariant.3 tree.nodes tree.shows) c.loop-depth-test.true in
     record {
       words_there = omega (arith, s.1, tree.words_there);
       room = walk-room tree.shows (c.loop-depth.invariant.3 tree.nodes tree.shows) c.loop-depth-test.true (omega (arith, c.loop-depth.invariant.0, tree.order_there))
@@ -63,17 +75,19 @@ push_children-depth-requires c = let s = safe c.before.before.before in
     }
 
 pub loop-depth-smaller : goal.loop-depth-smaller
-loop-depth-smaller c = let s = safe c.before.before.before.before.before.before in omega (arith, s.0, c.loop-depth-test.true)
+loop-depth-smaller c = let tree = c.requires.walkable in
+    let s = walk_safe tree.shows (c.loop-depth.invariant.3 tree.nodes tree.shows) c.loop-depth-test.true in
+    omega (arith, s.0, c.loop-depth-test.true)
 
 pub loop-depth-preserved : goal.loop-depth-preserved
 loop-depth-preserved c = let tree = c.requires.walkable in (
-      simp length-set c.loop-depth.invariant.0,
-      simp length-set c.loop-depth.invariant.1,
-      c.push_children-depth.auto.stack ∙ c.loop-depth.invariant.2,
-      λ nodes shows. rw (c.push_children-depth.ensures.answer, c.push_children-depth.ensures.stack)
-          (walk_turn shows (c.loop-depth.invariant.3 nodes shows) c.loop-depth-test.true (omega (arith, c.loop-depth.invariant.0, tree.order_there))
-          (omega (arith, c.loop-depth.invariant.1, tree.places_there)) (omega (arith, c.loop-depth.invariant.2, c.requires.rooted.stack_there))),
-    )
+  simp length-set c.loop-depth.invariant.0,
+  simp length-set c.loop-depth.invariant.1,
+  c.push_children-depth.auto.stack ∙ c.loop-depth.invariant.2,
+  λ nodes shows. rw (c.push_children-depth.ensures.answer, c.push_children-depth.ensures.stack)
+      (walk_turn shows (c.loop-depth.invariant.3 nodes shows) c.loop-depth-test.true (omega (arith, c.loop-depth.invariant.0, tree.order_there))
+      (omega (arith, c.loop-depth.invariant.1, tree.places_there)) (omega (arith, c.loop-depth.invariant.2, c.requires.rooted.stack_there))),
+)
 
 pub shape_of-order : goal.shape_of-order
 shape_of-order c = c.loop-depth.invariant.0
