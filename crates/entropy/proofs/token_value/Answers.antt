@@ -1,6 +1,6 @@
 -- `entropy::token_value` meets its contract. Assumes nothing.
-use Rattle.std.proofs.Common.{◌≡◌, ℕ, ◌+◌, ◌*◌, ◌%◌, ◌^◌, ◌<◌, ◌≤◌, sym, ap, ◌∙◌, arith}
-use Rattle.model.specs.Token.{extra_count, value_of}
+use Rattle.std.proofs.Common.{◌≡◌, ℕ, ◌*◌, ◌%◌, ◌^◌, ◌<◌, ◌≤◌, sym, ap, ◌∙◌, arith}
+use Rattle.model.specs.Token.{extra_count}
 use Rattle.model.specs.Operations.{accepted}
 use Rattle.model.proofs.Tokens.{count_fits, small-value, value-fits, reads, refuses_token, refuses_extra}
 use Rattle.entropy.proofs.Words.{shl_one, word_value}
