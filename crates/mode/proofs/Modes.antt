@@ -108,7 +108,9 @@ mode_differs [] = tt
 mode_differs (r ∷ rs) = go (dec_lt max_width (width r rs))
   where
     same : mode (r ∷ rs) ≡ pos 0 → Each (Differs (mode (r ∷ rs))) (r ∷ rs)
-    same e = rw e (each_map (r ∷ rs) (λ v p. record { fits = λ f. rw (+ℤ_idr v) f }) (near r rs))
+    same e =
+        let zero_differs : Each (Differs (pos 0)) (r ∷ rs) = each_map (r ∷ rs) (λ v p. record { fits = λ f. rw (+ℤ_idr v) f }) (near r rs) in
+        subst (λ (m : ℤ). Each (Differs m) (r ∷ rs)) (sym e) zero_differs
 
     short-of : width r rs ≤ max_width → (v : ℤ) → Offset (lowest r rs) (width r rs) v → Offset (lowest r rs) (width r rs) (mode (r ∷ rs)) → Differs (mode (r ∷ rs)) v
     short-of narrow v p q =

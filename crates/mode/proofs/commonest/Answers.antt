@@ -14,8 +14,9 @@ use Rattle.mode.proofs.Above.{fits-between}
 use Rattle.mode.proofs.Tallies.{countable, cleared}
 use Rattle.mode.proofs.Modes.{best-lt, oftenest-counted}
 use Rattle.mode.proofs.commonest.Goals as goal
+use Rattle.mode.proofs.commonest.Goals.{After-first_best-best}
 
-module _ (c : goal.After-first_best-best) where
+module _ (c : After-first_best-best) where
   abbrev low : ℤ
   low = c.args.low
   abbrev values : List ℤ
@@ -38,16 +39,20 @@ tally-requires c = let narrow = c.requires.narrow in
     let n = length-slice c.args.first c.args.end c.args.res.now c.requires.inside.inside in record { inside = c.requires.inside; countable = rw (to_z-of_z w32 c.args.low c.ranges.low) (countable c.args.low c.args.width _ _ narrow.near narrow.narrow (omega (arith, n, c.requires.inside.few)) c.requires.clear) }
 
 pub overflow_cast-result : goal.overflow_cast-result
-overflow_cast-result c = record { sfits = small c.before.before.before.before }
+overflow_cast-result c = record { sfits = small (goal.at.overflow_cast-result c).After-first_best-best }
 
 pub overflow_add-result : goal.overflow_add-result
-overflow_add-result c = rw (to_z-of_z w32 (low c) c.ranges.low, to_z_pos w32 (best c) (small c)) (sum c)
+overflow_add-result c' =
+    let c = (goal.at.overflow_add-result c').After-first_best-best in
+    rw (to_z-of_z w32 (low c) c.ranges.low, to_z_pos w32 (best c) (small c)) (sum c)
 
 pub returns : goal.returns
-returns c = let counts = c.args.counts.now in
+returns c' =
+    let c = (goal.at.returns c').After-first_best-best in
+    let counts = c.args.counts.now in
     let width = c.args.width in
     let narrow = c.requires.narrow in
     let clear = c.requires.clear in record { answer = rw (to_z-of_z w32 (low c) c.ranges.low, to_z_pos w32 (best c) (small c), to_z-of_z w32 (low c +ℤ pos (best c)) (sum c))
-          (ap (λ (n : ℕ). low c +ℤ pos n) (best-is c) ∙ oftenest-counted (low c) width (values c) counts narrow.near narrow.narrow clear); zeros = c.clear_first_u32.ensures
+          (ap (λ (n : ℕ). low c +ℤ pos n) (best-is c) ∙ oftenest-counted (low c) width (values c) counts narrow.near narrow.narrow clear); zeros = c'.clear_first_u32.ensures
           ∙ ap (λ (l : List ℕ). replicate width 0 ++ drop width l) (counted c)
           ∙ cleared (low c) width (values c) counts narrow.near narrow.narrow clear }

@@ -1,6 +1,5 @@
 -- `mode::first_best` meets its contract: the best of what was passed and what is left is that of the whole. Assumes nothing.
 use mathlib.Core.Path.{◌≡◌, sym, ◌∙◌}
-use mathlib.Core.Logic.{⊎_elim}
 use Prim.Native.Nat.{◌-◌}
 use native.Mathlib.Omega.{arith}
 use borrow.Author.Tests.{lt-ltb, le-ltb}
@@ -8,6 +7,7 @@ use lib.ListN.{get_or}
 use Rattle.mode.specs.Counted.{best_from}
 use Rattle.mode.proofs.Modes.{best-more}
 use Rattle.mode.proofs.first_best.Goals as goal
+use Rattle.mode.proofs.first_best.Goals.{then-counts-best, else-counts-best}
 
 pub loop-i-init : goal.loop-i-init
 loop-i-init c = let all : c.args.n - 0 ≡ c.args.n = omega arith in (omega arith, omega arith, rw all)
@@ -15,10 +15,10 @@ loop-i-init c = let all : c.args.n - 0 ≡ c.args.n = omega arith in (omega arit
 pub loop-i-preserved : goal.loop-i-preserved
 loop-i-preserved c = let counts = c.args.counts.now in
     let more = best-more counts c.args.n c.loop-i.i c.loop-i.best c.loop-i-test.true in
-    ⊎_elim
-    (λ w. (omega arith, omega arith, rw w.1 (sym (rw (lt-ltb (get_or counts c.loop-i.best 0) (get_or counts c.loop-i.i 0) w.0.taken) at more) ∙ c.loop-i.invariant.2)))
-    (λ w. (omega arith, omega arith, rw w.1 (sym (rw (le-ltb (get_or counts c.loop-i.best 0) (get_or counts c.loop-i.i 0) w.0.left) at more) ∙ c.loop-i.invariant.2)))
-    c.if-counts-best.branch
+    elim c.if-counts-best.branch [
+      | then-counts-best w ↦ (omega arith, omega arith, rw w.best-is (sym (rw (lt-ltb (get_or counts c.loop-i.best 0) (get_or counts c.loop-i.i 0) w.if-counts-best.true) at more) ∙ c.loop-i.invariant.2))
+      | else-counts-best w ↦ (omega arith, omega arith, rw w.best-is (sym (rw (le-ltb (get_or counts c.loop-i.best 0) (get_or counts c.loop-i.i 0) w.if-counts-best.false) at more) ∙ c.loop-i.invariant.2))
+    ]
 
 pub returns : goal.returns
 unfolding best_from

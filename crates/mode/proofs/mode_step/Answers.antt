@@ -11,7 +11,12 @@ rebase_zero-requires c = c.requires.used c.if-uses.true
 
 pub returns-then-uses : goal.returns-then-uses
 returns-then-uses c = rw c.if-uses.true
-    (to_z-of_z w32 c.rebase_zero.result (record { sfits = c.rebase_zero.type_inv }) ∙ c.rebase_zero.ensures.answer, (c.rebase_zero.ensures.tokens, (c.rebase_zero.ensures.zeros, λ _. c.rebase_zero.ensures.low)))
+    (record {
+      answer = to_z-of_z w32 c.rebase_zero.result (record { sfits = c.rebase_zero.type_inv }) ∙ c.rebase_zero.ensures.answer;
+      tokens = c.rebase_zero.ensures.tokens;
+      zeros = c.rebase_zero.ensures.zeros;
+      low = λ _. c.rebase_zero.ensures.low;
+    })
 
 pub returns-else-uses : goal.returns-else-uses
-returns-else-uses c = rw c.if-uses.false (refl, (refl, (refl, λ e. let z : ◌≡◌ {A = ℕ} 0 1 = cc in absurd (omega arith))))
+returns-else-uses c = rw c.if-uses.false (record { answer = refl; tokens = refl; zeros = refl; low = λ e. let z : ◌≡◌ {A = ℕ} 0 1 = cc in absurd (omega arith) })

@@ -28,8 +28,8 @@ unfolding lowest highest
 loop-i-preserved c = let v = get_or c.args.res.now c.loop-i.i (pos 0) in
     let read = to_z-of_z w32 v (record { sfits = c.value-1.given }) in
     let turn = slice-more c.args.res.now c.loop-i.i c.args.end c.loop-i-test.true c.requires.inside.inside in
-    let lower : c.lower-low.result ≡ cond (lt_z v (c.loop-i.low)) v (c.loop-i.low) = rw read at c.lower-low.ensures in
-    let higher : c.higher-high.result ≡ cond (lt_z (c.loop-i.high) v) v (c.loop-i.high) = rw read at c.higher-high.ensures in (
+    let lower = rw read at c.lower-low.ensures in
+    let higher = rw read at c.higher-high.ensures in (
       omega arith,
       rw (to_z-of_z w32 c.lower-low.result (record { sfits = c.lower-low.type_inv }), lower) (rw turn at c.loop-i.invariant.1),
       rw (to_z-of_z w32 c.higher-high.result (record { sfits = c.higher-high.type_inv }), higher) (rw turn at c.loop-i.invariant.2),

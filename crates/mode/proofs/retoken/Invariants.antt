@@ -11,8 +11,8 @@ use Rattle.mode.proofs.retoken.Given as goal
 abbrev pub invariant-loop-i : goal.invariant-loop-i
 invariant-loop-i l = (l.i ≤ l.end)
     × (length l.tok ≡ length l.initial.tok)
-    × Each (Differs (l.mode)) (slice l.i l.end l.res)
-    × (rezeroed (l.mode) l.i (slice l.i l.end l.res) l.tok ≡ rezeroed (l.mode) l.first (slice l.first l.end l.res) l.initial.tok)
+    × Each (Differs l.mode) (slice l.i l.end l.res)
+    × (rezeroed l.mode l.i (slice l.i l.end l.res) l.tok ≡ rezeroed l.mode l.first (slice l.first l.end l.res) l.initial.tok)
     × LowTokens l.first l.i l.tok
 
 abbrev pub decreases-loop-i : goal.decreases-loop-i

@@ -7,17 +7,18 @@ use lib.IntN.{ℤ, pos}
 use lib.ListN.{get_or, length-set}
 use lib.Seq.{slice}
 use mir.Syntax.{w32}
-use mir.Val.{of_z}
+use mir.Val.{to_z, of_z}
 use mir.ValLaws.{to_z-of_z}
 use Rattle.mode.specs.Counted.{offset_of, tallied, Countable}
 use Rattle.mode.proofs.Turns.{slice-more, slice-done}
 use Rattle.mode.proofs.Tallies.{place, countable-more}
 use Rattle.mode.proofs.tally.Goals as goal
+use Rattle.mode.proofs.tally.Goals.{In-loop-i, After-offset-at}
 
 -- the residual of a turn, and what is left after it
-module _ (c : goal.In-loop-i) where
+module _ (c : In-loop-i) where
   abbrev low : ℤ
-  low = (of_z w32 c.args.low)
+  low = to_z w32 (of_z w32 c.args.low)
   abbrev value : ℤ
   value = get_or c.args.res.now c.loop-i.i (pos 0)
   abbrev rest : List ℤ
@@ -28,39 +29,36 @@ module _ (c : goal.In-loop-i) where
   left = rw turn at c.loop-i.invariant.2
 
 -- its place
-at : (c : goal.After-offset-at) → c.offset-at.result ≡ offset_of (low c.before.before (value c.before.before
-at c = rw (to_z-of_z w32 (value c.before.before (record { sfits = c.offset-arg-1.given })) at c.offset-at.ensures
+at : (c : After-offset-at) → c.offset-at.result ≡ offset_of (low c.before.before) (value c.before.before)
+at c = rw (to_z-of_z w32 (value c.before.before) (record { sfits = c.offset-arg-1.given })) at c.offset-at.ensures
 
-at_lt : (c : goal.After-offset-at) → c.offset-at.result < 4096
+at_lt : (c : After-offset-at) → c.offset-at.result < 4096
 at_lt c = let h = (left c.before.before).near.0 in omega (arith, at c, place h, h.near)
 
-pub loop-i-init : goal.loop-i-init
-loop-i-init c = (omega arith, refl, rw (to_z-of_z w32 c.args.low c.ranges.low) c.requires.countable, refl)
-
 pub offset-at-requires : goal.offset-at-requires
-offset-at-requires c = let h = (left c.before).near.0 in
-    rw (to_z-of_z w32 (value c.before (record { sfits = c.offset-arg-1.given })) (record { at = h.at; value = h.value; near = omega (arith, h.near) })
-
-pub offset_bounds-counts-at : goal.offset_bounds-counts-at
-offset_bounds-counts-at c = omega (arith, at_lt c)
-
-pub bounds-counts-at : goal.bounds-counts-at
-bounds-counts-at c = omega (arith, at_lt c.before, (left c.before.before.before).long)
+offset-at-requires c =
+    let h = (left c.before).near.0 in
+    rw (to_z-of_z w32 (value c.before) (record { sfits = c.offset-arg-1.given })) (record { at = h.at; value = h.value; near = omega (arith, h.near) })
 
 pub overflow_add-counts : goal.overflow_add-counts
-overflow_add-counts c = omega (arith, (left c.before.before.before).room c.offset-at.result (at_lt c.before)
+overflow_add-counts c =
+    let a = (goal.at.overflow_add-counts c).After-offset-at in
+    omega (arith, (left a.before.before).room c.offset-at.result (at_lt a))
 
 pub bounds-counts-at-in-loop-i : goal.bounds-counts-at-in-loop-i
-bounds-counts-at-in-loop-i c = slice-read-counts c
+bounds-counts-at-in-loop-i c =
+    let a = (goal.at.bounds-counts-at-in-loop-i c).After-offset-at in
+    omega (arith, at_lt a, (left a.before.before).long)
 
 pub loop-i-preserved : goal.loop-i-preserved
 unfolding tallied
-loop-i-preserved c = (omega arith, simp length-set c.loop-i.invariant.1, rw (at c.before (countable-more (left c)), rw (at c.before (rw (turn c) at c.loop-i.invariant.3))
-
-pub shape_of-counts : goal.shape_of-counts
-shape_of-counts c = c.loop-i.invariant.1
+loop-i-preserved c =
+    let a = (goal.at.loop-i-preserved c).After-offset-at in
+    let i = a.before.before in
+    (omega arith, simp length-set c.loop-i.invariant.1, rw (at a) (countable-more (left i)), rw (at a) (rw (turn i) at i.loop-i.invariant.3))
 
 pub returns : goal.returns
 unfolding tallied
-returns c = let done = slice-done c.args.res.now c.loop-i.i c.args.end (omega arith) in
+returns c =
+    let done = slice-done c.args.res.now c.loop-i.i c.args.end (omega arith) in
     rw (done, to_z-of_z w32 c.args.low c.ranges.low) at c.loop-i.invariant.3
