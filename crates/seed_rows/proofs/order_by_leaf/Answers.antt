@@ -1,21 +1,9 @@
 -- `seed_rows::order_by_leaf` meets its contract: the leaves' numbers, the ordering by them, the spans copied, and the space cleared. Assumes nothing.
 use mathlib.Core.Path.{sym}
 use native.Mathlib.Omega.{arith}
-use mathlib.Core.List.{List}
-use Prim.Native.Nat.{ℕ}
-use Rattle.model.specs.Rows.{Row, rows_held}
+use Rattle.model.specs.Rows.{rows_held}
 use Rattle.seed_rows.proofs.Ordering.{count-few, front_long, routable, space-long, hold-rows, hold-space, rows-ordered, mid-long, spans-of, space-clear}
 use Rattle.seed_rows.proofs.order_by_leaf.Goals as goal
-
--- ---- the numbers that were read, and the rows and the space that the ordering left
-abbrev numbers : goal.After-leaf_numbers → List ℕ
-numbers c = c.leaf_numbers.new.number
-
-abbrev rows : goal.After-order_by_number → List Row
-rows c = rows_held c.order_by_number.new.props c.order_by_number.new.tok c.order_by_number.new.res
-
-abbrev space : goal.After-order_by_number → List ℕ
-space c = c.order_by_number.new.space
 
 pub slice_bounds-leaf_numbers-end-2 : goal.slice_bounds-leaf_numbers-end-2
 slice_bounds-leaf_numbers-end-2 c = sym (front_long c.requires)
@@ -27,17 +15,17 @@ pub leaf_numbers-requires : goal.leaf_numbers-requires
 leaf_numbers-requires c = routable c.requires
 
 pub slice_bounds-order_by_number-end-2 : goal.slice_bounds-order_by_number-end-2
-slice_bounds-order_by_number-end-2 c = sym (space-long c.requires (numbers c) c.leaf_numbers.auto.number c.leaf_numbers.ensures)
+slice_bounds-order_by_number-end-2 c = sym (space-long c.requires c.leaf_numbers.new.number c.leaf_numbers.auto.number c.leaf_numbers.ensures)
 
 pub order_by_number-requires : goal.order_by_number-requires
 order_by_number-requires c = let pre = c.requires in
-    record { hold_rows = hold-rows pre (numbers c) c.leaf_numbers.auto.number c.leaf_numbers.ensures; holds = hold-space pre (numbers c) c.leaf_numbers.auto.number c.leaf_numbers.ensures }
+    record { hold_rows = hold-rows pre c.leaf_numbers.new.number c.leaf_numbers.auto.number c.leaf_numbers.ensures; holds = hold-space pre c.leaf_numbers.new.number c.leaf_numbers.auto.number c.leaf_numbers.ensures }
 
 pub pair_spans-requires : goal.pair_spans-requires
 pair_spans-requires c = let pre = c.requires in
     record {
-      given = mid-long pre (numbers c) c.leaf_numbers.auto.number c.leaf_numbers.ensures
-          (rows c) (space c) c.order_by_number.auto.space c.order_by_number.ensures;
+      given = mid-long pre c.leaf_numbers.new.number c.leaf_numbers.auto.number c.leaf_numbers.ensures
+          (rows_held c.order_by_number.new.props c.order_by_number.new.tok c.order_by_number.new.res) c.order_by_number.new.space c.order_by_number.auto.space c.order_by_number.ensures;
       room = pre.sound.held;
     }
 
@@ -57,9 +45,9 @@ pub returns : goal.returns
 returns c = let pre = c.requires in
     let is = c.leaf_numbers.ensures in
     let ordered = c.order_by_number.ensures in record { rows = record {
-        rows = rows-ordered pre (numbers c) c.leaf_numbers.auto.number is (rows c) (space c) c.order_by_number.auto.space ordered;
+        rows = rows-ordered pre c.leaf_numbers.new.number c.leaf_numbers.auto.number is (rows_held c.order_by_number.new.props c.order_by_number.new.tok c.order_by_number.new.res) c.order_by_number.new.space c.order_by_number.auto.space ordered;
         size = record { props = c.order_by_number.auto.props; toks = c.order_by_number.auto.tok; res = c.order_by_number.auto.res };
-        spans_are = spans-of pre (numbers c) c.leaf_numbers.auto.number is (rows c) (space c) c.order_by_number.auto.space ordered
+        spans_are = spans-of pre c.leaf_numbers.new.number c.leaf_numbers.auto.number is (rows_held c.order_by_number.new.props c.order_by_number.new.tok c.order_by_number.new.res) c.order_by_number.new.space c.order_by_number.auto.space ordered
             c.pair_spans.ensures;
-      }; zeros = space-clear pre (numbers c) c.leaf_numbers.auto.number is (rows c) (space c) c.order_by_number.auto.space ordered c.clear_u32.new.list
+      }; zeros = space-clear pre c.leaf_numbers.new.number c.leaf_numbers.auto.number is (rows_held c.order_by_number.new.props c.order_by_number.new.tok c.order_by_number.new.res) c.order_by_number.new.space c.order_by_number.auto.space ordered c.clear_u32.new.list
           c.clear_u32.ensures }
