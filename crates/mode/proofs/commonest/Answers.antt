@@ -19,18 +19,25 @@ use Rattle.mode.proofs.commonest.Goals.{After-first_best-best}
 module _ (c : After-first_best-best) where
   abbrev low : ℤ
   low = c.args.low
+
   abbrev values : List ℤ
   values = slice c.args.first c.args.end c.args.res.now
+
   abbrev best : ℕ
   best = c.first_best-best.result
+
   counted : c.tally.new.counts ≡ tallied low values c.args.counts.now
   counted = rw (to_z-of_z w32 low c.ranges.low) at c.tally.ensures
+
   best-is : best ≡ first_best (tallied low values c.args.counts.now) c.args.width
   best-is = c.first_best-best.ensures ∙ ap (λ (l : List ℕ). first_best l c.args.width) counted
+
   below : best < c.args.width
   below = let some = c.requires.narrow.some in omega (arith, best-is, best-lt (tallied low values c.args.counts.now) c.args.width 0 0 (omega arith))
+
   small : best < 2 ^ 31
   small = omega (arith, below, c.requires.narrow.narrow)
+
   sum : SFits w32 (low +ℤ pos best)
   sum = record { sfits = fits-between low best (c.args.width - 1) (2 ^ 31) (omega (arith, below)) c.ranges.low.sfits c.requires.narrow.top }
 
@@ -52,7 +59,10 @@ returns c' =
     let counts = c.args.counts.now in
     let width = c.args.width in
     let narrow = c.requires.narrow in
-    let clear = c.requires.clear in record { answer = rw (to_z-of_z w32 (low c) c.ranges.low, to_z_pos w32 (best c) (small c), to_z-of_z w32 (low c +ℤ pos (best c)) (sum c))
-          (ap (λ (n : ℕ). low c +ℤ pos n) (best-is c) ∙ oftenest-counted (low c) width (values c) counts narrow.near narrow.narrow clear); zeros = c'.clear_first_u32.ensures
+    let clear = c.requires.clear in record {
+      answer = rw (to_z-of_z w32 (low c) c.ranges.low, to_z_pos w32 (best c) (small c), to_z-of_z w32 (low c +ℤ pos (best c)) (sum c))
+          (ap (λ (n : ℕ). low c +ℤ pos n) (best-is c) ∙ oftenest-counted (low c) width (values c) counts narrow.near narrow.narrow clear);
+      zeros = c'.clear_first_u32.ensures
           ∙ ap (λ (l : List ℕ). replicate width 0 ++ drop width l) (counted c)
-          ∙ cleared (low c) width (values c) counts narrow.near narrow.narrow clear }
+          ∙ cleared (low c) width (values c) counts narrow.near narrow.narrow clear;
+    }

@@ -1,12 +1,8 @@
 -- `mode::residual_range` meets its contract: the lowest of what was passed and what is left is that of the whole, and so is the highest. Assumes nothing.
-use mathlib.Core.Path.{◌≡◌}
-use mathlib.Core.Bool.{cond}
-use Prim.Native.Nat.{◌-◌}
 use native.Mathlib.Numerals.{add-one}
 use native.Mathlib.Omega.{arith}
 use lib.IntN.{pos}
 use lib.ListN.{get_or}
-use lib.Signed.{lt_z}
 use mir.Syntax.{w32}
 use mir.ValLaws.{to_z-of_z}
 use Rattle.model.specs.Mode.{lowest, highest}

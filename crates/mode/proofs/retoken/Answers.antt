@@ -1,7 +1,7 @@
 -- `mode::retoken` meets its contract: what was made anew and what is left are the whole. Assumes nothing.
 use mathlib.Core.Path.{◌≡◌, refl}
 use mathlib.Core.List.{◌∷◌}
-use Prim.Native.Nat.{◌+◌, ◌-◌}
+use Prim.Native.Nat.{◌+◌}
 use native.Mathlib.Nat.{add-zero}
 use native.Mathlib.Numerals.{add-one}
 use native.Mathlib.Omega.{arith}
@@ -21,8 +21,10 @@ use Rattle.mode.proofs.retoken.Goals.{In-loop-i, After-zero_token}
 module _ (c : In-loop-i) where
   abbrev value : ℤ
   value = get_or c.args.res.now c.loop-i.i (pos 0)
+
   turn : slice c.loop-i.i c.args.end c.args.res.now ≡ value ∷ slice (c.loop-i.i + 1) c.args.end c.args.res.now
   turn = slice-more c.args.res.now c.loop-i.i c.args.end c.loop-i-test.true c.requires.inside.inside
+
   left : Each (Differs (to_z w32 (of_z w32 c.args.mode))) (value ∷ slice (c.loop-i.i + 1) c.args.end c.args.res.now)
   left = rw turn at c.loop-i.invariant.2
 

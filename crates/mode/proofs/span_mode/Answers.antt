@@ -30,18 +30,23 @@ record Found (res : List ℤ) (first end : ℕ) (range : Range) : Type 0 where
 -- the first residual, and the others
 abbrev r : List ℤ → ℕ → ℤ
 r res first = get_or res first (pos 0)
+
 abbrev rs : List ℤ → ℕ → ℕ → List ℤ
 rs res first end = slice (suc first) end res
 
 module _ {res : List ℤ} {first end : ℕ} {range : Range} (f : Found res first end range) where
   split : slice first end res ≡ r res first ∷ rs res first end
   split = slice-cons first end res (pos 0) f.some f.inside
+
   low-is : to_z w32 (of_z w32 range.low) ≡ lowest (r res first) (rs res first end)
   low-is = to_z-of_z w32 range.low (record { sfits = f.low_fits }) ∙ ap (λ (g : Range). g.low) f.is
+
   high_is : to_z w32 (of_z w32 range.high) ≡ highest (r res first) (rs res first end)
   high_is = to_z-of_z w32 range.high (record { sfits = f.high_fits }) ∙ ap (λ (g : Range). g.high) f.is
+
   low_held : mag (lowest (r res first) (rs res first end)) < 2 ^ 31
   low_held = rw f.is at f.low_fits
+
   high_held : mag (highest (r res first) (rs res first end)) < 2 ^ 31
   high_held = rw f.is at f.high_fits
 
@@ -62,27 +67,27 @@ returns-then-first-end c =
 pub offset-width-requires : goal.offset-width-requires
 offset-width-requires c =
     let f : Found c.args.res.now c.args.first c.args.end c.residual_range-range.result =
-      record { some = omega arith; inside = c.requires.inside.inside; is = c.residual_range-range.ensures; low_fits = omega arith; high_fits = omega arith } in
+    record { some = omega arith; inside = c.requires.inside.inside; is = c.residual_range-range.ensures; low_fits = omega arith; high_fits = omega arith } in
     rw (low-is f, high_is f) (top (r c.args.res.now c.args.first) (rs c.args.res.now c.args.first c.args.end) (low_held f) (high_held f))
 
 pub overflow_add-width : goal.overflow_add-width
 overflow_add-width c =
     let f : Found c.args.res.now c.args.first c.args.end c.residual_range-range.result =
-      record { some = omega arith; inside = c.requires.inside.inside; is = c.residual_range-range.ensures; low_fits = omega arith; high_fits = omega arith } in
+    record { some = omega arith; inside = c.requires.inside.inside; is = c.residual_range-range.ensures; low_fits = omega arith; high_fits = omega arith } in
     let t = top (r c.args.res.now c.args.first) (rs c.args.res.now c.args.first c.args.end) (low_held f) (high_held f) in
     omega (arith, offset_at f c.offset-width.result c.offset-width.ensures, place t, t.near)
 
 pub returns-then-width-gt-MODAL_MAX_SPAN : goal.returns-then-width-gt-MODAL_MAX_SPAN
 returns-then-width-gt-MODAL_MAX_SPAN c =
     let f : Found c.args.res.now c.args.first c.args.end c.residual_range-range.result =
-      record { some = omega arith; inside = c.requires.inside.inside; is = c.residual_range-range.ensures; low_fits = omega arith; high_fits = omega arith } in
+    record { some = omega arith; inside = c.requires.inside.inside; is = c.residual_range-range.ensures; low_fits = omega arith; high_fits = omega arith } in
     let w = width_is f c.offset-width.result c.offset-width.ensures in
     record { answer = rw (split f) (sym (mode_far (r c.args.res.now c.args.first) (rs c.args.res.now c.args.first c.args.end) (omega arith))); zeros = refl }
 
 pub commonest-requires : goal.commonest-requires
 commonest-requires c =
     let f : Found c.args.res.now c.args.first c.args.end c.residual_range-range.result =
-      record { some = omega arith; inside = c.requires.inside.inside; is = c.residual_range-range.ensures; low_fits = omega arith; high_fits = omega arith } in
+    record { some = omega arith; inside = c.requires.inside.inside; is = c.residual_range-range.ensures; low_fits = omega arith; high_fits = omega arith } in
     let w = width_is f c.offset-width.result c.offset-width.ensures in
     let narrow-is = narrow (r c.args.res.now c.args.first) (rs c.args.res.now c.args.first c.args.end) (low_held f) (high_held f) (omega arith) in
     record { inside = c.requires.inside; narrow = rw (low-is f, w, split f) narrow-is; clear = c.requires.clear }
@@ -90,7 +95,7 @@ commonest-requires c =
 pub returns : goal.returns
 returns c =
     let f : Found c.args.res.now c.args.first c.args.end c.residual_range-range.result =
-      record { some = omega arith; inside = c.requires.inside.inside; is = c.residual_range-range.ensures; low_fits = omega arith; high_fits = omega arith } in
+    record { some = omega arith; inside = c.requires.inside.inside; is = c.residual_range-range.ensures; low_fits = omega arith; high_fits = omega arith } in
     let w = width_is f c.offset-width.result c.offset-width.ensures in
     let near = mode-near (r c.args.res.now c.args.first) (rs c.args.res.now c.args.first c.args.end) (omega arith) in
     let found = rw (low-is f, w, split f) at c.commonest.ensures.answer in

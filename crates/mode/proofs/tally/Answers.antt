@@ -1,7 +1,7 @@
 -- `mode::tally` meets its contract: what was counted and what is left are the whole. Assumes nothing.
-use mathlib.Core.Path.{◌≡◌, refl}
+use mathlib.Core.Path.{◌≡◌}
 use mathlib.Core.List.{List, ◌∷◌}
-use Prim.Native.Nat.{◌+◌, ◌-◌, ◌<◌}
+use Prim.Native.Nat.{◌+◌, ◌<◌}
 use native.Mathlib.Omega.{arith}
 use lib.IntN.{ℤ, pos}
 use lib.ListN.{get_or, length-set}
@@ -19,12 +19,16 @@ use Rattle.mode.proofs.tally.Goals.{In-loop-i, After-offset-at}
 module _ (c : In-loop-i) where
   abbrev low : ℤ
   low = to_z w32 (of_z w32 c.args.low)
+
   abbrev value : ℤ
   value = get_or c.args.res.now c.loop-i.i (pos 0)
+
   abbrev rest : List ℤ
   rest = slice (c.loop-i.i + 1) c.args.end c.args.res.now
+
   turn : slice c.loop-i.i c.args.end c.args.res.now ≡ value ∷ rest
   turn = slice-more c.args.res.now c.loop-i.i c.args.end c.loop-i-test.true c.requires.inside.inside
+
   left : Countable low (value ∷ rest) c.loop-i.counts
   left = rw turn at c.loop-i.invariant.2
 
