@@ -1,5 +1,4 @@
 -- `lists::clear_f32` meets its contract: the cells passed are 0. Assumes nothing.
-use Prim.Native.Nat.{◌-◌}
 use native.Mathlib.Omega.{arith}
 use lib.Ieee.{of_bits}
 use Rattle.lists.proofs.Filling.{fills_none, fills_more, fills_all}

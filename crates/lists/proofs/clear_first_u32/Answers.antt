@@ -1,5 +1,4 @@
 -- `lists::clear_first_u32` meets its contract: the cells passed are 0. Assumes nothing.
-use Prim.Native.Nat.{◌-◌}
 use native.Mathlib.Omega.{arith}
 use Rattle.lists.proofs.Filling.{fills_none, fills_more, fills_end}
 use Rattle.lists.proofs.clear_first_u32.Goals as goal

@@ -1,5 +1,4 @@
 -- `lists::clear_i32` meets its contract: the cells passed are 0. Assumes nothing.
-use Prim.Native.Nat.{◌-◌}
 use native.Mathlib.Omega.{arith}
 use Rattle.lists.proofs.Filling.{fills_none, fills_more, fills_all}
 use Rattle.lists.proofs.clear_i32.Goals as goal

@@ -1,5 +1,4 @@
 -- `lists::copy_f32` meets its contract: the cells passed are copied. Assumes nothing.
-use Prim.Native.Nat.{◌-◌}
 use native.Mathlib.Omega.{arith}
 use lib.Ieee.{nan}
 use Rattle.lists.proofs.Pasting.{pastes_none, pastes_end, copies_more}

@@ -1,5 +1,4 @@
 -- `lists::copy_i32` meets its contract: the cells passed are copied. Assumes nothing.
-use Prim.Native.Nat.{◌-◌}
 use native.Mathlib.Omega.{arith}
 use lib.IntN.{pos}
 use lib.ListN.{get_or}
@@ -12,7 +11,7 @@ pub loop-k-init : goal.loop-k-init
 loop-k-init c = pastes_none
 
 pub loop-k-preserved : goal.loop-k-preserved
-loop-k-preserved c = rw (to_z-of_z w32 (get_or c.args.from.now c.loop-k.k (pos 0)) (record { sfits = c.to-1.given }))
+loop-k-preserved c = rw (to_z-of_z w32 (get_or c.args.from.now c.loop-k.k (pos 0)) (record { sfits = omega arith }))
     (copies_more (pos 0) c.requires c.loop-k-test.true c.loop-k.invariant)
 
 pub shape_of-to : goal.shape_of-to

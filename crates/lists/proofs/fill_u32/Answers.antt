@@ -1,5 +1,4 @@
 -- `lists::fill_u32` meets its contract: the cells passed hold the value. Assumes nothing.
-use Prim.Native.Nat.{◌-◌}
 use native.Mathlib.Omega.{arith}
 use Rattle.lists.proofs.Filling.{fills_none, fills_more, fills_all}
 use Rattle.lists.proofs.fill_u32.Goals as goal

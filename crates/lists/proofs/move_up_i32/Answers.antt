@@ -1,5 +1,5 @@
 -- `lists::move_up_i32` meets its contract: the cells passed have moved up. Assumes nothing.
-use Prim.Native.Nat.{◌+◌, ◌-◌}
+use Prim.Native.Nat.{◌+◌}
 use native.Mathlib.Omega.{arith}
 use lib.ListN.{get_or}
 use lib.IntN.{pos}
@@ -13,7 +13,7 @@ loop-k-init c = pastes_none
 
 pub loop-k-preserved : goal.loop-k-preserved
 loop-k-preserved c = let args = c.args in
-    rw (to_z-of_z w32 (get_or c.loop-k.list (args.at + c.loop-k.k + args.w) (pos 0)) (record { sfits = c.list-1.given }))
+    rw (to_z-of_z w32 (get_or c.loop-k.list (args.at + c.loop-k.k + args.w) (pos 0)) (record { sfits = omega arith }))
     (moves_more (pos 0) c.args.at c.args.w c.requires c.loop-k-test.true c.loop-k.invariant)
 
 pub shape_of-list : goal.shape_of-list

@@ -1,5 +1,4 @@
 -- `lists::move_up_u32` meets its contract: the cells passed have moved up. Assumes nothing.
-use Prim.Native.Nat.{◌-◌}
 use native.Mathlib.Omega.{arith}
 use Rattle.lists.proofs.Pasting.{pastes_none, pastes_end, moves_more}
 use Rattle.lists.proofs.move_up_u32.Goals as goal
