@@ -1,7 +1,2 @@
--- `Copies`: how long the copies are, and what is read back. `Counted`, `Facts`, `LocalArrays`, `Locals`, `Rows`: what a walk by hand uses, in this crate and above it.
+-- `Copies`: how long the copies are, and what is read back.
 pub mod Copies
-pub mod Counted
-pub mod Facts
-pub mod LocalArrays
-pub mod Locals
-pub mod Rows

@@ -1,5 +1,5 @@
 // Node and span records in lent slices, as a caller holds them: nodes go to the core's number lists and come back
-// from them, and spans come from their words. Only the three loops see the slices, and are walked by hand.
+// from them, and spans come from their words. Only the three loops see the slices.
 #![tactic(auto)]
 
 ghost use Rattle.std.specs.Prelude.{◌≡◌, length, ◌≤◌};
