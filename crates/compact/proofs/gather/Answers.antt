@@ -1,6 +1,5 @@
 -- `compact::gather` meets its contract: the entries passed are gathered. Assumes nothing.
 use mathlib.Core.Path.{◌≡◌, ap}
-use Prim.Native.Nat.{◌-◌}
 use native.Mathlib.Omega.{arith}
 use Rattle.layout.specs.Records.{stored_of}
 use Rattle.layout.specs.Tree.{node_lists}
@@ -10,12 +9,11 @@ use Rattle.compact.proofs.gather.Goals as goal
 
 lengths : (c : goal.After-loop-q)
     → let a = c.args in
-    SameLengths (node_lists a.new-words.now a.new-values.now a.new-costs.now)
+    SameLengths (node_lists a.new_words.now a.new_values.now a.new_costs.now)
     (node_lists c.loop-q.new_words c.loop-q.new_values c.loop-q.new_costs)
 lengths c =
-    let c.loop-q = c.loop-q in
     let pre = c.requires in
-    gathered-lengths _ _ _ _ pre.1 c.loop-q.q c.loop-q.invariant.1 c.loop-q.invariant.0
+    gathered-lengths _ _ _ _ pre.has_room c.loop-q.q c.loop-q.invariant.1 c.loop-q.invariant.0
 
 pub loop-q-init : goal.loop-q-init
 loop-q-init c = (omega arith, gathered_none _ _ _ _ _)
@@ -25,9 +23,6 @@ offset_bounds-order-q c = omega (arith, c.requires.all_movable.order_there)
 
 pub bounds-order-q : goal.bounds-order-q
 bounds-order-q c = omega (arith, c.requires.all_movable.order_there)
-
-pub overflow_cast-i : goal.overflow_cast-i
-overflow_cast-i c = omega (arith, c.shared_slice_known-in-loop-q-1.given c.loop-q.q)
 
 pub node_at-node-requires : goal.node_at-node-requires
 node_at-node-requires c = let pre = c.requires.all_movable in
@@ -50,29 +45,28 @@ renumbered-moved-requires c = let pre = c.requires.all_movable in
 pub put_node-requires : goal.put_node-requires
 put_node-requires c = let pre = c.requires in
     let taken = c.loop-q-test.true in
-    let room = gathered-room _ _ _ _ pre.1 c.loop-q.q c.loop-q.invariant.1 taken in
+    let room = gathered-room _ _ _ _ pre.has_room c.loop-q.q c.loop-q.invariant.1 taken in
     record { words_there = room.words; values_there = room.values; costs_there = room.costs }
 
 pub put_span-requires : goal.put_span-requires
 put_span-requires c = let pre = c.requires in
     let taken = c.loop-q-test.true in
-    let room = gathered-room _ _ _ _ pre.1 c.loop-q.q c.loop-q.invariant.1 taken in
+    let room = gathered-room _ _ _ _ pre.has_room c.loop-q.q c.loop-q.invariant.1 taken in
     omega (arith, room.words, c.put_node.auto.words)
 
 pub overflow_step-q : goal.overflow_step-q
 overflow_step-q c = let pre = c.requires in
     let taken = c.loop-q-test.true in
-    omega (arith, taken, pre.0.few, pre.0.most)
+    omega (arith, taken, pre.all_movable.few, pre.all_movable.most)
 
 pub loop-q-preserved : goal.loop-q-preserved
 loop-q-preserved c = let pre = c.requires in
     let taken = c.loop-q-test.true in
-    let span_at_lem = c.span_at_lem in
-    (
+    let span = c.span_at-span in (
       omega arith,
       rw (c.put_span.ensures, c.put_node.ensures.words, c.put_node.ensures.values, c.put_node.ensures.costs)
-          (gathered-more _ _ _ _ pre.1 c.loop-q.q c.loop-q.invariant.1 (stored_of c.renumbered-moved.result) span_at_lem.result.first span_at_lem.result.end taken
-          (ap stored_of (rw c.node_at-node.ensures at c.renumbered-moved.ensures)) span_at_lem.ensures.0 span_at_lem.ensures.1),
+          (gathered-more _ _ _ _ pre.has_room c.loop-q.q c.loop-q.invariant.1 (stored_of c.renumbered-moved.result) span.result.first span.result.end taken
+          (ap stored_of (rw c.node_at-node.ensures at c.renumbered-moved.ensures)) span.ensures.0 span.ensures.1),
     )
 
 pub shape_of-new_words : goal.shape_of-new_words
