@@ -1,7 +1,7 @@
 -- `score_bins::accumulate` meets its contract: the cells passed have their sums. Assumes nothing.
 use mathlib.Core.Path.{◌≡◌, sym, ap}
 use mathlib.Core.List.{List}
-use Prim.Native.Nat.{ℕ, ◌-◌, ◌+◌}
+use Prim.Native.Nat.{ℕ, ◌+◌}
 use native.Mathlib.Omega.{arith}
 use lib.ListN.{get_or, length-set}
 use Rattle.score_bins.proofs.Tallies.{summed-none, summed-more}

@@ -1,9 +1,8 @@
 -- `score_bins::bin_for` meets its contract: the candidates passed, with those that are left, are the whole count. Assumes nothing.
 use mathlib.Core.Path.{refl}
-use Prim.Native.Nat.{◌-◌}
 use native.Mathlib.Omega.{arith}
 use mir.Syntax.{w32}
-use mir.Val.{of_z}
+use mir.Val.{of_z, to_z}
 use mir.ValLaws.{to_z-of_z}
 use lib.IntN.{pos}
 use lib.ListN.{get_or}
@@ -14,11 +13,11 @@ pub loop-k-init : goal.loop-k-init
 loop-k-init c = (refl, omega arith)
 
 pub next_bin-bin-requires : goal.next_bin-bin-requires
-next_bin-bin-requires c = omega (arith, bin_of_le c.args.cands.now ((of_z w32 c.args.v)), c.loop-k.invariant.1)
+next_bin-bin-requires c = omega (arith, bin_of_le c.args.cands.now (to_z w32 (of_z w32 c.args.v)), c.loop-k.invariant.1)
 
 pub loop-k-preserved : goal.loop-k-preserved
 loop-k-preserved c = let one = rw (to_z-of_z w32 (get_or c.args.cands.now c.loop-k.k (pos 0)) (record { sfits = c.next_bin-arg-1.given })) at c.next_bin-bin.ensures in
-    (refl, bin-turn c.args.cands.now ((of_z w32 c.args.v)) c.loop-k.k c.loop-k.bin c.next_bin-bin.result _ c.loop-k-test.true one c.loop-k.invariant.1)
+    (refl, bin-turn c.args.cands.now (to_z w32 (of_z w32 c.args.v)) c.loop-k.k c.loop-k.bin c.next_bin-bin.result _ c.loop-k-test.true one c.loop-k.invariant.1)
 
 pub returns : goal.returns
 returns c = rw (to_z-of_z w32 _ c.ranges.v) at (bin-end _ _ _ _ _ c.loop-k-test.false c.loop-k.invariant.1)

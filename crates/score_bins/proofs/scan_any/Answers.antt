@@ -1,87 +1,83 @@
 -- `score_bins::scan_any` meets its contract: the rows passed are counted. Assumes nothing.
 use mathlib.Core.Path.{◌≡◌, refl, sym, ap, ◌∙◌}
-use Prim.Native.Nat.{ℕ, ◌≤◌, ◌<◌, ◌-◌, ◌+◌, ◌*◌}
+use mathlib.Core.List.{List}
+use Prim.Native.Nat.{ℕ, ◌≤◌, ◌<◌, ◌+◌, ◌*◌}
 use native.Mathlib.Omega.{arith}
 use mir.Syntax.{w32}
+use mir.Val.{of_z, to_z}
+use Rattle.std.proofs.Common.{SFits}
 use mir.ValLaws.{to_z-of_z}
-use lib.IntN.{pos}
+use lib.IntN.{ℤ, pos}
 use lib.ListN.{length, get_or}
 use Rattle.cost.specs.Histograms.{tallied}
 use Rattle.cost.proofs.Blocks.{part_end}
-use Rattle.score_bins.specs.Bins.{bin_at, bin_cell}
+use Rattle.score_bins.specs.Bins.{bin_of, bin_at, bin_cell}
 use Rattle.score_bins.proofs.Tallies.{rows_none, rows_more, rows-turn}
 use Rattle.score_bins.proofs.Binning.{bin_of_le, bin-room, in_lanes}
 use Rattle.score_bins.proofs.scan_any.Goals as goal
 
-abbrev cell : goal.Start → ℕ → ℕ → ℕ
-cell s = bin_cell s.args.props.now s.args.tok.now s.args.first s.args.prop s.args.cands.now s.args.preds.now s.args.firsts.now s.args.offs.now s.args.stride
-
-abbrev bin : goal.Start → ℕ → ℕ
-bin s k = bin_at s.args.cands.now s.args.prop s.args.props.now (s.args.first + k)
-
-bin-le : (s : goal.Start) (k : ℕ) → bin s k ≤ length s.args.cands.now
+bin-le : (cands props : List ℤ) (prop row : ℕ) → bin_at cands prop props row ≤ length cands
 unfolding bin_at
-bin-le s k = bin_of_le s.args.cands.now (get_or s.args.props.now ((s.args.first + k) * 24 + s.args.prop) (pos 0))
+bin-le cands props prop row = bin_of_le cands (get_or props (row * 24 + prop) (pos 0))
 
 -- the bin that the call found
-found : (c : goal.After-bin_for-bin) → c.bin_for-bin.result ≡ bin c.before.before.before.before.before.before.before.before.before c.loop-k.k
+found : (cands props : List ℤ) (prop row bin : ℕ) → SFits w32 (get_or props (row * 24 + prop) (pos 0))
+    → bin ≡ bin_of cands (to_z w32 (of_z w32 (get_or props (row * 24 + prop) (pos 0)))) → bin ≡ bin_at cands prop props row
 unfolding bin_at
-found c =
-    let at = (c.args.first + c.loop-k.k) * 24 + c.args.prop in
-    rw (to_z-of_z w32 (get_or c.args.props.now at (pos 0)) (record { sfits = c.bin_for-arg-1.given })) at c.bin_for-bin.ensures
+found cands props prop row bin fits is = rw (to_z-of_z w32 (get_or props (row * 24 + prop) (pos 0)) fits) at is
 
 pub loop-k-init : goal.loop-k-init
 loop-k-init c = (omega arith, sym (rows_none _ _ _), refl)
 
 pub overflow_add-row : goal.overflow_add-row
-overflow_add-row c = omega (arith, c.requires.rows_there, c.requires.prop_lt_props_per_row, c.well_formed, c.loop-k-test.true)
+overflow_add-row c = omega (arith, c.requires.rows_there, c.requires.prop_lt_props_per_row, c.loop-k-test.true)
 
 pub overflow_mul-row : goal.overflow_mul-row
-overflow_mul-row c = omega (arith, c.requires.rows_there, c.requires.prop_lt_props_per_row, c.well_formed, c.loop-k-test.true)
+overflow_mul-row c = omega (arith, c.requires.rows_there, c.requires.prop_lt_props_per_row, c.loop-k-test.true)
 
 pub overflow_add-row-in-loop-k : goal.overflow_add-row-in-loop-k
-overflow_add-row-in-loop-k c = omega (arith, c.requires.rows_there, c.requires.prop_lt_props_per_row, c.well_formed, c.loop-k-test.true)
+overflow_add-row-in-loop-k c = omega (arith, c.requires.rows_there, c.requires.prop_lt_props_per_row, c.loop-k-test.true)
 
 pub offset_bounds-props-row : goal.offset_bounds-props-row
-offset_bounds-props-row c = omega (arith, c.requires.rows_there, c.requires.prop_lt_props_per_row, c.well_formed, c.loop-k-test.true)
+offset_bounds-props-row c = omega (arith, c.requires.rows_there, c.requires.prop_lt_props_per_row, c.loop-k-test.true)
 
 pub bounds-props-row : goal.bounds-props-row
-bounds-props-row c = omega (arith, c.requires.rows_there, c.requires.prop_lt_props_per_row, c.well_formed, c.loop-k-test.true)
+bounds-props-row c = omega (arith, c.requires.rows_there, c.requires.prop_lt_props_per_row, c.loop-k-test.true)
 
 pub bin_for-bin-requires : goal.bin_for-bin-requires
 bin_for-bin-requires c = c.requires.prop_lt_props_per_row.1
 
 pub overflow_cast-bin : goal.overflow_cast-bin
-overflow_cast-bin c = omega (arith, found c, bin-le c c.loop-k.k, c.requires.prop_lt_props_per_row.1)
+overflow_cast-bin c = omega (arith, found c.args.cands.now c.args.props.now c.args.prop (c.args.first + c.loop-k.k) _ (record { sfits = c.bin_for-arg-1.given }) c.bin_for-bin.ensures, bin-le c.args.cands.now c.args.props.now c.args.prop (c.args.first + c.loop-k.k), c.requires.prop_lt_props_per_row.1)
 
 pub overflow_mul-bin : goal.overflow_mul-bin
 overflow_mul-bin c = let k = c.loop-k.k in
-    omega (arith, part_end c.bin_for-bin.result (length c.args.cands.now + 1) c.args.stride (omega (arith, found c, bin-le c k)), c.requires.prop_lt_props_per_row.2, c.well_formed)
+    omega (arith, part_end c.bin_for-bin.result (length c.args.cands.now + 1) c.args.stride (omega (arith, found c.args.cands.now c.args.props.now c.args.prop (c.args.first + c.loop-k.k) _ (record { sfits = c.bin_for-arg-1.given }) c.bin_for-bin.ensures, bin-le c.args.cands.now c.args.props.now c.args.prop (c.args.first + k))), c.requires.prop_lt_props_per_row.2)
 
 pub scan_row-requires : goal.scan_row-requires
 scan_row-requires c = let p = c.requires in
-    let w = p.1.1.0 in
+    let w = p.lanes in
     let a = c.args in
     let taken : c.loop-k.k < a.rows = c.loop-k-test.true in
     let room = bin-room a.props.now a.tok.now a.first a.rows a.prop a.cands.now a.preds.now a.firsts.now a.offs.now a.stride w in
-    let inside = in_lanes a.props.now a.tok.now a.first a.rows a.prop a.cands.now a.preds.now a.firsts.now a.offs.now a.stride w c.loop-k.k (length c.loop-k.cells) taken p.0
-    (omega (arith, c.loop-k.invariant.2, p.1.0.2)) in
-    let low = rows-turn (cell c) (length a.preds.now) c.loop-k.k a.rows a.cells.now c.loop-k.cells (λ k j l m. omega (arith, room k j l m, p.1.0.2)) p.1.1.1 w.few p.0.few taken
+    let inside = in_lanes a.props.now a.tok.now a.first a.rows a.prop a.cands.now a.preds.now a.firsts.now a.offs.now a.stride w c.loop-k.k (length c.loop-k.cells) taken p.rows_there
+    (omega (arith, c.loop-k.invariant.2, p.prop_lt_props_per_row.2)) in
+    let low = rows-turn (bin_cell c.args.props.now c.args.tok.now c.args.first c.args.prop c.args.cands.now c.args.preds.now c.args.firsts.now c.args.offs.now c.args.stride) (length a.preds.now) c.loop-k.k a.rows a.cells.now c.loop-k.cells (λ k j l m. omega (arith, room k j l m, p.prop_lt_props_per_row.2)) p.low w.few p.rows_there.few taken
     c.loop-k.invariant.1 in
-    (rw (found c.before inside, low)
+    record { in_lanes = rw (found c.args.cands.now c.args.props.now c.args.prop (c.args.first + c.loop-k.k) _ (record { sfits = c.bin_for-arg-1.given }) c.bin_for-bin.ensures) inside; low = low }
 
 pub overflow_step-k : goal.overflow_step-k
-overflow_step-k c = omega (arith, c.requires.rows_there, c.requires.prop_lt_props_per_row, c.well_formed, c.loop-k-test.true)
+overflow_step-k c = omega (arith, c.requires.rows_there, c.requires.prop_lt_props_per_row, c.loop-k-test.true)
 
 pub loop-k-smaller : goal.loop-k-smaller
-loop-k-smaller c = omega (arith, c.requires.rows_there, c.requires.prop_lt_props_per_row, c.well_formed, c.loop-k-test.true)
+loop-k-smaller c = omega (arith, c.requires.rows_there, c.requires.prop_lt_props_per_row, c.loop-k-test.true)
 
 pub loop-k-preserved : goal.loop-k-preserved
-loop-k-preserved c = let cells = rw (found c.before.before.before.before at c.scan_row.ensures in (
-      omega (arith, c.loop-k-test.true),
-      cells ∙ ap (tallied (cell c c.loop-k.k) (length c.args.preds.now)) c.loop-k.invariant.1 ∙ sym (rows_more (cell c) (length c.args.preds.now) c.loop-k.k c.args.cells.now),
-      c.scan_row.auto.cells ∙ c.loop-k.invariant.2,
-    )
+loop-k-preserved c = let cells = rw (found c.args.cands.now c.args.props.now c.args.prop (c.args.first + c.loop-k.k) _ (record { sfits = c.bin_for-arg-1.given }) c.bin_for-bin.ensures) at c.scan_row.ensures in (
+  omega (arith, c.loop-k-test.true),
+  cells ∙ ap (tallied (bin_cell c.args.props.now c.args.tok.now c.args.first c.args.prop c.args.cands.now c.args.preds.now c.args.firsts.now c.args.offs.now c.args.stride c.loop-k.k) (length c.args.preds.now)) c.loop-k.invariant.1 ∙ sym (rows_more (bin_cell c.args.props.now c.args.tok.now c.args.first c.args.prop c.args.cands.now c.args.preds.now c.args.firsts.now c.args.offs.now c.args.stride) (length c.args.preds.now) c.loop-k.k c.args.cells.now),
+  c.scan_row.auto.cells ∙ c.loop-k.invariant.2,
+)
 
 pub shape_of-cells : goal.shape_of-cells
 shape_of-cells c = c.loop-k.invariant.2

@@ -1,107 +1,96 @@
 -- `score_bins::scan_four` meets its contract: the rows passed are counted, each by its four tokens. Assumes nothing.
 use mathlib.Core.Path.{◌≡◌, refl, sym, ap, ◌∙◌}
 use mathlib.Core.List.{List}
-use Prim.Native.Nat.{ℕ, suc, ◌≤◌, ◌<◌, ◌-◌, ◌+◌, ◌*◌}
+use Prim.Native.Nat.{ℕ, suc, ◌≤◌, ◌<◌, ◌+◌, ◌*◌}
 use native.Mathlib.Omega.{arith}
 use mir.Syntax.{w32}
+use mir.Val.{of_z, to_z}
+use Rattle.std.proofs.Common.{SFits}
 use mir.ValLaws.{to_z-of_z}
-use lib.IntN.{pos}
+use lib.IntN.{ℤ, pos}
 use lib.ListN.{length, get_or}
 use Rattle.cost.specs.Histograms.{bumped, tallied}
 use Rattle.cost.proofs.Blocks.{part_end, tallied-none}
 use Rattle.score_bins.specs.declared.Lane.{Lane}
-use Rattle.score_bins.specs.Bins.{bin_at, lane_cell, lane_of, place_in, bin_cell, Low, TokenFits, InLanes}
+use Rattle.score_bins.specs.Bins.{bin_of, RowsThere, Lanes, tallied_rows, bin_at, lane_cell, lane_of, place_in, bin_cell, Low, TokenFits, InLanes}
 use Rattle.score_bins.proofs.Tallies.{rows_none, rows_more, rows-length, rows-turn, token-fits, token-counted}
 use Rattle.score_bins.proofs.Binning.{bin_of_le, bin-room, in_lanes}
 use Rattle.score_bins.proofs.scan_four.Goals as goal
 
-abbrev cell : goal.Start → ℕ → ℕ → ℕ
-cell s = bin_cell s.args.props.now s.args.tok.now s.args.first s.args.prop s.args.cands.now s.args.preds.now s.args.firsts.now s.args.offs.now s.args.stride
-
-abbrev bin : goal.Start → ℕ → ℕ
-bin s k = bin_at s.args.cands.now s.args.prop s.args.props.now (s.args.first + k)
-
-bin-le : (s : goal.Start) (k : ℕ) → bin s k ≤ length s.args.cands.now
+bin-le : (cands props : List ℤ) (prop row : ℕ) → bin_at cands prop props row ≤ length cands
 unfolding bin_at
-bin-le s k = bin_of_le s.args.cands.now (get_or s.args.props.now ((s.args.first + k) * 24 + s.args.prop) (pos 0))
+bin-le cands props prop row = bin_of_le cands (get_or props (row * 24 + prop) (pos 0))
 
 -- the bin that the call found
-found : (c : goal.After-bin_for-bin) → c.bin_for-bin.result ≡ bin c.before.before.before.before.before.before.before.before.before.before.before.before.before c.loop-k.k
+found : (cands props : List ℤ) (prop row bin : ℕ) → SFits w32 (get_or props (row * 24 + prop) (pos 0))
+    → bin ≡ bin_of cands (to_z w32 (of_z w32 (get_or props (row * 24 + prop) (pos 0)))) → bin ≡ bin_at cands prop props row
 unfolding bin_at
-found c =
-    let at = (c.args.first + c.loop-k.k) * 24 + c.args.prop in
-    rw (to_z-of_z w32 (get_or c.args.props.now at (pos 0)) (record { sfits = c.bin_for-arg-1.given })) at c.bin_for-bin.ensures
+found cands props prop row bin fits is = rw (to_z-of_z w32 (get_or props (row * 24 + prop) (pos 0)) fits) at is
 
--- the bin's start, the row's cells, and that they have room
-abbrev base : goal.After-bin_for-bin → ℕ
-base c = c.bin_for-bin.result * c.args.stride
+-- a turn of the loop: the row k of the span, in the bin that the call found
+module _ (props : List ℤ) (tok : List ℕ) (first rows prop : ℕ) (cands : List ℤ) (preds firsts offs : List ℕ) (stride : ℕ) (cells₀ cells : List ℕ) (k bin : ℕ)
+    (p : RowsThere props tok first rows) (size : (length cands + 1) * stride ≤ length cells₀) (w : Lanes tok first rows preds firsts offs stride) (none : Low 0 cells₀)
+    (all : length preds ≡ 4) (taken : k < rows)
+    (so_far : cells ≡ tallied_rows (bin_cell props tok first prop cands preds firsts offs stride) (length preds) k cells₀) (long : length cells ≡ length cells₀)
+    (is : bin ≡ bin_at cands prop props (first + k)) where
+  abbrev cell : ℕ → ℕ → ℕ
+  cell = bin_cell props tok first prop cands preds firsts offs stride
 
-abbrev own : goal.After-bin_for-bin → ℕ → ℕ
-own c = lane_cell c.args.tok.now c.args.preds.now c.args.firsts.now c.args.offs.now (base c) (c.args.first + c.loop-k.k)
+  -- the row's cells, and that they have room
+  abbrev own : ℕ → ℕ
+  own = lane_cell tok preds firsts offs (bin * stride) (first + k)
 
-inside : (c : goal.After-bin_for-bin)
-    → InLanes c.args.tok.now c.args.preds.now c.args.firsts.now c.args.offs.now (base c) (c.args.first + c.loop-k.k) (length c.loop-k.cells)
-inside c =
-    let a = c.args in
-    let there = in_lanes a.props.now a.tok.now a.first a.rows a.prop a.cands.now a.preds.now a.firsts.now a.offs.now a.stride c.requires.lanes c.loop-k.k (length c.loop-k.cells)
-    c.loop-k-test.true c.requires.rows_there (omega (arith, c.loop-k.invariant.2, c.requires.prop_lt_props_per_row.2)) in
-    rw (found c) there
+  inside : InLanes tok preds firsts offs (bin * stride) (first + k) (length cells)
+  inside = rw is (in_lanes props tok first rows prop cands preds firsts offs stride w k (length cells) taken p (omega arith))
 
-low : (c : goal.After-bin_for-bin) → Low 920000 c.loop-k.cells
-low c =
-    let a = c.args in
-    let w = c.requires.lanes in
-    let room = bin-room a.props.now a.tok.now a.first a.rows a.prop a.cands.now a.preds.now a.firsts.now a.offs.now a.stride w in
-    rows-turn (cell c) (length a.preds.now) c.loop-k.k a.rows a.cells.now c.loop-k.cells (λ k j l m. omega (arith, room k j l m, c.requires.prop_lt_props_per_row.2)) c.requires.low w.few c.requires.rows_there.few
-    c.loop-k-test.true c.loop-k.invariant.1
+  low : Low 920000 cells
+  low =
+      let room = bin-room props tok first rows prop cands preds firsts offs stride w in
+      rows-turn cell (length preds) k rows cells₀ cells (λ k j l m. omega (arith, room k j l m)) none w.few p.few taken so_far
 
--- a token that is counted next
-abbrev Next : goal.After-bin_for-bin → ℕ → List ℕ → Type 0
-Next c i now = now ≡ tallied (own c) i c.loop-k.cells
+  -- a token that is counted next
+  abbrev Next : ℕ → List ℕ → Type 0
+  Next i now = now ≡ tallied own i cells
 
-fits : (c : goal.After-bin_for-bin) (i : ℕ) (lane : Lane) (now : List ℕ) → lane ≡ lane_of c.args.preds.now c.args.firsts.now c.args.offs.now i → Next c i now → i < 4
-    → TokenFits c.args.tok.now (c.args.first + c.loop-k.k) lane (base c) now
-fits c i lane now e is l =
-    token-fits c.args.tok.now c.args.preds.now c.args.firsts.now c.args.offs.now (base c) (c.args.first + c.loop-k.k) c.loop-k.cells now i lane e is
-    (inside c) (low c) (omega (arith, c.requires.preds_len))
+  fits : (i : ℕ) (lane : Lane) (now : List ℕ) → lane ≡ lane_of preds firsts offs i → Next i now → i < 4 → TokenFits tok (first + k) lane (bin * stride) now
+  fits i lane now e h l = token-fits tok preds firsts offs (bin * stride) (first + k) cells now i lane e h inside low (omega arith)
 
-counted : (c : goal.After-bin_for-bin) (i : ℕ) (lane : Lane) (now next : List ℕ) → lane ≡ lane_of c.args.preds.now c.args.firsts.now c.args.offs.now i → Next c i now
-    → next ≡ bumped (place_in lane c.args.tok.now (base c) (c.args.first + c.loop-k.k)) now → Next c (suc i) next
-counted c i lane now next e is h =
-    token-counted c.args.tok.now c.args.preds.now c.args.firsts.now c.args.offs.now (base c) (c.args.first + c.loop-k.k) c.loop-k.cells now i lane e is next h
+  counted : (i : ℕ) (lane : Lane) (now next : List ℕ) → lane ≡ lane_of preds firsts offs i → Next i now → next ≡ bumped (place_in lane tok (bin * stride) (first + k)) now
+      → Next (suc i) next
+  counted i lane now next e h b = token-counted tok preds firsts offs (bin * stride) (first + k) cells now i lane e h next b
 
-abbrev bin2 : goal.After-count_token-in-loop-k → goal.After-bin_for-bin
-bin2 c = c
+  module _ (a : Lane) (a_is : a ≡ lane_of preds firsts offs 0) where
+    fits-a : TokenFits tok (first + k) a (bin * stride) cells
+    fits-a = fits 0 a cells a_is (sym (tallied-none _ _)) (omega arith)
 
-abbrev bin3 : goal.After-count_token-in-loop-k-2 → goal.After-bin_for-bin
-bin3 c = bin2 c.before.before.before.before
+    module _ (b : Lane) (b_is : b ≡ lane_of preds firsts offs 1) (c₁ : List ℕ) (h₁ : c₁ ≡ bumped (place_in a tok (bin * stride) (first + k)) cells) where
+      one : Next 1 c₁
+      one = counted 0 a cells c₁ a_is (sym (tallied-none _ _)) h₁
 
-abbrev bin4 : goal.After-count_token-in-loop-k-3 → goal.After-bin_for-bin
-bin4 c = bin3 c.before.before.before.before
+      fits-b : TokenFits tok (first + k) b (bin * stride) c₁
+      fits-b = fits 1 b c₁ b_is one (omega arith)
 
-lane0 : (c : goal.After-bin_for-bin) → c.lane_at-a.result ≡ lane_of c.args.preds.now c.args.firsts.now c.args.offs.now 0
-lane0 c = c.lane_at-a.ensures
+      module _ (c : Lane) (c_is : c ≡ lane_of preds firsts offs 2) (c₂ : List ℕ) (h₂ : c₂ ≡ bumped (place_in b tok (bin * stride) (first + k)) c₁) where
+        two : Next 2 c₂
+        two = counted 1 b c₁ c₂ b_is one h₂
 
-lane1 : (c : goal.After-bin_for-bin) → c.lane_at-b.result ≡ lane_of c.args.preds.now c.args.firsts.now c.args.offs.now 1
-lane1 c = c.lane_at-b.ensures
+        fits-c : TokenFits tok (first + k) c (bin * stride) c₂
+        fits-c = fits 2 c c₂ c_is two (omega arith)
 
-lane2 : (c : goal.After-bin_for-bin) → c.lane_at-c.result ≡ lane_of c.args.preds.now c.args.firsts.now c.args.offs.now 2
-lane2 c = c.lane_at-c.ensures
+        module _ (d : Lane) (d_is : d ≡ lane_of preds firsts offs 3) (c₃ : List ℕ) (h₃ : c₃ ≡ bumped (place_in c tok (bin * stride) (first + k)) c₂) where
+          three : Next 3 c₃
+          three = counted 2 c c₂ c₃ c_is two h₃
 
-lane3 : (c : goal.After-bin_for-bin) → c.lane_at-d.result ≡ lane_of c.args.preds.now c.args.firsts.now c.args.offs.now 3
-lane3 c = c.lane_at-d.ensures
+          fits-d : TokenFits tok (first + k) d (bin * stride) c₃
+          fits-d = fits 3 d c₃ d_is three (omega arith)
 
-one : (c : goal.After-count_token) → Next c 1 c.count_token.new.cells
-one c = counted c 0 _ _ _ (lane0 c) (sym (tallied-none _ _)) c.count_token.ensures
-
-two : (c : goal.After-count_token-in-loop-k) → Next (bin2 c) 2 c.count_token-in-loop-k.new.cells
-two c = counted (bin2 c) 1 _ _ _ (lane1 (bin2 c)) (one c.before.before.before.before c.count_token-in-loop-k.ensures
-
-three : (c : goal.After-count_token-in-loop-k-2) → Next (bin3 c) 3 c.count_token-in-loop-k-2.new.cells
-three c = counted (bin3 c) 2 _ _ _ (lane2 (bin3 c)) (two c.before.before.before.before c.count_token-in-loop-k-2.ensures
-
-four : (c : goal.After-count_token-in-loop-k-3) → Next (bin4 c) 4 c.count_token-in-loop-k-3.new.cells
-four c = counted (bin4 c) 3 _ _ _ (lane3 (bin4 c)) (three c.before.before.before.before c.count_token-in-loop-k-3.ensures
+          all_four : (c₄ : List ℕ) → c₄ ≡ bumped (place_in d tok (bin * stride) (first + k)) c₃ → c₄ ≡ tallied_rows cell (length preds) (k + 1) cells₀
+          all_four c₄ h₄ =
+              counted 3 d c₃ c₄ d_is three h₄
+              ∙ ap (λ (m : ℕ). tallied (lane_cell tok preds firsts offs (m * stride) (first + k)) 4 cells) is
+              ∙ ap (λ (n : ℕ). tallied (cell k) n cells) (sym all)
+              ∙ ap (tallied (cell k) (length preds)) so_far
+              ∙ sym (rows_more cell (length preds) k cells₀)
 
 pub lane_at-a-requires : goal.lane_at-a-requires
 lane_at-a-requires c = let w = c.requires.lanes in
@@ -123,54 +112,61 @@ pub loop-k-init : goal.loop-k-init
 loop-k-init c = (omega arith, sym (rows_none _ _ _), refl)
 
 pub overflow_add-row : goal.overflow_add-row
-overflow_add-row c = omega (arith, c.requires.rows_there, c.requires.prop_lt_props_per_row, c.well-formed, c.loop-k-test.true)
+overflow_add-row c = omega (arith, c.requires.rows_there, c.requires.prop_lt_props_per_row, c.loop-k-test.true)
 
 pub overflow_mul-row : goal.overflow_mul-row
-overflow_mul-row c = omega (arith, c.requires.rows_there, c.requires.prop_lt_props_per_row, c.well-formed, c.loop-k-test.true)
+overflow_mul-row c = omega (arith, c.requires.rows_there, c.requires.prop_lt_props_per_row, c.loop-k-test.true)
 
 pub overflow_add-row-in-loop-k : goal.overflow_add-row-in-loop-k
-overflow_add-row-in-loop-k c = omega (arith, c.requires.rows_there, c.requires.prop_lt_props_per_row, c.well-formed, c.loop-k-test.true)
+overflow_add-row-in-loop-k c = omega (arith, c.requires.rows_there, c.requires.prop_lt_props_per_row, c.loop-k-test.true)
 
 pub offset_bounds-props-row : goal.offset_bounds-props-row
-offset_bounds-props-row c = omega (arith, c.requires.rows_there, c.requires.prop_lt_props_per_row, c.well-formed, c.loop-k-test.true)
+offset_bounds-props-row c = omega (arith, c.requires.rows_there, c.requires.prop_lt_props_per_row, c.loop-k-test.true)
 
 pub bounds-props-row : goal.bounds-props-row
-bounds-props-row c = omega (arith, c.requires.rows_there, c.requires.prop_lt_props_per_row, c.well-formed, c.loop-k-test.true)
+bounds-props-row c = omega (arith, c.requires.rows_there, c.requires.prop_lt_props_per_row, c.loop-k-test.true)
 
 pub bin_for-bin-requires : goal.bin_for-bin-requires
 bin_for-bin-requires c = c.requires.prop_lt_props_per_row.1
 
 pub overflow_cast-bin : goal.overflow_cast-bin
-overflow_cast-bin c = omega (arith, found c, bin-le c c.loop-k.k, c.requires.prop_lt_props_per_row.1)
+overflow_cast-bin c = omega (arith, found c.args.cands.now c.args.props.now c.args.prop (c.args.first + c.loop-k.k) _ (record { sfits = c.bin_for-arg-1.given }) c.bin_for-bin.ensures, bin-le c.args.cands.now c.args.props.now c.args.prop (c.args.first + c.loop-k.k), c.requires.prop_lt_props_per_row.1)
 
 pub overflow_mul-base : goal.overflow_mul-base
-overflow_mul-base c = omega (arith, part_end c.bin_for-bin.result (length c.args.cands.now + 1) c.args.stride (omega (arith, found c, bin-le c c.loop-k.k)), c.requires.prop_lt_props_per_row.2, c.well_formed)
+overflow_mul-base c = omega (arith, part_end c.bin_for-bin.result (length c.args.cands.now + 1) c.args.stride (omega (arith, found c.args.cands.now c.args.props.now c.args.prop (c.args.first + c.loop-k.k) _ (record { sfits = c.bin_for-arg-1.given }) c.bin_for-bin.ensures, bin-le c.args.cands.now c.args.props.now c.args.prop (c.args.first + c.loop-k.k))), c.requires.prop_lt_props_per_row.2)
 
 pub count_token-requires : goal.count_token-requires
-count_token-requires c = fits c.before 0 _ _ (lane0 c.before (sym (tallied-none _ _)) (omega arith)
+count_token-requires c = fits-a _ _ _ _ _ _ _ _ _ _ _ _ _ _ c.requires.rows_there c.requires.prop_lt_props_per_row.2 c.requires.lanes c.requires.low c.requires.preds_len
+    c.loop-k-test.true c.loop-k.invariant.1 c.loop-k.invariant.2 (found c.args.cands.now c.args.props.now c.args.prop (c.args.first + c.loop-k.k) _ (record { sfits = c.bin_for-arg-1.given }) c.bin_for-bin.ensures)
+    _ c.lane_at-a.ensures
 
 pub count_token-requires-in-loop-k : goal.count_token-requires-in-loop-k
-count_token-requires-in-loop-k c = fits c 1 _ _ (lane1 c) (one c) (omega arith)
+count_token-requires-in-loop-k c = fits-b _ _ _ _ _ _ _ _ _ _ _ _ _ _ c.requires.rows_there c.requires.prop_lt_props_per_row.2 c.requires.lanes c.requires.low c.requires.preds_len
+    c.loop-k-test.true c.loop-k.invariant.1 c.loop-k.invariant.2 (found c.args.cands.now c.args.props.now c.args.prop (c.args.first + c.loop-k.k) _ (record { sfits = c.bin_for-arg-1.given }) c.bin_for-bin.ensures)
+    _ c.lane_at-a.ensures _ c.lane_at-b.ensures _ c.count_token.ensures
 
 pub count_token-requires-in-loop-k-2 : goal.count_token-requires-in-loop-k-2
-count_token-requires-in-loop-k-2 c = fits (bin2 c) 2 _ _ (lane2 (bin2 c)) (two c) (omega arith)
+count_token-requires-in-loop-k-2 c = fits-c _ _ _ _ _ _ _ _ _ _ _ _ _ _ c.requires.rows_there c.requires.prop_lt_props_per_row.2 c.requires.lanes c.requires.low c.requires.preds_len
+    c.loop-k-test.true c.loop-k.invariant.1 c.loop-k.invariant.2 (found c.args.cands.now c.args.props.now c.args.prop (c.args.first + c.loop-k.k) _ (record { sfits = c.bin_for-arg-1.given }) c.bin_for-bin.ensures)
+    _ c.lane_at-a.ensures _ c.lane_at-b.ensures _ c.count_token.ensures _ c.lane_at-c.ensures _ c.count_token-in-loop-k.ensures
 
 pub count_token-requires-in-loop-k-3 : goal.count_token-requires-in-loop-k-3
-count_token-requires-in-loop-k-3 c = fits (bin3 c) 3 _ _ (lane3 (bin3 c)) (three c) (omega arith)
+count_token-requires-in-loop-k-3 c = fits-d _ _ _ _ _ _ _ _ _ _ _ _ _ _ c.requires.rows_there c.requires.prop_lt_props_per_row.2 c.requires.lanes c.requires.low c.requires.preds_len
+    c.loop-k-test.true c.loop-k.invariant.1 c.loop-k.invariant.2 (found c.args.cands.now c.args.props.now c.args.prop (c.args.first + c.loop-k.k) _ (record { sfits = c.bin_for-arg-1.given }) c.bin_for-bin.ensures)
+    _ c.lane_at-a.ensures _ c.lane_at-b.ensures _ c.count_token.ensures _ c.lane_at-c.ensures _ c.count_token-in-loop-k.ensures _ c.lane_at-d.ensures _ c.count_token-in-loop-k-2.ensures
 
 pub overflow_step-k : goal.overflow_step-k
-overflow_step-k c = omega (arith, c.requires.rows_there, c.requires.prop_lt_props_per_row, c.well-formed, c.loop-k-test.true)
+overflow_step-k c = omega (arith, c.requires.rows_there, c.requires.prop_lt_props_per_row, c.loop-k-test.true)
 
 pub loop-k-smaller : goal.loop-k-smaller
-loop-k-smaller c = omega (arith, c.requires.rows_there, c.requires.prop_lt_props_per_row, c.well-formed, c.loop-k-test.true)
+loop-k-smaller c = omega (arith, c.requires.rows_there, c.requires.prop_lt_props_per_row, c.loop-k-test.true)
 
 pub loop-k-preserved : goal.loop-k-preserved
-loop-k-preserved c = let all : length c.args.preds.now ≡ 4 = c.requires.preds_len in
-    let a = c.args in
-    let row = four c ∙ ap (λ (m : ℕ). tallied (lane_cell a.tok.now a.preds.now a.firsts.now a.offs.now (m * a.stride) (a.first + c.loop-k.k)) 4 c.loop-k.cells) (found (bin4 c)) in
-    let next = row ∙ ap (λ (n : ℕ). tallied (cell c c.loop-k.k) n c.loop-k.cells) (sym all) ∙ ap (tallied (cell c c.loop-k.k) (length c.args.preds.now)) c.loop-k.invariant.1
-    ∙ sym (rows_more (cell c) (length c.args.preds.now) c.loop-k.k c.args.cells.now) in
-    (omega (arith, c.loop-k-test.true), next, ap length next ∙ rows-length (cell c) (length c.args.preds.now) (c.loop-k.k + 1) c.args.cells.now)
+loop-k-preserved c =
+    let next = all_four _ _ _ _ _ _ _ _ _ _ _ _ _ _ c.requires.rows_there c.requires.prop_lt_props_per_row.2 c.requires.lanes c.requires.low c.requires.preds_len
+    c.loop-k-test.true c.loop-k.invariant.1 c.loop-k.invariant.2 (found c.args.cands.now c.args.props.now c.args.prop (c.args.first + c.loop-k.k) _ (record { sfits = c.bin_for-arg-1.given }) c.bin_for-bin.ensures)
+    _ c.lane_at-a.ensures _ c.lane_at-b.ensures _ c.count_token.ensures _ c.lane_at-c.ensures _ c.count_token-in-loop-k.ensures _ c.lane_at-d.ensures _ c.count_token-in-loop-k-2.ensures _ c.count_token-in-loop-k-3.ensures in
+    (omega (arith, c.loop-k-test.true), next, ap length next ∙ rows-length (bin_cell c.args.props.now c.args.tok.now c.args.first c.args.prop c.args.cands.now c.args.preds.now c.args.firsts.now c.args.offs.now c.args.stride) (length c.args.preds.now) (c.loop-k.k + 1) c.args.cells.now)
 
 pub shape_of-cells : goal.shape_of-cells
 shape_of-cells c = c.loop-k.invariant.2

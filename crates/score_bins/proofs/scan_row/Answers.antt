@@ -1,108 +1,101 @@
 -- `score_bins::scan_row` meets its contract: the side predictors passed are counted. Assumes nothing.
 use mathlib.Core.Path.{◌≡◌, refl, sym, ◌∙◌}
-use Prim.Native.Nat.{◌≤◌, ◌<◌, ◌-◌, ◌+◌, ◌*◌}
+use mathlib.Core.List.{List}
+use Prim.Native.Nat.{ℕ, ◌≤◌, ◌<◌, ◌+◌, ◌*◌}
 use native.Mathlib.Omega.{arith}
 use lib.ListN.{length, get_or}
 use Rattle.model.specs.Settings.{toks_per_row}
 use Rattle.cost.proofs.Blocks.{tallied-none, tallied-more}
-use Rattle.score_bins.specs.Bins.{lane_cell}
+use Rattle.score_bins.specs.Bins.{lane_cell, InLanes}
 use Rattle.score_bins.proofs.Tallies.{tally-turn}
 use Rattle.score_bins.proofs.scan_row.Goals as goal
 
--- the function's start, and what this turn knows of its window
-abbrev start : goal.In-loop-j → goal.Start
-start c = c
-pub record Here (c : goal.In-loop-j) : Type 0 where
-  pub lane : c.loop-j.j < length (start c).args.preds.now
-  pub firsts : c.loop-j.j < length (start c).args.firsts.now
-  pub offs : c.loop-j.j < length (start c).args.offs.now
-  pub there : (start c).args.row * toks_per_row + toks_per_row ≤ length (start c).args.tok.now
-  pub pred : get_or (start c).args.preds.now c.loop-j.j 0 < toks_per_row
-  pub from : get_or (start c).args.firsts.now c.loop-j.j 0
-      ≤ get_or (start c).args.tok.now ((start c).args.row * toks_per_row + get_or (start c).args.preds.now c.loop-j.j 0) 0
-  pub room : lane_cell (start c).args.tok.now (start c).args.preds.now (start c).args.firsts.now (start c).args.offs.now (start c).args.base (start c).args.row c.loop-j.j
-      < length (start c).args.cells.now
+-- what a turn knows of its window
+pub record Here (tok preds fs os : List ℕ) (base row j size : ℕ) : Type 0 where
+  pub lane : j < length preds
+  pub firsts : j < length fs
+  pub offs : j < length os
+  pub there : row * toks_per_row + toks_per_row ≤ length tok
+  pub pred : get_or preds j 0 < toks_per_row
+  pub from : get_or fs j 0 ≤ get_or tok (row * toks_per_row + get_or preds j 0) 0
+  pub room : lane_cell tok preds fs os base row j < size
 
-here : (c : goal.In-loop-j) → Here c
-here c =
-    let lane : c.loop-j.j < length (start c).args.preds.now = c.loop-j-test.true in
-    let p = (start c).requires.0 in
+here : (tok preds fs os : List ℕ) (base row j size : ℕ) → InLanes tok preds fs os base row size → j < length preds → Here tok preds fs os base row j size
+here tok preds fs os base row j size p lane =
     record {
       lane = lane;
       firsts = omega (arith, p.firsts_room);
       offs = omega (arith, p.offs_room);
       there = p.there;
-      pred = p.pred c.loop-j.j lane;
-      from = p.from c.loop-j.j lane;
-      room = p.room c.loop-j.j lane;
+      pred = p.pred j lane;
+      from = p.from j lane;
+      room = p.room j lane;
     }
 
 pub loop-j-init : goal.loop-j-init
 loop-j-init c = (refl, omega arith, sym (tallied-none _ _), omega arith)
 
 pub overflow_mul-token : goal.overflow_mul-token
-overflow_mul-token c = omega (arith, here c, (start c).good)
+overflow_mul-token c = omega (arith, here _ _ _ _ _ _ _ _ c.requires.in_lanes c.loop-j-test.true)
 
 pub offset_bounds-preds-j : goal.offset_bounds-preds-j
-offset_bounds-preds-j c = omega (arith, here c, (start c).good)
+offset_bounds-preds-j c = omega (arith, here _ _ _ _ _ _ _ _ c.requires.in_lanes c.loop-j-test.true)
 
 pub bounds-preds-j : goal.bounds-preds-j
-bounds-preds-j c = omega (arith, here c.before, (start c.before).good)
+bounds-preds-j c = omega (arith, here _ _ _ _ _ _ _ _ c.requires.in_lanes c.loop-j-test.true)
 
 pub overflow_cast-token : goal.overflow_cast-token
-overflow_cast-token c = omega (arith, here c.before, (start c.before).good)
+overflow_cast-token c = omega (arith, here _ _ _ _ _ _ _ _ c.requires.in_lanes c.loop-j-test.true)
 
 pub overflow_add-token : goal.overflow_add-token
-overflow_add-token c = omega (arith, here c.before, (start c.before).good)
+overflow_add-token c = omega (arith, here _ _ _ _ _ _ _ _ c.requires.in_lanes c.loop-j-test.true)
 
 pub bounds-tok-row : goal.bounds-tok-row
-bounds-tok-row c = omega (arith, here c.before.before, (start c.before.before).good)
+bounds-tok-row c = omega (arith, here _ _ _ _ _ _ _ _ c.requires.in_lanes c.loop-j-test.true)
 
 pub overflow_cast-token-in-loop-j : goal.overflow_cast-token-in-loop-j
-overflow_cast-token-in-loop-j c = let s = start c.before.before in
-    omega (arith, c.shared_slice_known-in-loop-j-2-1.given (s.args.row * 14 + get_or s.args.preds.now c.loop-j.j 0))
+overflow_cast-token-in-loop-j c = omega (arith, c.shared_slice_known-in-loop-j-2-1.given (c.args.row * 14 + get_or c.args.preds.now c.loop-j.j 0))
 
 pub offset_bounds-offs-j : goal.offset_bounds-offs-j
-offset_bounds-offs-j c = omega (arith, here c.before.before.before, (start c.before.before.before).good)
+offset_bounds-offs-j c = omega (arith, here _ _ _ _ _ _ _ _ c.requires.in_lanes c.loop-j-test.true)
 
 pub bounds-offs-j : goal.bounds-offs-j
-bounds-offs-j c = omega (arith, here c.before.before.before.before, (start c.before.before.before.before).good)
+bounds-offs-j c = omega (arith, here _ _ _ _ _ _ _ _ c.requires.in_lanes c.loop-j-test.true)
 
 pub overflow_cast-offs : goal.overflow_cast-offs
 overflow_cast-offs c = omega (arith, c.shared_slice_known-in-loop-j-3-1.given c.loop-j.j)
 
 pub overflow_add-base : goal.overflow_add-base
-overflow_add-base c = omega (arith, here c.before.before.before.before, (start c.before.before.before.before).good)
+overflow_add-base c = omega (arith, here _ _ _ _ _ _ _ _ c.requires.in_lanes c.loop-j-test.true)
 
 pub offset_bounds-firsts-j : goal.offset_bounds-firsts-j
-offset_bounds-firsts-j c = omega (arith, here c.before.before.before.before, (start c.before.before.before.before).good)
+offset_bounds-firsts-j c = omega (arith, here _ _ _ _ _ _ _ _ c.requires.in_lanes c.loop-j-test.true)
 
 pub bounds-firsts-j : goal.bounds-firsts-j
-bounds-firsts-j c = omega (arith, here c.before.before.before.before.before, (start c.before.before.before.before.before).good)
+bounds-firsts-j c = omega (arith, here _ _ _ _ _ _ _ _ c.requires.in_lanes c.loop-j-test.true)
 
 pub overflow_cast-firsts : goal.overflow_cast-firsts
 overflow_cast-firsts c = omega (arith, c.shared_slice_known-in-loop-j-4-1.given c.loop-j.j)
 
 pub overflow_sub-token : goal.overflow_sub-token
-overflow_sub-token c = omega (arith, here c.before.before.before.before.before, (start c.before.before.before.before.before).good)
+overflow_sub-token c = omega (arith, here _ _ _ _ _ _ _ _ c.requires.in_lanes c.loop-j-test.true)
 
 pub overflow_add-base-in-loop-j : goal.overflow_add-base-in-loop-j
-overflow_add-base-in-loop-j c = omega (arith, here c.before.before.before.before.before, (start c.before.before.before.before.before).good)
+overflow_add-base-in-loop-j c = omega (arith, here _ _ _ _ _ _ _ _ c.requires.in_lanes c.loop-j-test.true)
 
 pub bump-requires : goal.bump-requires
-bump-requires c = let s = start c.before.before.before.before.before in
-    let row = lane_cell s.args.tok.now s.args.preds.now s.args.firsts.now s.args.offs.now s.args.base s.args.row in
-    tally-turn row (length s.args.preds.now) c.loop-j.j s.args.cells.now c.loop-j.cells s.pre.0.room s.pre.1 s.pre.0.few (here c.before.before.before.before.before).lane c.loop-j.invariant.2
+bump-requires c = let row = lane_cell c.args.tok.now c.args.preds.now c.args.firsts.now c.args.offs.now c.args.base c.args.row in
+    tally-turn row (length c.args.preds.now) c.loop-j.j c.args.cells.now c.loop-j.cells c.requires.in_lanes.room c.requires.low c.requires.in_lanes.few c.loop-j-test.true c.loop-j.invariant.2
 
 pub overflow_step-j : goal.overflow_step-j
-overflow_step-j c = omega (arith, here c.before.before.before.before.before.before.before.before, (start c.before.before.before.before.before.before.before.before).good)
+overflow_step-j c = omega (arith, here _ _ _ _ _ _ _ _ c.requires.in_lanes c.loop-j-test.true)
 
 pub loop-j-smaller : goal.loop-j-smaller
-loop-j-smaller c = omega (arith, here c.before.before.before.before.before.before.before.before, (start c.before.before.before.before.before.before.before.before).good)
+loop-j-smaller c = omega (arith, here _ _ _ _ _ _ _ _ c.requires.in_lanes c.loop-j-test.true)
 
 pub loop-j-preserved : goal.loop-j-preserved
 loop-j-preserved c = let row = lane_cell c.args.tok.now c.args.preds.now c.args.firsts.now c.args.offs.now c.args.base c.args.row in
-    (refl, omega (arith, here c.before.before.before.before.before.before.before.before, cc (tallied-more row c.loop-j.j c.args.cells.now), c.bump.auto.cells ∙ c.loop-j.invariant.3)
+    (refl, omega (arith, here _ _ _ _ _ _ _ _ c.requires.in_lanes c.loop-j-test.true), cc (tallied-more row c.loop-j.j c.args.cells.now), c.bump.auto.cells ∙ c.loop-j.invariant.3)
 
 pub shape_of-cells : goal.shape_of-cells
 shape_of-cells c = c.loop-j.invariant.3
