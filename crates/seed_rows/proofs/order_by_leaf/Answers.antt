@@ -44,10 +44,13 @@ shape_of-words c = c.pair_spans.auto.words
 pub returns : goal.returns
 returns c = let pre = c.requires in
     let is = c.leaf_numbers.ensures in
-    let ordered = c.order_by_number.ensures in record { rows = record {
+    let ordered = c.order_by_number.ensures in record {
+      rows = record {
         rows = rows-ordered pre c.leaf_numbers.new.number c.leaf_numbers.auto.number is (rows_held c.order_by_number.new.props c.order_by_number.new.tok c.order_by_number.new.res) c.order_by_number.new.space c.order_by_number.auto.space ordered;
         size = record { props = c.order_by_number.auto.props; toks = c.order_by_number.auto.tok; res = c.order_by_number.auto.res };
         spans_are = spans-of pre c.leaf_numbers.new.number c.leaf_numbers.auto.number is (rows_held c.order_by_number.new.props c.order_by_number.new.tok c.order_by_number.new.res) c.order_by_number.new.space c.order_by_number.auto.space ordered
             c.pair_spans.ensures;
-      }; zeros = space-clear pre c.leaf_numbers.new.number c.leaf_numbers.auto.number is (rows_held c.order_by_number.new.props c.order_by_number.new.tok c.order_by_number.new.res) c.order_by_number.new.space c.order_by_number.auto.space ordered c.clear_u32.new.list
-          c.clear_u32.ensures }
+      };
+      zeros = space-clear pre c.leaf_numbers.new.number c.leaf_numbers.auto.number is (rows_held c.order_by_number.new.props c.order_by_number.new.tok c.order_by_number.new.res) c.order_by_number.new.space c.order_by_number.auto.space ordered c.clear_u32.new.list
+          c.clear_u32.ensures;
+    }

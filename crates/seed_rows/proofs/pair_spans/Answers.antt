@@ -1,6 +1,6 @@
 -- `seed_rows::pair_spans` meets its contract. The invariant: the pairs of the nodes passed stand beside their words. Assumes nothing.
 use mathlib.Core.Path.{◌≡◌, subst}
-use Prim.Native.Nat.{ℕ, ◌<◌, ◌-◌}
+use Prim.Native.Nat.{ℕ, ◌<◌}
 use native.Mathlib.Omega.{arith}
 use Rattle.seed_rows.specs.Ordered.{Pairs}
 use Rattle.seed_rows.proofs.Pairing.{pairs_none, pairs_more}
