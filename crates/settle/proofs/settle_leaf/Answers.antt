@@ -10,8 +10,8 @@ returns-then-kind_at-eq1 c = record { tokens = rw (ap (λ (k : ℕ). eqb k 1) (s
 
 pub mode_step-requires : goal.mode_step-requires
 mode_step-requires c = let is = ap (λ (k : ℕ). eqb k 1) (sym c.kind_at.ensures) ∙ ne_eqb _ _ c.if-kind_at-eq1.false in
-    record { used = λ u. rw (c.span_at_lem.ensures.0, c.span_at_lem.ensures.1) (c.requires.rows u is) }
+    record { used = λ u. rw (c.span_at-span.ensures.0, c.span_at-span.ensures.1) (c.requires.rows u is) }
 
 pub returns : goal.returns
 returns c = let is = ap (λ (k : ℕ). eqb k 1) (sym c.kind_at.ensures) ∙ ne_eqb _ _ c.if-kind_at-eq1.false in
-    record { tokens = rw is (rw (c.span_at_lem.ensures.0, c.span_at_lem.ensures.1) at c.mode_step.ensures.tokens); zeros = c.mode_step.ensures.zeros }
+    record { tokens = rw is (rw (c.span_at-span.ensures.0, c.span_at-span.ensures.1) at c.mode_step.ensures.tokens); zeros = c.mode_step.ensures.zeros }
