@@ -21,7 +21,7 @@ use Rattle.model.proofs.Slices.{slice-join, slice_ext}
 use Rattle.model.proofs.BreadthFirst.{children_of, Breadth, begun, order-done, inside, few, visit, all-visited}
 use Rattle.layout.specs.Layout.{kind_at, gt_at, le_at, nodes_held, stored_in, node_at}
 use Rattle.tree.specs.Trees.{OfTree, SoundTree}
-use Rattle.tree.proofs.Entries.{nodes-length, node_at}
+use Rattle.tree.proofs.Entries.{nodes-length, node_at_lem}
 use Rattle.tree.proofs.Soundness.{zeros, bare-held}
 use Rattle.tree.proofs.Soundness as tree
 use Rattle.breadth.specs.Queue.{queued, end_after, Queueable}
@@ -109,7 +109,7 @@ module _ (words : List ℕ) (count : ℕ) (is : SoundTree words count) where
           (Memᴰ.append_right (take head order) (Memᴰ.head refl)))
 
       after : Breadth (nodes_with values costs) (take (head + 1) order) (slice (head + 1) end order ++ children_of (node_at words values i))
-      after = rw (one_more, ← node_at singles words values costs count held i low)
+      after = rw (one_more, ← node_at_lem singles words values costs count held i low)
           (visit (nodes_with values costs) (rooted values costs held) (some values costs held) (take head order) i (slice (head + 1) end order) next)
 
     below_count : i < count

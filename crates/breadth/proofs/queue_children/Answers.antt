@@ -31,7 +31,7 @@ pub shape_of-queue-then-is_split : goal.shape_of-queue-then-is_split
 shape_of-queue-then-is_split c = simp length-set
 
 pub returns-then-is_split : goal.returns-then-is_split
-returns-then-is_split c = rw (sym c.is_split.ensures ∙ c.if-is_split.true, c.gt_of-gt.ensures, c.le_of-le.ensures) (refl, refl)
+returns-then-is_split c = rw (sym c.is_split.ensures ∙ c.if-is_split.true, c.gt_of-gt.ensures, c.le_of-le.ensures) (record { answer = refl; queue = refl })
 
 pub returns : goal.returns
-returns c = rw (sym c.is_split.ensures ∙ c.if-is_split.false) (refl, refl)
+returns c = rw (sym c.is_split.ensures ∙ c.if-is_split.false) (record { answer = refl; queue = refl })
