@@ -6,7 +6,7 @@ use native.Mathlib.Omega.{arith}
 use mathlib.Core.List.{List, map}
 use lib.ListN.{length, get_or, take, drop, replicate, length-map}
 use lib.Seq.{length-take-le, take_at}
-use Rattle.model.specs.Lists.{range, written_over}
+use Rattle.model.specs.Lists.{written_over}
 use Rattle.model.specs.Meter.{Meter}
 use Rattle.model.specs.Settings.{Settings}
 use Rattle.model.specs.Rows.{no_span}

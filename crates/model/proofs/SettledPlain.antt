@@ -18,7 +18,7 @@ use Rattle.model.specs.Learn.{Result, leaf_count, finished, root_state, learned}
 use Rattle.model.specs.Deepen.{seed_state, deepened}
 use Rattle.model.specs.Profile.{Profile, job_of}
 use Rattle.model.specs.Lent.{Lent, rows_in, uses_modes, tree_in, lent_after}
-use Rattle.model.specs.Refuse.{Refusal, refuse_at, is_outside, has_no_predictor, is_short_alphabet, is_short_of_room, is_short_of_seed_room, refused_before, learn_refusal, deepen_refusal}
+use Rattle.model.specs.Refuse.{Refusal, is_outside, has_no_predictor, is_short_alphabet, is_short_of_room, refused_before, learn_refusal, deepen_refusal}
 use Rattle.model.specs.Operations.{unless, tree_of, learn, deepen}
 use Rattle.model.specs.Promise.{Unpruned}
 use Rattle.model.specs.SettledPlain.{SettledPlain}

@@ -1,5 +1,4 @@
 -- Small jobs and the oracle's answers, written by oracle/cases. Assumes nothing.
-use Prim.Native.Nat.{ℕ}
 use mathlib.Core.List.{List, [], ◌∷◌, ◌++◌}
 use lib.ListN.{replicate}
 use Rattle.model.specs.Single.{singles}

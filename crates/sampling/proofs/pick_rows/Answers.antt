@@ -1,6 +1,6 @@
 -- `sampling::pick_rows` meets its contract: after k turns the first k numbers are written. Assumes nothing.
 use mathlib.Core.Path.{◌≡◌, refl}
-use Prim.Native.Nat.{ℕ, ◌*◌, ◌-◌, ◌/◌}
+use Prim.Native.Nat.{ℕ, ◌*◌, ◌/◌}
 use native.Mathlib.Omega.{arith}
 use lib.ListN.{length-set}
 use Rattle.sampling.proofs.Picked.{written-more, product_fits, number_fits, all_picked}
