@@ -4,6 +4,7 @@ use Prim.Native.Nat.{◌+◌, ◌-◌, ◌*◌}
 use native.Mathlib.Omega.{arith}
 use lib.IntN.{pos}
 use lib.ListN.{get_or}
+use borrow.Author.Rules.{rules}
 use mir.Syntax.{w32}
 use mir.Val.{to_z, of_z}
 use mir.ValLaws.{to_z-of_z}
@@ -43,8 +44,8 @@ pub loop-row-preserved : goal.loop-row-preserved
 loop-row-preserved c = let start = c.args in
     let x = get_or start.props.now (c.loop-row.row * 24 + start.a) (pos 0) in
     let y = get_or start.props.now (c.loop-row.row * 24 + start.b) (pos 0) in
-    let same : x ≡ y = sym (to_z-of_z w32 x (record { sfits = c.x-1.given })) ∙ ap (to_z w32) c.if-x-y.false
-    ∙ to_z-of_z w32 y (record { sfits = c.y-1.given }) in (
+    let same : x ≡ y = sym (to_z-of_z w32 x (search rules)) ∙ ap (to_z w32) c.if-x-y.false
+    ∙ to_z-of_z w32 y (search rules) in (
       omega arith,
       omega arith,
       equal_turn start.props.now c.loop-row.row start.end start.a start.b c.loop-row-test.true same

@@ -14,7 +14,7 @@ returns-then-score_split-is_scored c = let a = c.args in
     record { answer = (λ rows rs h.
           evaluated_scored c.requires.evaluable c.requires.counts_span
           c.predictor_costs-best.ensures.answer a.mode a.depth rows rs h
-          a.score-split c.is_scored.ensures
+          a.score_split c.is_scored.ensures
           (c.info_of-info.ensures
           ∙ ap (info_with c.predictor_costs-best.result)
           (to_z-of_z w32 a.mode c.ranges.mode))
@@ -23,6 +23,6 @@ returns-then-score_split-is_scored c = let a = c.args in
 pub returns : goal.returns
 returns c = let a = c.args in record { answer = (λ rows rs h.
           evaluated_not c.requires.evaluable c.requires.counts_span c.predictor_costs-best.ensures.answer a.mode a.depth rows rs h
-          a.score-split c.is_scored.ensures (c.info_of-info.ensures
+          a.score_split c.is_scored.ensures (c.info_of-info.ensures
           ∙ ap (info_with c.predictor_costs-best.result) (to_z-of_z w32 a.mode c.ranges.mode))
           c.if-score_split-is_scored.false); zeros = refl }

@@ -28,6 +28,6 @@ pub returns : goal.returns
 returns c = let a = c.args in
     record { answer = (λ rows rs h.
           subst
-          (λ (mode : ℤ). Evaluated c.evaluate_counts.result a.score-split (settings_of a.s) a.logs.now mode a.depth
+          (λ (mode : ℤ). Evaluated c.evaluate_counts.result a.score_split (settings_of a.s) a.logs.now mode a.depth
           (span_rows a.first a.end a.props.now a.tok.now rows rs))
           (to_z-of_z w32 a.mode c.ranges.mode) (c.evaluate_counts.ensures.answer rows rs h)); zeros = c.evaluate_counts.ensures.zeros }

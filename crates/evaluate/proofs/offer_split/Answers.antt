@@ -9,6 +9,7 @@ use Rattle.refuse.specs.Given.{settings_of}
 use Rattle.evaluate.specs.Evaluated.{span_rows}
 use Rattle.evaluate.proofs.Sides.{costs-length, lent_length, windowable, splittable, preds_are}
 use Rattle.evaluate.proofs.offer_split.Goals as goal
+use Rattle.evaluate.proofs.offer_split.Goals.{After-cheapest_predictors-sides}
 
 -- as many predictors as are asked for are lent
 lent : (c : goal.After-cheapest_predictors-sides) → c.cheapest_predictors-sides.result ≡ length
@@ -26,7 +27,7 @@ cheapest_predictors-sides-requires c = (
 )
 
 pub slice_bounds-set_windows-end : goal.slice_bounds-set_windows-end
-slice_bounds-set_windows-end c = lent c.before.before
+slice_bounds-set_windows-end c = lent (goal.at.slice_bounds-set_windows-end c).After-cheapest_predictors-sides
 
 pub set_windows-requires : goal.set_windows-requires
 set_windows-requires c = windowable c.requires.evaluable c.requires.counts_span c.args.costs.now c.cheapest_predictors-sides.result (replicate 14 0) c.cheapest_predictors-sides.new.out
@@ -36,13 +37,13 @@ set_windows-requires c = windowable c.requires.evaluable c.requires.counts_span 
 pub slice_bounds-preds-end-2 : goal.slice_bounds-preds-end-2
 slice_bounds-preds-end-2 c = omega (
   arith,
-  lent c.before.before.before.before.before.before.before,
+  lent (goal.at.slice_bounds-preds-end-2 c).After-cheapest_predictors-sides,
   length-take c.cheapest_predictors-sides.result
       c.cheapest_predictors-sides.new.out,
 )
 
 pub slice_bounds-best_split-end : goal.slice_bounds-best_split-end
-slice_bounds-best_split-end c = lent c.before.before.before.before.before.before.before.before
+slice_bounds-best_split-end c = lent (goal.at.slice_bounds-best_split-end c).After-cheapest_predictors-sides
 
 pub best_split-best-requires : goal.best_split-best-requires
 best_split-best-requires c = splittable c.requires.evaluable c.requires.counts_span c.args.costs.now c.cheapest_predictors-sides.result (replicate 14 0) c.cheapest_predictors-sides.new.out
