@@ -1,6 +1,6 @@
 -- `listing::list_part` meets its contract. The invariant: what is written is the lines of the residuals passed. Assumes nothing.
 use mathlib.Core.Path.{◌≡◌, ◌∙◌}
-use Prim.Native.Nat.{◌-◌, ◌*◌, ◌/◌, ◌^◌, ◌≤◌, ◌<◌}
+use Prim.Native.Nat.{◌*◌, ◌/◌, ◌^◌, ◌≤◌, ◌<◌}
 use native.Mathlib.Nat.{min-le_left, min-le_right}
 use native.Mathlib.Omega.{arith}
 use lib.ListN.{length}
@@ -10,7 +10,7 @@ use mir.Val.{to_z, of_z}
 use mir.ValLaws.{to_z-of_z}
 use Rattle.listing.specs.Listing.{residual_at, part_count, part_text, part_of}
 use Rattle.listing.proofs.Writing.{from_front}
-use Rattle.listing.proofs.Lines.{part_none, part_length, part_room, part-more, part_end, part-fits}
+use Rattle.listing.proofs.Lines.{part_none, part_room, part-more, part_end, part-fits}
 use Rattle.listing.proofs.list_part.Goals as goal
 use Rattle.listing.proofs.list_part.Goals.{After-smaller-taken, After-residual_at}
 

@@ -1,6 +1,5 @@
 -- `settle::settle_leaves` meets its contract: the nodes passed are settled. Assumes nothing.
 use mathlib.Core.Path.{◌≡◌, refl, ap, ◌∙◌}
-use Prim.Native.Nat.{◌-◌}
 use native.Mathlib.Omega.{arith}
 use lib.ListN.{length}
 use Rattle.settle.specs.Leaves.{leaf_tokens}
@@ -19,14 +18,13 @@ settle_leaf-requires c = let pre = c.requires in
     }
 
 pub loop-i-preserved : goal.loop-i-preserved
-loop-i-preserved c = let args = c.args in
-    (
-      omega arith,
-      c.settle_leaf.auto.tok ∙ c.loop-i.invariant.1,
-      c.settle_leaf.ensures.tokens ∙ ap (leaf_tokens args.words.now args.uses args.res.now c.loop-i.i) c.loop-i.invariant.2
-          ∙ settled-more args.words.now args.uses args.res.now c.loop-i.i args.tok.now,
-      c.settle_leaf.ensures.zeros ∙ c.loop-i.invariant.3,
-    )
+loop-i-preserved c = let args = c.args in (
+  omega arith,
+  c.settle_leaf.auto.tok ∙ c.loop-i.invariant.1,
+  c.settle_leaf.ensures.tokens ∙ ap (leaf_tokens args.words.now args.uses args.res.now c.loop-i.i) c.loop-i.invariant.2
+      ∙ settled-more args.words.now args.uses args.res.now c.loop-i.i args.tok.now,
+  c.settle_leaf.ensures.zeros ∙ c.loop-i.invariant.3,
+)
 
 pub shape_of-tok : goal.shape_of-tok
 shape_of-tok c = c.loop-i.invariant.1

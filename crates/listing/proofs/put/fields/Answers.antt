@@ -1,6 +1,5 @@
 -- `listing::put::fields` meets its contract. The invariant: what is written is the fields of the numbers passed. Assumes nothing.
 use mathlib.Core.Path.{refl}
-use Prim.Native.Nat.{◌-◌}
 use native.Mathlib.Omega.{arith}
 use lib.ListN.{get_or}
 use Rattle.listing.specs.Text.{joined}
@@ -18,10 +17,10 @@ field-end-requires c = let lt = c.loop-i-test.true in
 
 pub loop-i-preserved : goal.loop-i-preserved
 loop-i-preserved c = let lt = c.loop-i-test.true in (
-      omega arith,
-      c.loop-i.invariant.1,
-      turn field c.args.numbers.now c.loop-i.i 0 (omega arith) c.loop-i.invariant.2 c.field-end.ensures (room_next field c.args.out.now c.args.at c.args.numbers.now c.loop-i.i 0 (omega arith) c.requires),
-    )
+  omega arith,
+  c.loop-i.invariant.1,
+  turn field c.args.numbers.now c.loop-i.i 0 (omega arith) c.loop-i.invariant.2 c.field-end.ensures (room_next field c.args.out.now c.args.at c.args.numbers.now c.loop-i.i 0 (omega arith) c.requires),
+)
 
 pub returns : goal.returns
 returns c = let numbers = c.args.numbers.now in

@@ -1,7 +1,7 @@
 -- `listing::put::text` meets its contract. The invariant: what is written is the characters passed. Assumes nothing.
 use mathlib.Core.Path.{refl}
 use mathlib.Core.List.{List, [], ◌∷◌}
-use Prim.Native.Nat.{ℕ, ◌-◌}
+use Prim.Native.Nat.{ℕ}
 use native.Mathlib.Omega.{arith}
 use lib.ListN.{get_or}
 use Rattle.listing.specs.Text.{joined, Room}
@@ -21,10 +21,10 @@ byte-end-requires c = let lt = c.loop-i-test.true in
 
 pub loop-i-preserved : goal.loop-i-preserved
 loop-i-preserved c = let lt = c.loop-i-test.true in (
-      omega arith,
-      c.loop-i.invariant.1,
-      turn (λ b. b ∷ []) c.args.s.now c.loop-i.i 0 (omega arith) c.loop-i.invariant.2 c.byte-end.ensures (room_next (λ b. b ∷ []) c.args.out.now c.args.at c.args.s.now c.loop-i.i 0 (omega arith) (room c.args.out.now c.args.at c.args.s.now c.requires)),
-    )
+  omega arith,
+  c.loop-i.invariant.1,
+  turn (λ b. b ∷ []) c.args.s.now c.loop-i.i 0 (omega arith) c.loop-i.invariant.2 c.byte-end.ensures (room_next (λ b. b ∷ []) c.args.out.now c.args.at c.args.s.now c.loop-i.i 0 (omega arith) (room c.args.out.now c.args.at c.args.s.now c.requires)),
+)
 
 pub returns : goal.returns
 returns c = let s = c.args.s.now in
