@@ -16,7 +16,7 @@ use Rattle.model.specs.Lists.{keep}
 use Rattle.model.specs.Settings.{Settings, max_rows}
 use Rattle.model.specs.Rows.{Row}
 use Rattle.model.specs.Single.{singles}
-use Rattle.model.specs.Cost.{has_token, histogram, log_of, entropy_from, extra_from, histogram_cost, cost_of}
+use Rattle.model.specs.Cost.{with_count, has_token, histogram, log_of, entropy_from, extra_from, histogram_cost, cost_of}
 use Rattle.model.specs.Score.{Score, nothing, threshold, lower, lowest_cost, side_cost, score_sides, score_from}
 use Rattle.model.proofs.Places.{get_d_any}
 use Rattle.cost.specs.Counted.{rows_in}
@@ -161,7 +161,7 @@ extra_append t (x ∷ xs) ys =
 entropy_append : (logs : List Float) (top bits : Float) (xs ys : List ℕ) → entropy_from singles logs top bits (xs ++ ys) ≡ entropy_from singles logs top (entropy_from singles logs top bits xs) ys
 unfolding entropy_from
 entropy_append logs top bits [] ys = refl
-entropy_append logs top bits (x ∷ xs) ys = entropy_append logs top _ xs ys
+entropy_append logs top bits (x ∷ xs) ys = entropy_append logs top (with_count singles logs top bits x) xs ys
 
 pub record Inside (h : List ℕ) (first width : ℕ) : Type 0 where
   pub fits : first + width ≤ length h

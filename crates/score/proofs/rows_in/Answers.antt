@@ -1,6 +1,5 @@
 -- `score::rows_in` meets its contract: the sum so far, with the counts that are left, is the whole sum. Assumes nothing.
 use mathlib.Core.Path.{refl}
-use Prim.Native.Nat.{◌-◌}
 use native.Mathlib.Omega.{arith}
 use Rattle.score.proofs.Counting.{rows-turn, rows_end}
 use Rattle.score.proofs.rows_in.Goals as goal

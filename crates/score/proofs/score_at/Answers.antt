@@ -1,73 +1,77 @@
 -- `score::score_at` meets its contract: by the sizes of the sides. Assumes nothing.
 use mathlib.Core.Path.{◌≡◌}
-use Prim.Native.Nat.{◌<◌, ◌≤◌, ◌+◌, ◌-◌, ◌*◌}
+use mathlib.Core.List.{List}
+use lib.Ieee.{Float}
+use Rattle.cost.specs.Counted.{rows_in}
+use Prim.Native.Nat.{ℕ, ◌<◌, ◌≤◌, ◌+◌, ◌-◌, ◌*◌}
 use native.Mathlib.Omega.{arith}
 use mir.Syntax.{w32}
 use mir.ValLaws.{to_z-of_z}
 use lib.IntN.{pos}
-use lib.ListN.{length, get_or}
+use lib.ListN.{length, get_or, take, drop}
 use Rattle.model.specs.Settings.{max_rows}
-use Rattle.score.specs.Scored.{size_at}
+use Rattle.score.specs.Scored.{size_at, Binned}
 use Rattle.score.proofs.Scores.{at_no_le, at_no_gt, at_both}
 use Rattle.score.proofs.score_at.Goals as goal
 
 -- what it knows of candidate k's bin
-pub record Here (s : tie.Start) : Type 0 where
-  pub there : s.args.k * s.args.stride + get_or s.args.offs.now 1 0 ≤ length s.args.cells.now
-  pub sized : size_at s.args.cells.now s.args.offs.now (s.args.k * s.args.stride) ≤ s.args.total
-  pub ends : 1 < length s.args.offs.now
-  pub small : s.args.total ≤ max_rows
-  pub reach : s.args.total < length s.args.logs.now
-here : (s : goal.Start) → Here s
-here s =
-    let p = s.requires.0 in
-    record { there = p.size_there s.args.k s.requires.1; sized = p.sized s.args.k s.requires.1; ends = p.ends; small = p.small; reach = p.reach }
+pub record Here (cells os : List ℕ) (logs : List Float) (k stride total : ℕ) : Type 0 where
+  pub there : k * stride + get_or os 1 0 ≤ length cells
+  pub sized : size_at cells os (k * stride) ≤ total
+  pub ends : 1 < length os
+  pub small : total ≤ max_rows
+  pub reach : total < length logs
+
+here : (cells node : List ℕ) (alphabet : ℕ) (preds firsts offs extras : List ℕ) (stride total bins : ℕ) (logs : List Float) (k : ℕ)
+    → Binned cells node alphabet preds firsts offs extras stride total bins logs → k < bins → Here cells offs logs k stride total
+here cells node alphabet preds firsts offs extras stride total bins logs k p h =
+    record { there = p.size_there k h; sized = p.sized k h; ends = p.ends; small = p.small; reach = p.reach }
 
 -- the part of the bin that is the first window
-width : (s : goal.Start) → s.args.k * s.args.stride + get_or s.args.offs.now 1 0 - s.args.k * s.args.stride ≡ get_or s.args.offs.now 1 0
-width s = omega arith
+width : (at n : ℕ) → at + n - at ≡ n
+width at n = omega arith
 
-found : (c : goal.After-rows_in-size) → c.rows_in-size.result ≡ size_at c.args.cells.now c.args.offs.now (c.args.k * c.args.stride)
-found c = rw (width c.before.before.before.before.before.before.before.before.before.before at c.rows_in-size.ensures
+found : (cells offs : List ℕ) (at size : ℕ) → size ≡ rows_in (take (at + get_or offs 1 0 - at) (drop at cells)) → size ≡ size_at cells offs at
+found cells offs at size e = rw (width at (get_or offs 1 0)) at e
 
 pub overflow_mul-base : goal.overflow_mul-base
-overflow_mul-base c = omega (arith, here c, c.well-formed)
+overflow_mul-base c = omega (arith, here _ _ _ _ _ _ _ _ _ _ _ _ c.requires.binned c.requires.k_in_bounds)
 
 pub bounds-offs-1 : goal.bounds-offs-1
-bounds-offs-1 c = omega (arith, here c.before.before.before.before.before.before.before.before
+bounds-offs-1 c = omega (arith, here _ _ _ _ _ _ _ _ _ _ _ _ c.requires.binned c.requires.k_in_bounds)
 
 pub overflow_cast-end : goal.overflow_cast-end
-overflow_cast-end c = omega (arith, here c, c.well-formed)
+overflow_cast-end c = omega (arith, here _ _ _ _ _ _ _ _ _ _ _ _ c.requires.binned c.requires.k_in_bounds)
 
 pub overflow_add-end : goal.overflow_add-end
-overflow_add-end c = omega (arith, here c, c.well-formed)
+overflow_add-end c = omega (arith, here _ _ _ _ _ _ _ _ _ _ _ _ c.requires.binned c.requires.k_in_bounds)
 
 pub offset_bounds-cells-base : goal.offset_bounds-cells-base
-offset_bounds-cells-base c = omega (arith, here c, c.well-formed)
+offset_bounds-cells-base c = omega (arith, here _ _ _ _ _ _ _ _ _ _ _ _ c.requires.binned c.requires.k_in_bounds)
 
-pub slice-bounds-rows-in-end : goal.slice-bounds-rows-in-end
-slice-bounds-rows-in-end c = omega (arith, here c, c.well-formed)
+pub slice_bounds-rows_in-end : goal.slice_bounds-rows_in-end
+slice_bounds-rows_in-end c = omega (arith, here _ _ _ _ _ _ _ _ _ _ _ _ c.requires.binned c.requires.k_in_bounds)
 
 pub rows_in-size-requires : goal.rows_in-size-requires
-rows_in-size-requires c = rw (width c) (omega (arith, here c))
+rows_in-size-requires c = rw (width (c.args.k * c.args.stride) (get_or c.args.offs.now 1 0)) (omega (arith, here _ _ _ _ _ _ _ _ _ _ _ _ c.requires.binned c.requires.k_in_bounds))
 
 pub returns-then-size-eq0 : goal.returns-then-size-eq0
-returns-then-size-eq0 c = at_no_le _ _ _ _ _ _ _ _ _ _ _ c.rows_in-size.result (found c.before c.if-size-eq0.true
+returns-then-size-eq0 c = at_no_le _ _ _ _ _ _ _ _ _ _ _ c.rows_in-size.result (found c.args.cells.now c.args.offs.now (c.args.k * c.args.stride) c.rows_in-size.result c.rows_in-size.ensures) c.if-size-eq0.true
 
 pub returns-then-size-total : goal.returns-then-size-total
-returns-then-size-total c = at_no_gt _ _ _ _ _ _ _ _ _ _ _ c.rows_in-size.result (found c.before.before c.if-size-eq0.false c.if-size-total.true
+returns-then-size-total c = at_no_gt _ _ _ _ _ _ _ _ _ _ _ c.rows_in-size.result (found c.args.cells.now c.args.offs.now (c.args.k * c.args.stride) c.rows_in-size.result c.rows_in-size.ensures) c.if-size-eq0.false c.if-size-total.true
 
 pub bounds-logs-size : goal.bounds-logs-size
-bounds-logs-size c = omega (arith, here c.before.before.before.before.before.before.before.before.before.before.before.before.before, found c.before.before.before
+bounds-logs-size c = omega (arith, here _ _ _ _ _ _ _ _ _ _ _ _ c.requires.binned c.requires.k_in_bounds, found c.args.cells.now c.args.offs.now (c.args.k * c.args.stride) c.rows_in-size.result c.rows_in-size.ensures)
 
 pub overflow_sub-log_gt : goal.overflow_sub-log_gt
-overflow_sub-log_gt c = omega (arith, here c.before.before.before.before.before.before.before.before.before.before.before.before.before, found c.before.before.before
+overflow_sub-log_gt c = omega (arith, here _ _ _ _ _ _ _ _ _ _ _ _ c.requires.binned c.requires.k_in_bounds, found c.args.cells.now c.args.offs.now (c.args.k * c.args.stride) c.rows_in-size.result c.rows_in-size.ensures)
 
 pub lowest_sides-sides-requires : goal.lowest_sides-sides-requires
 lowest_sides-sides-requires c = c.requires.binned.ready c.args.k c.requires.k_in_bounds
 
 pub returns : goal.returns
-returns c = let h = here c in
-    let size = found c.before.before.before.before.before.before.before in
+returns c = let h = here _ _ _ _ _ _ _ _ _ _ _ _ c.requires.binned c.requires.k_in_bounds in
+    let size = found c.args.cells.now c.args.offs.now (c.args.k * c.args.stride) c.rows_in-size.result c.rows_in-size.ensures in
     rw (to_z-of_z w32 (get_or c.args.cands.now c.args.k (pos 0)) (record { sfits = c.result-1.given }))
     (at_both _ _ _ _ _ _ _ _ _ _ _ c.rows_in-size.result size c.if-size-eq0.false c.if-size-total.false (omega (arith, h, size)) h.reach c.lowest_sides-sides.result c.lowest_sides-sides.ensures)

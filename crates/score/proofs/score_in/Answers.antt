@@ -1,5 +1,6 @@
 -- `score::score_in` meets its contract: its room after each call, and then the law of the score from bins. Assumes nothing.
 use mathlib.Core.Path.{◌≡◌, ap, ◌∙◌}
+use mathlib.Core.List.{List}
 use Prim.Native.Nat.{ℕ, ◌+◌, ◌*◌}
 use native.Mathlib.Omega.{arith}
 use lib.ListN.{length, replicate, length-replicate}
@@ -8,21 +9,23 @@ use Rattle.score.specs.Scored.{score_is}
 use Rattle.score.proofs.Property.{rows-there, all_lanes, c-low, extras-fit, sums_fit, ready, scored, cleared}
 use Rattle.score.proofs.score_in.Goals as goal
 
-room-long : (s : goal.Start) → length s.args.room.now ≡ (length s.args.cands.now + 1) * s.args.stride
-room-long s = ap length s.requires.1.1.1 ∙ length-replicate {A = ℕ} ((length s.args.cands.now + 1) * s.args.stride) 0
+room-long : (room : List ℕ) (n : ℕ) → room ≡ replicate n 0 → length room ≡ n
+room-long room n e = ap length e ∙ length-replicate {A = ℕ} n 0
 
 pub scan_split_plan-requires : goal.scan_split_plan-requires
 scan_split_plan-requires c = let h = c.requires.scorable in
     let there = rows-there _ _ _ _ _ _ _ _ _ _ h _ _ c.requires.windows _ c.requires.stride_value in
     let lanes = all_lanes _ _ _ _ _ _ _ _ _ _ h _ _ c.requires.windows _ c.requires.stride_value in
     let low = c-low _ _ _ _ _ _ _ _ _ _ h _ _ c.requires.windows _ c.requires.stride_value _ c.requires.room_value in
-    record { rows_there = there; prop_lt_props_per_row = (h.property, h.few_cands, omega (arith, room-long c)); lanes = lanes; low = low }
+    record { rows_there = there; prop_lt_props_per_row = (h.property, h.few_cands, omega (arith, room-long c.args.room.now ((length c.args.cands.now + 1) * c.args.stride) c.requires.room_value)); lanes = lanes; low = low }
 
 pub overflow_mul-cands : goal.overflow_mul-cands
-overflow_mul-cands c = omega (arith, part_end (length c.args.cands.now) (length c.args.cands.now + 1) c.args.stride (omega arith), room-long c, c.well-formed)
+overflow_mul-cands c = omega (arith, part_end (length c.args.cands.now) (length c.args.cands.now + 1) c.args.stride (omega arith), room-long c.args.room.now ((length c.args.cands.now + 1) * c.args.stride) c.requires.room_value)
 
 pub accumulate-requires : goal.accumulate-requires
-accumulate-requires c = sums_fit _ _ _ _ _ _ _ _ _ _ c.requires.scorable _ _ c.requires.windows _ c.requires.stride_value _ c.requires.room_value _ c.scan_split_plan.ensures
+accumulate-requires c =
+    let fit = sums_fit _ _ _ _ _ _ _ _ _ _ c.requires.scorable _ _ c.requires.windows _ c.requires.stride_value _ c.requires.room_value _ c.scan_split_plan.ensures in
+    record { n_in_bounds = fit.0; sums_low = fit.1 }
 
 pub set_extras-requires : goal.set_extras-requires
 set_extras-requires c = extras-fit _ _ _ _ _ _ _ _ _ _ c.requires.scorable _ _ c.requires.windows _ c.requires.stride_value (replicate 14 0) c.requires.scorable.few_preds

@@ -1,22 +1,15 @@
 -- `score::score_property` meets its contract: the bins' part of the room is lent, and comes back as it was. Assumes nothing.
 use mathlib.Core.Path.{refl, sym, ap, ◌∙◌}
 use mathlib.Core.List.{List, ◌++◌}
-use Prim.Native.Nat.{ℕ, ◌≤◌, ◌+◌, ◌*◌}
+use Prim.Native.Nat.{ℕ, ◌+◌, ◌*◌}
 use native.Mathlib.Omega.{arith}
 use lib.ListN.{length, get_or, drop, take-append-drop}
 use lib.Seq.{length-take-le}
 use Rattle.score.proofs.Property.{bins_fit, zeros-front}
 use Rattle.score.proofs.score_property.Goals as goal
 
--- the bins' part of the room
-abbrev bins : goal.Start → ℕ
-bins s = (length s.args.cands.now + 1) * get_or s.args.offs.now (length s.args.preds.now) 0
-
-fits : (s : goal.Start) → bins s ≤ length s.args.room.now
-fits s = bins_fit _ _ _ _ _ _ _ _ _ _ s.requires.0 _ _ s.requires.1.0 _ refl s.args.room.now s.requires.1.1
-
 pub offset_bounds-offs-last : goal.offset_bounds-offs-last
-offset_bounds-offs-last c = omega (arith, c.requires.windows.offs_room, c.well-formed)
+offset_bounds-offs-last c = omega (arith, c.requires.windows.offs_room)
 
 pub bounds-offs-last : goal.bounds-offs-last
 bounds-offs-last c = omega (arith, c.requires.windows.offs_room)
@@ -25,16 +18,16 @@ pub overflow_cast-stride : goal.overflow_cast-stride
 overflow_cast-stride c = omega (arith, c.shared_slice_known-7-1.given (length c.args.preds.now))
 
 pub overflow_mul-bins : goal.overflow_mul-bins
-overflow_mul-bins c = omega (arith, fits c, c.well-formed)
+overflow_mul-bins c = omega (arith, bins_fit _ _ _ _ _ _ _ _ _ _ c.requires.scorable _ _ c.requires.windows _ refl c.args.room.now c.requires.spare)
 
 pub slice_bounds-score_in-end : goal.slice_bounds-score_in-end
-slice_bounds-score_in-end c = fits c.before.before.before.before.before.before.before.before
+slice_bounds-score_in-end c = bins_fit _ _ _ _ _ _ _ _ _ _ c.requires.scorable _ _ c.requires.windows _ refl c.args.room.now c.requires.spare
 
 pub slice_bounds-score_in-end-2 : goal.slice_bounds-score_in-end-2
-slice_bounds-score_in-end-2 c = sym (length-take-le (bins c) c.args.room.now (fits c))
+slice_bounds-score_in-end-2 c = sym (length-take-le ((length c.args.cands.now + 1) * get_or c.args.offs.now (length c.args.preds.now) 0) c.args.room.now (bins_fit _ _ _ _ _ _ _ _ _ _ c.requires.scorable _ _ c.requires.windows _ refl c.args.room.now c.requires.spare))
 
 pub score_in-requires : goal.score_in-requires
-score_in-requires c = record { scorable = c.requires.scorable; windows = c.requires.windows; stride_value = refl; room_value = zeros-front c.args.room.now (bins c) c.requires.spare.zeros (fits c) }
+score_in-requires c = record { scorable = c.requires.scorable; windows = c.requires.windows; stride_value = refl; room_value = zeros-front c.args.room.now ((length c.args.cands.now + 1) * get_or c.args.offs.now (length c.args.preds.now) 0) c.requires.spare.zeros (bins_fit _ _ _ _ _ _ _ _ _ _ c.requires.scorable _ _ c.requires.windows _ refl c.args.room.now c.requires.spare) }
 
 pub returns : goal.returns
-returns c = record { answer = c.score_in.ensures.answer; zeros = ap (λ (l : List ℕ). l ++ drop (bins c) c.args.room.now) c.score_in.ensures.zeros ∙ take-append-drop (bins c) c.args.room.now }
+returns c = record { answer = c.score_in.ensures.answer; zeros = ap (λ (l : List ℕ). l ++ drop ((length c.args.cands.now + 1) * get_or c.args.offs.now (length c.args.preds.now) 0) c.args.room.now) c.score_in.ensures.zeros ∙ take-append-drop ((length c.args.cands.now + 1) * get_or c.args.offs.now (length c.args.preds.now) 0) c.args.room.now }

@@ -2,7 +2,6 @@
 use mathlib.Core.Path.{◌≡◌}
 use Prim.Native.Nat.{◌≤◌, ◌-◌}
 use lib.ListN.{length}
-use Rattle.model.specs.Score as model
 use Rattle.score.specs.Scored.{score_is, scored_at, scored_to}
 use Rattle.score.proofs.score_split_plan.Given as goal
 
