@@ -24,7 +24,7 @@ use Rattle.model.proofs.Tally.{tree-count}
 use Rattle.model.proofs.BreadthFirst.{leaf_at, numbered_along, along_end, along_split, along_leaf, contexts_along, order-inside, order-leaves}
 use Rattle.layout.specs.Layout.{kind_at, nodes_held, stored_in, node_at}
 use Rattle.tree.specs.Trees.{OfTree, SoundTree}
-use Rattle.tree.proofs.Entries.{nodes-length, node_at}
+use Rattle.tree.proofs.Entries.{nodes-length, node_at_lem}
 use Rattle.tree.proofs.Soundness.{zeros, bare-held, few}
 use Rattle.contexts.specs.Numbering.{Numbering, numbering, given, Giveable}
 
@@ -87,7 +87,7 @@ module _ (words : List ℕ) (count : ℕ) (is : SoundTree words count) (order : 
     -- what is left, for node i as the words have it
     module _ (values : List ℤ) (costs : List Float) (held : count ≤ nodes_held words values) where
       node : get_or (nodes_with values costs) i leaf ≡ node_at words values i
-      node = node_at singles words values costs count held i low
+      node = node_at_lem singles words values costs count held i low
 
       leaves_left : next + (cond (is_leaf (node_at words values i)) 1 0 + count_if (leaf_at (nodes_with values costs)) (drop (k + 1) order)) ≡ leaf_count (nodes_with values costs)
       leaves_left = rw (left, node) at (n.leaves values costs held)

@@ -72,9 +72,9 @@ pub fn leaf_contexts(
     queue: &mut [u32],
     count: u32,
 ) -> Contexts
-    ensures { (costs : List Float) → contexts_after result contexts.exit.now queue.new
+    ensures { (costs : List Float) → contexts_after result contexts.new queue.new
         ≡ leaf_contexts (stored_in words.now values.now costs) count
-        (record { contexts = contexts.entry.now; queue = queue.old }) }
+        (record { contexts = contexts.old; queue = queue.old }) }
 {
     let n = count as usize;
     if tree::nodes_held(words, values) < n {

@@ -5,7 +5,7 @@ use Rattle.contexts.proofs.Numbering.{Numbered}
 use Rattle.contexts.proofs.number_leaves.Given as goal
 
 abbrev pub invariant-loop-k : goal.invariant-loop-k
-invariant-loop-k l = (l.k ≤ length l.order) × Numbered l.words (length l.order) l.order l.k l.next.0 l.contexts
+invariant-loop-k l = (l.k ≤ length l.queue) × Numbered l.words (length l.queue) l.queue l.k l.next.0 l.contexts
 
 abbrev pub decreases-loop-k : goal.decreases-loop-k
-decreases-loop-k l = length l.order - l.k
+decreases-loop-k l = length l.queue - l.k
