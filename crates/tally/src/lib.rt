@@ -4,7 +4,7 @@
 ghost use Rattle.std.specs.Prelude.{◌≡◌};
 ghost use Rattle.tally.specs.Counted.{nothing, counted};
 
-use libc::STDOUT_FILENO;
+use std::io;
 
 #[derive(Clone, Copy)]
 pub struct Tally {
@@ -28,7 +28,7 @@ impl Tally {
     pub fn with(self, right: bool, at: u32) -> Self
         ensures { result ≡ counted self right at }
     {
-        let tried = std::num::wrapping_add_u64(self.tried, 1);
+        let tried = self.tried.wrapping_add(1);
         if right {
             return Self {
                 tried,
@@ -38,23 +38,18 @@ impl Tally {
         }
         Self {
             tried,
-            wrong: std::num::wrapping_add_u64(self.wrong, 1),
+            wrong: self.wrong.wrapping_add(1),
             first: if self.wrong == 0 { at } else { self.first },
         }
     }
 }
 
 // Prints a tally under a name.
-pub fn report(name: &[u8], t: Tally) {
-    io::write_all(STDOUT_FILENO, name);
-    io::write_all(STDOUT_FILENO, b": ");
-    io::print_decimal(STDOUT_FILENO, t.tried);
-    io::write_all(STDOUT_FILENO, b" tried, ");
-    io::print_decimal(STDOUT_FILENO, t.wrong);
-    io::write_all(STDOUT_FILENO, b" wrong");
+pub fn report(rt: &impl Print, name: &[u8], t: Tally) -> io::Result<()> {
+    rt.write_all(name)?;
+    print!(rt; ": {} tried, {} wrong", t.tried, t.wrong)?;
     if t.wrong > 0 {
-        io::write_all(STDOUT_FILENO, b", the first at ");
-        io::print_decimal(STDOUT_FILENO, t.first as u64);
+        print!(rt; ", the first at {}", t.first)?;
     }
-    io::write_all(STDOUT_FILENO, b"\n");
+    rt.write_all(b"\n")
 }

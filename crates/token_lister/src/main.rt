@@ -2,53 +2,70 @@
 // and `short` with the number of bytes left over, if there are any.
 #![tactic(auto)]
 
-use libc::{STDIN_FILENO, STDOUT_FILENO};
+ghost use Rattle.std.specs.Prelude.{◌≤◌, length, IfOk};
 
-fn write_header() -> bool {
-    let mut out = [0u8; 32];
-    let n = listing::list_header(&mut out);
-    io::write_all(STDOUT_FILENO, &out[..n])
+use std::io::{self, Read};
+
+// Reads until the buffer is full or the input ends; answers how many bytes were read.
+fn read_full<R: Read>(from: &mut R, buf: &mut [u8]) -> io::Result<usize>
+    ensures { IfOk result (λ n. n ≤ length buf.new) }
+{
+    let mut n: usize = 0;
+    while n < buf.len() {
+        let more = from.read(&mut buf[n..])?;
+        if more == 0 {
+            return Ok(n);
+        }
+        n += more;
+    }
+    Ok(n)
 }
 
-fn write_rest(input: &[u8]) {
+fn write_header(rt: &impl Print) -> io::Result<()> {
+    let mut out = [0u8; 32];
+    let n = listing::list_header(&mut out);
+    rt.write_all(&out[..n])
+}
+
+fn write_rest(rt: &impl Print, input: &[u8]) -> io::Result<()> {
     let mut out = [0u8; 8];
     let n = listing::list_rest(input, &mut out);
-    io::write_all(STDOUT_FILENO, &out[..n]);
+    rt.write_all(&out[..n])
 }
 
 // Writes the lines of a part, which has at most 1,638 residuals.
-fn write_lines(input: &[u8]) -> bool {
-    let mut out = io::large_buffer();
+fn write_lines(rt: &impl Print, input: &[u8]) -> io::Result<()> {
+    let mut out = [0u8; 65536];
     let part = listing::list_part(input, &mut out);
     let n = part.written;
-    io::write_all(STDOUT_FILENO, &out[..n])
+    rt.write_all(&out[..n])
 }
 
 // Reads a part of 1,024 residuals and lists it. Only the last part is shorter. Answers whether
 // there may be another.
-fn list_some() -> bool {
-    let mut input = io::buffer();
-    let n = io::read_full(STDIN_FILENO, &mut input);
-    if !write_lines(&input[..n]) {
-        return false;
-    }
+fn list_some<R: Read>(rt: &impl Print, from: &mut R) -> io::Result<bool> {
+    let mut input = [0u8; 4096];
+    let n = read_full(from, &mut input)?;
+    write_lines(rt, &input[..n])?;
     if n < 4096 {
-        write_rest(&input[..n]);
-        return false;
+        write_rest(rt, &input[..n])?;
+        return Ok(false);
     }
-    true
+    Ok(true)
 }
 
-// Counts its turns down, since a proved loop has to end, from a number that no input uses up.
-fn list_all() {
-    let mut turns = u64::MAX;
-    while turns > 0 && list_some() {
-        turns -= 1;
+// Counts its turns, since a proved loop has to end, up to a number that no input uses up.
+fn list_all<R: Read>(rt: &impl Print, from: &mut R) -> io::Result<()> {
+    for _ in 0..u64::MAX {
+        if !list_some(rt, from)? {
+            return Ok(());
+        }
     }
+    Ok(())
 }
 
-fn main() {
-    if write_header() {
-        list_all();
-    }
+fn main(rt: HostRuntime) -> io::Result<()> {
+    write_header(&rt)?;
+    let mut from = rt.reader();
+    list_all(&rt, &mut from)
 }

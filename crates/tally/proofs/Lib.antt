@@ -1,2 +1,0 @@
--- `Counts`: a case right or wrong, as it is counted.
-pub mod Counts
