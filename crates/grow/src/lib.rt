@@ -10,9 +10,9 @@ ghost use Rattle.model.specs.Rows.{Row};
 ghost use Rattle.model.specs.Single.{singles};
 ghost use Rattle.model.specs.Lent.{Waiting};
 ghost use Rattle.model.specs.Grow.{State, grown_bits, step, steps};
-ghost use Rattle.layout.specs.Tree.{NodeLists, nodes_now, HasRoom};
+ghost use Rattle.layout.specs.Tree.{NodeLists, node_lists, HasRoom};
 ghost use Rattle.layout.specs.Values.{offer_is};
-ghost use Rattle.layout.specs.Waiting.{queue_now, Queued, QueueRoom, SameQueue, without, waits};
+ghost use Rattle.layout.specs.Waiting.{queue_lists, Queued, QueueRoom, SameQueue, without, waits};
 ghost use Rattle.rows.specs.Cells.{span};
 ghost use Rattle.rows.specs.Flat.{flat};
 ghost use Rattle.grow.specs.Parts.{RowsFit, RowsSplit, split_nodes};
@@ -75,11 +75,11 @@ fn split_nodes(
     gt: NodeInfo,
     le: NodeInfo,
 )
-    requires has_room { HasRoom (count + 2) (nodes_now words values costs) }
+    requires has_room { HasRoom (count + 2) (node_lists words.old values.old costs.old) }
     requires i_lt_count { (i < count) × (count + 2 ≤ max_nodes) × (first ≤ max_rows) × (at ≤ max_rows) × (end ≤ max_rows) }
-    ensures { nodes_now words.exit values.exit costs.exit
+    ensures { node_lists words.new values.new costs.new
         ≡ split_nodes i prop val count gt le first at end
-        (nodes_now words.entry values.entry costs.entry) }
+        (node_lists words.old values.old costs.old) }
 {
     layout::put_split(words, values, i, prop, val, count as u32);
     layout::put_leaf(words, values, costs, count, gt, first, at);
@@ -98,13 +98,13 @@ fn requeue(
     gt: Offer,
     le: Offer,
 ) -> usize
-    requires { (k < waiting) × (count + 2 ≤ max_nodes) × QueueRoom (waiting + 1) (queue_now words values gains) }
+    requires { (k < waiting) × (count + 2 ≤ max_nodes) × QueueRoom (waiting + 1) (queue_lists words.old values.old gains.old) }
     ensures queue { (leaves : List (Waiting singles))
-        → Queued waiting (queue_now words.entry values.entry gains.entry) leaves
-        → Queued result (queue_now words.exit values.exit gains.exit)
+        → Queued waiting (queue_lists words.old values.old gains.old) leaves
+        → Queued result (queue_lists words.new values.new gains.new)
         (without k leaves ++ waits count depth (offer_is gt) ++ waits (count + 1) depth (offer_is le)) }
-    ensures lengths { (result ≤ waiting + 1) × SameQueue (queue_now words.entry values.entry gains.entry)
-        (queue_now words.exit values.exit gains.exit) }
+    ensures lengths { (result ≤ waiting + 1) × SameQueue (queue_lists words.old values.old gains.old)
+        (queue_lists words.new values.new gains.new) }
 {
     queue::unqueue(words, values, gains, waiting, k);
     let one = queue::enqueue(words, values, gains, waiting - 1, count, depth, gt);
@@ -140,17 +140,17 @@ fn split_leaf(
     left: usize,
     k: usize,
 ) -> Tree
-    requires { Splits s logs.now counts.old (flat props.old tok.old res.old) (nodes_now words values costs)
-        (queue_now queue_words queue_values queue_gains) tree left k }
+    requires { Splits s logs.now counts.old (flat props.old tok.old res.old) (node_lists words.old values.old costs.old)
+        (queue_lists queue_words.old queue_values.old queue_gains.old) tree left k }
     ensures grown { (lent : NodeLists) (st : State singles) (seeds : ℕ → Bool) (given : List Row)
         → Grows s logs.now counts.old
         (flat props.old tok.old res.old)
-        (nodes_now words.entry values.entry costs.entry)
-        (queue_now queue_words.entry queue_values.entry queue_gains.entry) tree left lent st seeds given
+        (node_lists words.old values.old costs.old)
+        (queue_lists queue_words.old queue_values.old queue_gains.old) tree left lent st seeds given
         → Grows s logs.now counts.old
         (flat props.new tok.new res.new)
-        (nodes_now words.exit values.exit costs.exit)
-        (queue_now queue_words.exit queue_values.exit queue_gains.exit) result (left - 1)
+        (node_lists words.new values.new costs.new)
+        (queue_lists queue_words.new queue_values.new queue_gains.new) result (left - 1)
         lent (step (job_in s logs.now (flat props.old tok.old res.old)) st)
         seeds given }
     ensures zeros { counts.new ≡ counts.old }
@@ -225,22 +225,22 @@ pub fn grow_tree(
     tree: Tree,
     more: usize,
 ) -> Tree
-    requires { Growable s logs.now counts.old (flat props.old tok.old res.old) (nodes_now words values costs)
-        (queue_now queue_words queue_values queue_gains) tree more }
+    requires { Growable s logs.now counts.old (flat props.old tok.old res.old) (node_lists words.old values.old costs.old)
+        (queue_lists queue_words.old queue_values.old queue_gains.old) tree more }
     ensures grown { (lent : NodeLists) (st : State singles) (seeds : ℕ → Bool) (given : List Row)
         → Grows s logs.now counts.old
         (flat props.old tok.old res.old)
-        (nodes_now words.entry values.entry costs.entry)
-        (queue_now queue_words.entry queue_values.entry queue_gains.entry) tree more lent st seeds given
+        (node_lists words.old values.old costs.old)
+        (queue_lists queue_words.old queue_values.old queue_gains.old) tree more lent st seeds given
         → GrownTo s logs.now counts.old
         (flat props.old tok.old res.old)
         (flat props.new tok.new res.new)
-        (nodes_now words.exit values.exit costs.exit) result
+        (node_lists words.new values.new costs.new) result
         lent (steps (job_in s logs.now (flat props.old tok.old res.old))
         more st) }
     ensures zeros { counts.new ≡ counts.old }
-    ensures lengths { SameQueue (queue_now queue_words.entry queue_values.entry queue_gains.entry)
-        (queue_now queue_words.exit queue_values.exit queue_gains.exit) }
+    ensures lengths { SameQueue (queue_lists queue_words.old queue_values.old queue_gains.old)
+        (queue_lists queue_words.new queue_values.new queue_gains.new) }
 {
     let mut tree = tree;
     let mut left = more;

@@ -4,8 +4,8 @@
 
 ghost use Rattle.std.specs.Prelude.{◌≡◌, List};
 ghost use Rattle.model.specs.Rows.{Row};
-ghost use Rattle.layout.specs.Tree.{nodes_now};
-ghost use Rattle.layout.specs.Waiting.{queue_now};
+ghost use Rattle.layout.specs.Tree.{node_lists};
+ghost use Rattle.layout.specs.Waiting.{queue_lists};
 ghost use Rattle.rows.specs.Flat.{flat};
 ghost use Rattle.seed_leaves.specs.Sown.{LeafReady, LeafPlanted, NodeFits, NodePlanted};
 ghost use Rattle.seed_leaves.specs.Sown.{Plants, Sowable, PlantedTo};
@@ -36,15 +36,15 @@ fn plant_leaf(
     tree: Tree,
 ) -> Tree
     requires { LeafReady s logs.now counts.old (flat props.now tok.old res.now)
-        (nodes_now words values costs) (queue_now queue_words queue_values queue_gains)
+        (node_lists words.old values.old costs.old) (queue_lists queue_words.old queue_values.old queue_gains.old)
         tree first end score_split }
     ensures { LeafPlanted s logs.now counts.old counts.new
         (flat props.now tok.old res.now)
         (flat props.now tok.new res.now)
-        (nodes_now words.entry values.entry costs.entry)
-        (nodes_now words.exit values.exit costs.exit)
-        (queue_now queue_words.entry queue_values.entry queue_gains.entry)
-        (queue_now queue_words.exit queue_values.exit queue_gains.exit)
+        (node_lists words.old values.old costs.old)
+        (node_lists words.new values.new costs.new)
+        (queue_lists queue_words.old queue_values.old queue_gains.old)
+        (queue_lists queue_words.new queue_values.new queue_gains.new)
         tree result first end depth score_split }
 {
     let leaf = leaf::make_leaf(
@@ -98,14 +98,14 @@ fn plant_node(
     tree: Tree,
 ) -> Tree
     requires { NodeFits s logs.now counts.old (flat props.now tok.old res.now)
-        (nodes_now words values costs) (queue_now queue_words queue_values queue_gains) tree score_split }
+        (node_lists words.old values.old costs.old) (queue_lists queue_words.old queue_values.old queue_gains.old) tree score_split }
     ensures { NodePlanted s logs.now counts.old counts.new
         (flat props.now tok.old res.now)
         (flat props.now tok.new res.now)
-        (nodes_now words.entry values.entry costs.entry)
-        (nodes_now words.exit values.exit costs.exit)
-        (queue_now queue_words.entry queue_values.entry queue_gains.entry)
-        (queue_now queue_words.exit queue_values.exit queue_gains.exit)
+        (node_lists words.old values.old costs.old)
+        (node_lists words.new values.new costs.new)
+        (queue_lists queue_words.old queue_values.old queue_gains.old)
+        (queue_lists queue_words.new queue_values.new queue_gains.new)
         tree result depth score_split }
 {
     let i = tree.nodes;
@@ -159,20 +159,20 @@ fn plant_nodes(
     score_split: bool,
 ) -> Tree
     requires { Sowable s logs.now counts.old (flat props.now tok.old res.now)
-        (nodes_now words values costs) (queue_now queue_words queue_values queue_gains) count score_split }
+        (node_lists words.old values.old costs.old) (queue_lists queue_words.old queue_values.old queue_gains.old) count score_split }
     ensures { (given : List Row)
         → Plants s logs.now counts.old
         (flat props.now tok.old res.now)
-        (nodes_now words.entry values.entry costs.entry)
-        (queue_now queue_words.entry queue_values.entry queue_gains.entry)
+        (node_lists words.old values.old costs.old)
+        (queue_lists queue_words.old queue_values.old queue_gains.old)
         count score_split given
         → PlantedTo s logs.now counts.old counts.new
         (flat props.now tok.old res.now)
         (flat props.now tok.new res.now)
-        (nodes_now words.entry values.entry costs.entry)
-        (nodes_now words.exit values.exit costs.exit)
-        (queue_now queue_words.entry queue_values.entry queue_gains.entry)
-        (queue_now queue_words.exit queue_values.exit queue_gains.exit)
+        (node_lists words.old values.old costs.old)
+        (node_lists words.new values.new costs.new)
+        (queue_lists queue_words.old queue_values.old queue_gains.old)
+        (queue_lists queue_words.new queue_values.new queue_gains.new)
         result count count score_split given }
 {
     let mut depths = [0u32; layout::MAX_NODES];
@@ -224,14 +224,14 @@ pub fn plant_seed(
     count: usize,
 ) -> Tree
     requires { Seedable s logs.now counts.old (flat props.old tok.old res.old)
-        (nodes_now words values costs) (queue_now queue_words queue_values queue_gains) rows count }
+        (node_lists words.old values.old costs.old) (queue_lists queue_words.old queue_values.old queue_gains.old) rows count }
     ensures planted { Seeded s logs.now counts.new
         (flat props.old tok.old res.old)
         (flat props.new tok.new res.new)
-        (nodes_now words.entry values.entry costs.entry)
-        (nodes_now words.exit values.exit costs.exit)
-        (queue_now queue_words.entry queue_values.entry queue_gains.entry)
-        (queue_now queue_words.exit queue_values.exit queue_gains.exit)
+        (node_lists words.old values.old costs.old)
+        (node_lists words.new values.new costs.new)
+        (queue_lists queue_words.old queue_values.old queue_gains.old)
+        (queue_lists queue_words.new queue_values.new queue_gains.new)
         count result }
     ensures zeros { counts.new ≡ counts.old }
 {

@@ -5,7 +5,7 @@ use Rattle.answers.specs.Answers.{count_in}
 use Rattle.answers.proofs.contexts_answer.Goals as goal
 
 pub returns-in-Counted : goal.returns-in-Counted
-returns-in-Counted c = ap (λ x. count_in (contexts_counted x)) (sym c.r-1.given.1)
+returns-in-Counted c = ap (λ x. count_in (contexts_counted x)) (sym c.in-Counted.is)
 
 pub returns-in-Refused : goal.returns-in-Refused
-returns-in-Refused c = ap (λ x. count_in (contexts_counted x)) (sym c.r-in-Refused-1.given.1)
+returns-in-Refused c = ap (λ x. count_in (contexts_counted x)) (sym c.in-Refused.is)

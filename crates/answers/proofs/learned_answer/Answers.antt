@@ -6,8 +6,8 @@ use Rattle.answers.specs.Answers.{learned_in}
 use Rattle.answers.proofs.learned_answer.Goals as goal
 
 pub returns-in-Grown : goal.returns-in-Grown
-returns-in-Grown c = ap (λ x. learned_in (tree_outcome x)) (sym c.r-1.given.1)
+returns-in-Grown c = ap (λ x. learned_in (tree_outcome x)) (sym c.in-Grown.is)
 
 pub returns-in-Refused : goal.returns-in-Refused
 unfolding of_bits
-returns-in-Refused c = ap (λ x. learned_in (tree_outcome x)) (sym c.r-in-Refused-1.given.1)
+returns-in-Refused c = ap (λ x. learned_in (tree_outcome x)) (sym c.in-Refused.is)

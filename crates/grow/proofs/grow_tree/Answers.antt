@@ -9,10 +9,6 @@ use Rattle.rows.specs.Flat.{flat}
 use Rattle.grow.proofs.Growth.{begins, gains-enough, splits, some_left, turn, grown}
 use Rattle.grow.proofs.grow_tree.Goals as goal
 
--- the turn that ends is one of those asked for
-less-left : (c : goal.After-slice_known-in-loop-left-6-1) → 0 < c.loop-left.left
-less-left c = some_left c.requires c.loop-left.invariant c.loop-left-test.true
-
 pub loop-left-init : goal.loop-left-init
 loop-left-init c = begins
 
@@ -23,10 +19,10 @@ pub split_leaf-tree-requires : goal.split_leaf-tree-requires
 split_leaf-tree-requires c = splits c.requires c.loop-left.invariant c.loop-left-test.true c.greatest-k.result c.greatest-k.ensures
 
 pub overflow_sub-left : goal.overflow_sub-left
-overflow_sub-left c = less-left c
+overflow_sub-left c = some_left c.requires c.loop-left.invariant c.loop-left-test.true
 
 pub loop-left-smaller : goal.loop-left-smaller
-loop-left-smaller c = omega (arith, less-left c)
+loop-left-smaller c = omega (arith, some_left c.requires c.loop-left.invariant c.loop-left-test.true)
 
 pub loop-left-preserved : goal.loop-left-preserved
 loop-left-preserved c = turn c.requires c.loop-left.invariant c.loop-left-test.true

@@ -41,12 +41,12 @@ pub returns : goal.returns
 returns c = let learnt = c.enqueue-waiting.ensures in
     record {
       leaf = c.make_leaf-leaf.result;
-      c.make_leaf-leaf = c.make_leaf-leaf.ensures.answer;
+      made = c.make_leaf-leaf.ensures.answer;
       nodes = c.put_leaf.ensures;
-      queued = learnt.0;
+      queued = learnt.queue;
       counted = refl;
-      many = learnt.1.0;
-      queue = learnt.1.1;
+      many = learnt.answer.0;
+      queue = learnt.answer.1;
       summed = refl;
       zeros = c.make_leaf-leaf.ensures.zeros;
     }

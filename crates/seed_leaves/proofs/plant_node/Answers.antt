@@ -23,14 +23,14 @@ shape_of-costs-then-kind_at-first c = c.keep_node.auto.costs
 
 pub returns-then-kind_at-first : goal.returns-then-kind_at-first
 returns-then-kind_at-first c = let start = c.args in
-    let spanned = c.span_at_lem in
+    let spanned = c.span_at-span in
     let test = tested c.kind_at.ensures spanned.ensures.0 spanned.ensures.1 c.if-kind_at-first.true in
     kept-planted start.depth test c.keep_node.ensures
 
 pub plant_leaf-requires : goal.plant_leaf-requires
 plant_leaf-requires c = let words = c.args.words.now in
     let i = c.args.tree.nodes in
-    let spanned = c.span_at_lem in
+    let spanned = c.span_at-span in
     let tests = (neither (eqb (kind_at words i) 1) (eqb spanned.result.first spanned.result.end)).0 (rw c.kind_at.ensures at c.if-kind_at-first.false) in
     record {
       fitting = c.requires.fitting;
@@ -66,5 +66,5 @@ pub shape_of-counts : goal.shape_of-counts
 shape_of-counts c = c.plant_leaf.auto.counts
 
 pub returns : goal.returns
-returns c = let spanned = c.span_at_lem in
+returns c = let spanned = c.span_at-span in
     leaf-planted c.plant_leaf.ensures (tested {f = spanned.result.first} {e = spanned.result.end} c.kind_at.ensures refl refl c.if-kind_at-first.false) spanned.ensures.0 spanned.ensures.1

@@ -76,6 +76,6 @@ returns c given p = let start = c.args in
     (flat start.props.now start.tok.now start.res.now) (flat start.props.now c.loop-tree.tok start.res.now)
     (node_lists start.words.now start.values.now start.costs.now)
     (node_lists c.loop-tree.words c.loop-tree.values c.loop-tree.costs)
-    (queue_lists start.queue-words.now start.queue-values.now start.queue-gains.now)
+    (queue_lists start.queue_words.now start.queue_values.now start.queue_gains.now)
     (queue_lists c.loop-tree.queue_words c.loop-tree.queue_values c.loop-tree.queue_gains)
-    c.loop-tree.tree start.count k start.score-split given) e (c.loop-tree.invariant.planted given p)
+    c.loop-tree.tree start.count k start.score_split given) e (c.loop-tree.invariant.planted given p)

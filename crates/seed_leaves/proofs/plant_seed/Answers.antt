@@ -4,9 +4,6 @@ use Rattle.model.specs.Rows.{rows_held}
 use Rattle.seed_leaves.proofs.Starting.{orderable, seed-fits, sowable, plants, seeded, seeded-zeros}
 use Rattle.seed_leaves.proofs.plant_seed.Goals as goal
 
-abbrev entry : goal.After-order_by_leaf → goal.Start
-entry c = c
-
 pub leaves_of-leaves-requires : goal.leaves_of-leaves-requires
 leaves_of-leaves-requires c = (seed-fits c.requires).1
 
@@ -15,7 +12,7 @@ order_by_leaf-requires c = orderable c.requires
 
 pub plant_nodes-requires : goal.plant_nodes-requires
 plant_nodes-requires c = let ordered = c.order_by_leaf.ensures in
-    sowable (entry c).requires ordered.1 ordered.0 c.Leaves-of.ensures
+    sowable c.requires ordered.zeros ordered.rows c.leaves_of-leaves.ensures
 
 pub shape_of-props : goal.shape_of-props
 shape_of-props c = c.order_by_leaf.auto.props
@@ -48,9 +45,9 @@ pub shape_of-counts : goal.shape_of-counts
 shape_of-counts c = c.plant_nodes.auto.counts ∙ c.order_by_leaf.auto.counts
 
 pub returns : goal.returns
-returns c = let start = entry c.before in
+returns c = let start = c in
     let ordered = c.order_by_leaf.ensures in
     let given = rows_held start.args.props.now start.args.tok.now start.args.res.now in
-    let leaves = c.Leaves-of.ensures in
-    let planted = c.plant_nodes.ensures given (plants start.pre ordered.1 ordered.0 leaves) in
-    record { planted = seeded start.pre ordered.1 ordered.0 leaves planted; zeros = seeded-zeros start.pre ordered.1 ordered.0 leaves planted }
+    let leaves = c.leaves_of-leaves.ensures in
+    let planted = c.plant_nodes.ensures given (plants start.requires ordered.zeros ordered.rows leaves) in
+    record { planted = seeded start.requires ordered.zeros ordered.rows leaves planted; zeros = seeded-zeros start.requires ordered.zeros ordered.rows leaves planted }
