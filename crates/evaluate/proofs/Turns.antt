@@ -19,7 +19,7 @@ use Rattle.model.proofs.Paths.{T→true}
 use Rattle.model.proofs.Written.{length-written, take-written}
 use Rattle.candidates.specs.declared.Plan.TheVariants.{Candidates, Nothing}
 use Rattle.candidates.specs.Column.{column}
-use Rattle.candidates.specs.Plan.{planned, Picked}
+use Rattle.candidates.specs.Plan.{Picked}
 use Rattle.candidates.proofs.CandidateLaws.{candidates-few, candidates_at_most, candidates-ascending, planned-some, planned-none}
 use Rattle.evaluate.specs.declared.Best.{Best}
 use Rattle.evaluate.specs.declared.Best.TheVariants.{Nowhere}

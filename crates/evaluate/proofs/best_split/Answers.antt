@@ -178,6 +178,9 @@ shape_of-counts c = ap length c.loop-k.invariant.space
 
 pub returns : goal.returns
 returns c = let a = c.args in
-    let held = c.loop-k.invariant in record { answer = (λ rows rs h.
+    let held = c.loop-k.invariant in record {
+      answer = (λ rows rs h.
           turn_end a.props.now a.tok.now a.first a.end a.preds.now a.logs.now a.s.alphabet a.s.max_candidates
-          c.property_count-k-end.result a.counts.now held c.loop-k-test.false (settings_of a.s) rows rs refl refl c.property_count-k-end.ensures h); zeros = held.space }
+          c.property_count-k-end.result a.counts.now held c.loop-k-test.false (settings_of a.s) rows rs refl refl c.property_count-k-end.ensures h);
+      zeros = held.space;
+    }

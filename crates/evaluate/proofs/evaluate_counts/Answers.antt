@@ -11,18 +11,24 @@ predictor_costs-best-requires c = usable-node c.requires.evaluable c.requires.co
 
 pub returns-then-score_split-is_scored : goal.returns-then-score_split-is_scored
 returns-then-score_split-is_scored c = let a = c.args in
-    record { answer = (λ rows rs h.
+    record {
+      answer = (λ rows rs h.
           evaluated_scored c.requires.evaluable c.requires.counts_span
           c.predictor_costs-best.ensures.answer a.mode a.depth rows rs h
           a.score_split c.is_scored.ensures
           (c.info_of-info.ensures
           ∙ ap (info_with c.predictor_costs-best.result)
           (to_z-of_z w32 a.mode c.ranges.mode))
-          c.if-score_split-is_scored.true (c.offer_split-offer.ensures.answer rows rs h)); zeros = c.offer_split-offer.ensures.zeros }
+          c.if-score_split-is_scored.true (c.offer_split-offer.ensures.answer rows rs h));
+      zeros = c.offer_split-offer.ensures.zeros;
+    }
 
 pub returns : goal.returns
-returns c = let a = c.args in record { answer = (λ rows rs h.
-          evaluated_not c.requires.evaluable c.requires.counts_span c.predictor_costs-best.ensures.answer a.mode a.depth rows rs h
-          a.score_split c.is_scored.ensures (c.info_of-info.ensures
-          ∙ ap (info_with c.predictor_costs-best.result) (to_z-of_z w32 a.mode c.ranges.mode))
-          c.if-score_split-is_scored.false); zeros = refl }
+returns c = let a = c.args in record {
+  answer = (λ rows rs h.
+      evaluated_not c.requires.evaluable c.requires.counts_span c.predictor_costs-best.ensures.answer a.mode a.depth rows rs h
+      a.score_split c.is_scored.ensures (c.info_of-info.ensures
+      ∙ ap (info_with c.predictor_costs-best.result) (to_z-of_z w32 a.mode c.ranges.mode))
+      c.if-score_split-is_scored.false);
+  zeros = refl;
+}

@@ -26,8 +26,11 @@ evaluate_counts-requires c = record { evaluable = c.requires; counts_span = cell
 
 pub returns : goal.returns
 returns c = let a = c.args in
-    record { answer = (λ rows rs h.
+    record {
+      answer = (λ rows rs h.
           subst
           (λ (mode : ℤ). Evaluated c.evaluate_counts.result a.score_split (settings_of a.s) a.logs.now mode a.depth
           (span_rows a.first a.end a.props.now a.tok.now rows rs))
-          (to_z-of_z w32 a.mode c.ranges.mode) (c.evaluate_counts.ensures.answer rows rs h)); zeros = c.evaluate_counts.ensures.zeros }
+          (to_z-of_z w32 a.mode c.ranges.mode) (c.evaluate_counts.ensures.answer rows rs h));
+      zeros = c.evaluate_counts.ensures.zeros;
+    }

@@ -53,11 +53,14 @@ best_split-best-requires c = splittable c.requires.evaluable c.requires.counts_s
 pub returns : goal.returns
 unfolding best_split
 returns c = let a = c.args in
-    record { answer = (λ rows rs h.
+    record {
+      answer = (λ rows rs h.
           c.offer_of.ensures
           ∙ ap (offer_of (settings_of a.s) a.cost)
           (c.best_split-best.ensures.answer rows rs h
           ∙ ap (λ (ps : List ℕ). best_from (settings_of a.s) a.logs.now ps (span_rows a.first a.end a.props.now a.tok.now rows rs) nowhere
           (property_order a.s.allow_wp))
           (preds_are c.requires.evaluable c.requires.counts_span a.costs.now c.cheapest_predictors-sides.result (replicate 14 0) c.cheapest_predictors-sides.new.out c.requires.costs_value
-          c.cheapest_predictors-sides.ensures.answer c.cheapest_predictors-sides.ensures.sorted rows rs h))); zeros = c.best_split-best.ensures.zeros }
+          c.cheapest_predictors-sides.ensures.answer c.cheapest_predictors-sides.ensures.sorted rows rs h)));
+      zeros = c.best_split-best.ensures.zeros;
+    }

@@ -21,14 +21,17 @@ use Rattle.leaf.proofs.make_leaf.Goals.{After-mode_step-offset}
 module _ (c : After-mode_step-offset) where
   abbrev x : Flat
   x = flat c.args.props.now c.args.tok.now c.args.res.now
+
   flag : (c.args.s.modal_offsets && ltb 0 (length c.args.res.now)) ≡ uses_of c.args.s x
   flag = ap (λ (b : Bool). c.args.s.modal_offsets && b) (sym (given c.args.res.now))
+
   stepped : Stepped c.args.s c.args.logs.now c.mode_step-offset.new.counts (span c.args.first c.args.end) x
       (flat c.args.props.now c.mode_step-offset.new.tok c.args.res.now)
   stepped =
       let learnt = c.mode_step-offset.ensures in
       after-step c.requires.fitting c.requires.spanned (c.args.s.modal_offsets && ltb 0 (length c.args.res.now)) c.mode_step-offset.new.tok c.mode_step-offset.new.counts
       flag learnt.tokens learnt.zeros learnt.low
+
   mode-is : to_z w32 (of_z w32 c.mode_step-offset.result) ≡ span_mode (uses_of c.args.s x) (within (span c.args.first c.args.end) (held_in x))
   mode-is =
       to_z-of_z w32 c.mode_step-offset.result (record { sfits = c.mode_step-offset.type_inv })
@@ -46,5 +49,8 @@ evaluate_rows-requires c = let after = stepped (goal.at.evaluate_rows-requires c
 pub returns : goal.returns
 returns c = let learnt = c.evaluate_rows.ensures in
     let given = c.args in
-    let stepping = (goal.at.returns c).After-mode_step-offset in record { answer = made (to_z w32 (of_z w32 c.mode_step-offset.result)) c.requires.spanned (stepped stepping) (mode-is stepping)
-          (learnt.answer (row_count (x stepping)) given.res.now c.requires.spanned.inside); zeros = learnt.zeros ∙ c.mode_step-offset.ensures.zeros }
+    let stepping = (goal.at.returns c).After-mode_step-offset in record {
+      answer = made (to_z w32 (of_z w32 c.mode_step-offset.result)) c.requires.spanned (stepped stepping) (mode-is stepping)
+          (learnt.answer (row_count (x stepping)) given.res.now c.requires.spanned.inside);
+      zeros = learnt.zeros ∙ c.mode_step-offset.ensures.zeros;
+    }
