@@ -20,8 +20,8 @@ fn shifted_right(x: u32, k: u32) -> u32 {
 
 // The value with one bit more at its end: bit k of the source.
 fn with_bit(value: u32, source: u32, k: u32) -> u32 {
-    let doubled = std::num::wrapping_add_u32(value, value);
-    std::num::wrapping_add_u32(doubled, shifted_right(source, k) % 2)
+    let doubled = value.wrapping_add(value);
+    doubled.wrapping_add(shifted_right(source, k) % 2)
 }
 
 // The value with the source's lowest bits at its end, the highest of them first.
@@ -41,9 +41,9 @@ pub fn extra_bits(c: Config, token: u32) -> u32 {
     if token < split {
         return 0;
     }
-    let kept = std::num::wrapping_add_u32(c.msb, c.lsb);
-    let first = std::num::wrapping_sub_u32(c.split, kept);
-    std::num::wrapping_add_u32(first, shifted_right(token - split, kept))
+    let kept = c.msb.wrapping_add(c.lsb);
+    let first = c.split.wrapping_sub(kept);
+    first.wrapping_add(shifted_right(token - split, kept))
 }
 
 // Whether a number has no more bits than count.
@@ -63,5 +63,5 @@ pub fn read_hybrid(c: Config, token: u32, extra: u32) -> u32 {
 
 // UnpackSigned, as a 32-bit pattern: half of an even number; half of an odd one, every bit turned.
 pub fn unpack_signed(u: u32) -> u32 {
-    (u >> 1) ^ std::num::wrapping_sub_u32(0, u % 2)
+    (u >> 1) ^ 0u32.wrapping_sub(u % 2)
 }

@@ -7,6 +7,7 @@ mod decoder;
 
 use decoder::Config;
 use model::TokenValue;
+use std::io;
 use tally::{Tally, report};
 
 fn config() -> Config {
@@ -39,7 +40,7 @@ fn value_reads_back(value: u32) -> bool {
 fn values(first: u32, count: u32, before: Tally) -> Tally {
     let mut t = before;
     for k in 0..count {
-        let v = std::num::wrapping_add_u32(first, k);
+        let v = first.wrapping_add(k);
         t = t.with(value_reads_back(v), v);
     }
     t
@@ -49,7 +50,7 @@ fn values(first: u32, count: u32, before: Tally) -> Tally {
 fn powers() -> Tally {
     let mut t = Tally::none();
     for k in 0..32u32 {
-        t = values(std::num::wrapping_sub_u32(1 << k, 2), 5, t);
+        t = values((1u32 << k).wrapping_sub(2), 5, t);
     }
     t
 }
@@ -65,7 +66,7 @@ fn residual_reads_back(z: i32, bits: u32) -> bool {
 fn residuals() -> Tally {
     let mut t = Tally::none();
     for k in 0..32768u32 {
-        let bits = std::num::wrapping_sub_u32(k, 32768);
+        let bits = k.wrapping_sub(32768);
         t = t.with(residual_reads_back(k as i32 - 32768, bits), bits);
         t = t.with(residual_reads_back(k as i32, k), k);
     }
@@ -103,22 +104,13 @@ fn pair_is_right(token: u32, extra: u32) -> bool {
 // bits.
 fn borders(token: u32, before: Tally) -> Tally {
     let count = decoder::extra_bits(config(), token);
-    let limit = if count < 32 { 1 << count } else { 0 };
+    let limit: u32 = if count < 32 { 1 << count } else { 0 };
     let t = before.with(pair_is_right(token, 0), token);
     let t = t.with(pair_is_right(token, 1), token);
-    let t = t.with(
-        pair_is_right(token, std::num::wrapping_sub_u32(limit, 2)),
-        token,
-    );
-    let t = t.with(
-        pair_is_right(token, std::num::wrapping_sub_u32(limit, 1)),
-        token,
-    );
+    let t = t.with(pair_is_right(token, limit.wrapping_sub(2)), token);
+    let t = t.with(pair_is_right(token, limit.wrapping_sub(1)), token);
     let t = t.with(pair_is_right(token, limit), token);
-    let t = t.with(
-        pair_is_right(token, std::num::wrapping_add_u32(limit, 1)),
-        token,
-    );
+    let t = t.with(pair_is_right(token, limit.wrapping_add(1)), token);
     t.with(pair_is_right(token, u32::MAX), token)
 }
 
@@ -158,37 +150,38 @@ fn lister() -> Tally {
     let n = part.written;
     let t = Tally::none();
     let t = t.with(
-        check::same(&header[..h], b"residual packed token count low\n"),
+        &header[..h] == b"residual packed token count low\n".as_slice(),
         0,
     );
     t.with(
-        check::same(&lines[..n], b"0 0 0 0 0\n-8 15 15 0 0\n8 16 16 2 0\n"),
+        &lines[..n] == b"0 0 0 0 0\n-8 15 15 0 0\n8 16 16 2 0\n".as_slice(),
         1,
     )
 }
 
-fn test_values() {
-    report(b"values 0 to 65535", values(0, 65536, Tally::none()));
-    report(b"values around powers of two", powers());
+fn test_values(rt: &impl Print) -> io::Result<()> {
+    report(rt, b"values 0 to 65535", values(0, 65536, Tally::none()))?;
+    report(rt, b"values around powers of two", powers())?;
     report(
+        rt,
         b"values from 4294966272",
         values(4294966272, 1024, Tally::none()),
-    );
+    )
 }
 
-fn test_residuals() {
-    report(b"residuals -32768 to 32767", residuals());
-    report(b"residuals at the ends", far_residuals());
-    report(b"tokens at their borders", tokens());
+fn test_residuals(rt: &impl Print) -> io::Result<()> {
+    report(rt, b"residuals -32768 to 32767", residuals())?;
+    report(rt, b"residuals at the ends", far_residuals())?;
+    report(rt, b"tokens at their borders", tokens())
 }
 
-fn test_rows() {
-    report(b"bench rows", bench());
-    report(b"lister's example", lister());
+fn test_rows(rt: &impl Print) -> io::Result<()> {
+    report(rt, b"bench rows", bench())?;
+    report(rt, b"lister's example", lister())
 }
 
-fn main() {
-    test_values();
-    test_residuals();
-    test_rows();
+fn main(rt: HostRuntime) -> io::Result<()> {
+    test_values(&rt)?;
+    test_residuals(&rt)?;
+    test_rows(&rt)
 }
