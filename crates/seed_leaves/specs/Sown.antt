@@ -7,7 +7,7 @@ use Rattle.model.specs.Settings.{max_nodes}
 use Rattle.model.specs.Meter.{Meter}
 use Rattle.model.specs.Single.{singles}
 use Rattle.model.specs.Rows.{Row}
-use Rattle.model.specs.Tree.{leaf, Record, nodes_of, fault_of}
+use Rattle.model.specs.Tree.{Record, nodes_of, fault_of}
 use Rattle.model.specs.Learn.{leaf_count}
 use Rattle.model.specs.Profile.{single, job_of}
 use Rattle.model.specs.Job.{Job}

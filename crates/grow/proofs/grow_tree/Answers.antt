@@ -1,6 +1,5 @@
 -- `grow::grow_tree` meets its contract: the lists hold the state after the splits made so far. Assumes nothing.
 use mathlib.Core.Path.{ap}
-use Prim.Native.Nat.{◌<◌}
 use native.Mathlib.Omega.{arith}
 use lib.ListN.{length}
 use Rattle.layout.specs.Tree.{node_lists}

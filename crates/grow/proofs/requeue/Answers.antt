@@ -35,6 +35,9 @@ returns c = let given = c.args in
     let many-le = c.enqueue.ensures.answer.0 in
     let few : c.enqueue.result ≤ given.waiting + 1 = omega arith in
     let rest = c.unqueue.ensures.queue in
-    let then = c.enqueue-one.ensures.queue in record { queue = λ leaves h.
+    let then = c.enqueue-one.ensures.queue in record {
+      queue = λ leaves h.
           let left = without given.k leaves in
-          c.enqueue.ensures.queue (left ++ waits given.count given.depth (offer_is given.gt)) (then left (rest leaves h)); lengths = (few, same_queue (same_queue c.unqueue.ensures.lengths c.enqueue-one.ensures.answer.1) c.enqueue.ensures.answer.1) }
+          c.enqueue.ensures.queue (left ++ waits given.count given.depth (offer_is given.gt)) (then left (rest leaves h));
+      lengths = (few, same_queue (same_queue c.unqueue.ensures.lengths c.enqueue-one.ensures.answer.1) c.enqueue.ensures.answer.1);
+    }

@@ -1,6 +1,6 @@
 -- `seed_leaves::plant_nodes` meets its contract. The invariant: the nodes passed are planted, and the depths are the seed's. Assumes nothing.
 use mathlib.Core.Path.{◌≡◌, refl, ap, subst}
-use Prim.Native.Nat.{ℕ, ◌-◌, ◌<◌}
+use Prim.Native.Nat.{ℕ, ◌<◌}
 use lib.ListN.{length}
 use lib.Ieee.{of_bits}
 use native.Mathlib.Omega.{arith}
@@ -18,10 +18,10 @@ seed_depths-requires c = record { sound = walk-sound c.requires.plants; zeros = 
 pub loop-tree-init : goal.loop-tree-init
 unfolding of_bits
 loop-tree-init c = record {
-      inside = omega arith;
-      deep = depths_deep c.requires.plants _ c.seed_depths.ensures;
-      planted = λ given p. planted-none p _ refl;
-    }
+  inside = omega arith;
+  deep = depths_deep c.requires.plants _ c.seed_depths.ensures;
+  planted = λ given p. planted-none p _ refl;
+}
 
 pub offset_bounds-depths-i : goal.offset_bounds-depths-i
 offset_bounds-depths-i c = omega (arith, (walk-few c.requires.plants).1, c.loop-tree-test.true)
