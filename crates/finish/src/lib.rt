@@ -8,8 +8,8 @@ ghost use Rattle.model.specs.Rows.{Row};
 ghost use Rattle.model.specs.Grow.{Entry, State, steps};
 ghost use Rattle.model.specs.Settle.{settled};
 ghost use Rattle.model.specs.Learn.{finished};
-ghost use Rattle.layout.specs.Tree.{NodeLists, nodes_now};
-ghost use Rattle.layout.specs.Waiting.{queue_now};
+ghost use Rattle.layout.specs.Tree.{NodeLists, node_lists};
+ghost use Rattle.layout.specs.Waiting.{queue_lists};
 ghost use Rattle.lent.specs.Lists.{clear_queue};
 ghost use Rattle.rows.specs.Flat.{flat, Changed};
 ghost use Rattle.prune.specs.Held.{HoldsTree, Prunable};
@@ -29,10 +29,10 @@ fn prune_if(
     grown: Tree,
     price: f32,
 ) -> Tree
-    requires { Prunable (nodes_now words values costs) grown.nodes price }
+    requires { Prunable (node_lists words.old values.old costs.old) grown.nodes price }
     ensures { (tree : List (Entry singles)) (lent : NodeLists)
-        → HoldsTree (nodes_now words.entry values.entry costs.entry) grown.nodes price tree lent
-        → Cut price tree grown.bits lent (nodes_now words.exit values.exit costs.exit) result }
+        → HoldsTree (node_lists words.old values.old costs.old) grown.nodes price tree lent
+        → Cut price tree grown.bits lent (node_lists words.new values.new costs.new) result }
 {
     if 0.0 < price {
         return prune::prune_tree(words, values, costs, grown.nodes, price);
@@ -75,16 +75,16 @@ fn finish_tree(
     grown: Tree,
     flat_bits: f64,
 ) -> Finished
-    requires { Finishable s tok.old res.now (nodes_now words values costs) counts.old grown }
+    requires { Finishable s tok.old res.now (node_lists words.old values.old costs.old) counts.old grown }
     ensures finished { (props : List ℤ) (logs : List Float) (lent : NodeLists)
         (st : State singles) (seeds : ℕ → Bool) (given : List Row)
         → Grew s logs counts.old
         (flat props tok.old res.now)
-        (nodes_now words.entry values.entry costs.entry) grown lent st seeds given
+        (node_lists words.old values.old costs.old) grown lent st seeds given
         → FinishedTo
         (flat props tok.old res.now)
         (flat props tok.new res.now)
-        (nodes_now words.exit values.exit costs.exit) result lent
+        (node_lists words.new values.new costs.new) result lent
         (finished (job_in s logs (flat props tok.old res.now)) st flat_bits) }
     ensures zeros { counts.new ≡ counts.old }
 {
@@ -101,8 +101,8 @@ fn finish_tree(
 
 // Nothing waits any more.
 fn clear_queue(words: &mut [u32], values: &mut [i32], gains: &mut [f32])
-    ensures { queue_now words.exit values.exit gains.exit
-        ≡ clear_queue (queue_now words.entry values.entry gains.entry) }
+    ensures { queue_lists words.new values.new gains.new
+        ≡ clear_queue (queue_lists words.old values.old gains.old) }
 {
     lists::clear_u32(words);
     lists::clear_i32(values);
@@ -127,23 +127,23 @@ pub fn grow_and_finish(
     more: usize,
     flat_bits: f64,
 ) -> Finished
-    requires { Growable s logs.now counts.old (flat props.old tok.old res.old) (nodes_now words values costs)
-        (queue_now queue_words queue_values queue_gains) tree more }
+    requires { Growable s logs.now counts.old (flat props.old tok.old res.old) (node_lists words.old values.old costs.old)
+        (queue_lists queue_words.old queue_values.old queue_gains.old) tree more }
     ensures finished { (lent : NodeLists) (st : State singles) (seeds : ℕ → Bool) (given : List Row)
         → Grows s logs.now counts.old
         (flat props.old tok.old res.old)
-        (nodes_now words.entry values.entry costs.entry)
-        (queue_now queue_words.entry queue_values.entry queue_gains.entry) tree more lent st seeds given
+        (node_lists words.old values.old costs.old)
+        (queue_lists queue_words.old queue_values.old queue_gains.old) tree more lent st seeds given
         → FinishedTo
         (flat props.old tok.old res.old)
         (flat props.new tok.new res.new)
-        (nodes_now words.exit values.exit costs.exit) result lent
+        (node_lists words.new values.new costs.new) result lent
         (finished (job_in s logs.now (flat props.old tok.old res.old))
         (steps (job_in s logs.now (flat props.old tok.old res.old)) more st)
         flat_bits) }
     ensures zeros { counts.new ≡ counts.old }
-    ensures queue { queue_now queue_words.exit queue_values.exit queue_gains.exit
-        ≡ clear_queue (queue_now queue_words.entry queue_values.entry queue_gains.entry) }
+    ensures queue { queue_lists queue_words.new queue_values.new queue_gains.new
+        ≡ clear_queue (queue_lists queue_words.old queue_values.old queue_gains.old) }
 {
     let grown = grow::grow_tree(
         props,

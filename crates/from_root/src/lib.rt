@@ -4,11 +4,11 @@
 
 ghost use Rattle.std.specs.Prelude.{◌≡◌, ◌-◌};
 ghost use Rattle.model.specs.Learn.{root_state};
-ghost use Rattle.model.specs.Flat.{flat_bits};
+ghost use Rattle.model.specs.Flat.{flat_bits as flat_bits_of};
 ghost use Rattle.model.specs.Kept.{no_seeds};
 ghost use Rattle.refuse.specs.Given.{settings_of};
-ghost use Rattle.layout.specs.Tree.{nodes_now};
-ghost use Rattle.layout.specs.Waiting.{queue_now};
+ghost use Rattle.layout.specs.Tree.{node_lists};
+ghost use Rattle.layout.specs.Waiting.{queue_lists};
 ghost use Rattle.lent.specs.Lists.{clear_queue};
 ghost use Rattle.rows.specs.Flat.{flat, held_in};
 ghost use Rattle.lent.specs.Grows.{job_in, Number, Grows};
@@ -45,12 +45,12 @@ fn plant_root(
     rows: usize,
 ) -> Tree
     requires { Plantable s logs.now counts.old (flat props.now tok.old res.now)
-        (nodes_now words values costs) (queue_now queue_words queue_values queue_gains) rows }
+        (node_lists words.old values.old costs.old) (queue_lists queue_words.old queue_values.old queue_gains.old) rows }
     ensures planted { Grows s logs.now counts.new
         (flat props.now tok.new res.now)
-        (nodes_now words.exit values.exit costs.exit)
-        (queue_now queue_words.exit queue_values.exit queue_gains.exit) result (s.max_leaves - 1)
-        (nodes_now words.entry values.entry costs.entry)
+        (node_lists words.new values.new costs.new)
+        (queue_lists queue_words.new queue_values.new queue_gains.new) result (s.max_leaves - 1)
+        (node_lists words.old values.old costs.old)
         (root_state (job_in s logs.now (flat props.now tok.old res.now))
         (held_in (flat props.now tok.old res.now)))
         no_seeds (held_in (flat props.now tok.old res.now)) }
@@ -97,17 +97,17 @@ pub fn grow_from_root(
     flat_bits: f64,
 ) -> Finished
     requires plantable { Plantable s logs.now counts.old (flat props.old tok.old res.old)
-        (nodes_now words values costs) (queue_now queue_words queue_values queue_gains) rows }
-    requires flat_bits_value { flat_bits ≡ flat_bits (settings_of s) logs.now (held_in (flat props.old tok.old res.old)) }
+        (node_lists words.old values.old costs.old) (queue_lists queue_words.old queue_values.old queue_gains.old) rows }
+    requires flat_bits_value { flat_bits ≡ flat_bits_of (settings_of s) logs.now (held_in (flat props.old tok.old res.old)) }
     ensures finished { FinishedTo
         (flat props.old tok.old res.old)
         (flat props.new tok.new res.new)
-        (nodes_now words.exit values.exit costs.exit) result
-        (nodes_now words.entry values.entry costs.entry)
+        (node_lists words.new values.new costs.new) result
+        (node_lists words.old values.old costs.old)
         (result_in s logs.now (flat props.old tok.old res.old)) }
     ensures zeros { counts.new ≡ counts.old }
-    ensures queue { queue_now queue_words.exit queue_values.exit queue_gains.exit
-        ≡ clear_queue (queue_now queue_words.entry queue_values.entry queue_gains.entry) }
+    ensures queue { queue_lists queue_words.new queue_values.new queue_gains.new
+        ≡ clear_queue (queue_lists queue_words.old queue_values.old queue_gains.old) }
 {
     let root = plant_root(
         props,

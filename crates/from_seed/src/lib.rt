@@ -4,10 +4,10 @@
 
 ghost use Rattle.std.specs.Prelude.{◌≡◌, ◌+◌, ◌-◌, ◌/◌, ◌≤◌};
 ghost use Rattle.model.specs.Settings.{max_nodes};
-ghost use Rattle.model.specs.Flat.{flat_bits};
+ghost use Rattle.model.specs.Flat.{flat_bits as flat_bits_of};
 ghost use Rattle.refuse.specs.Given.{settings_of};
-ghost use Rattle.layout.specs.Tree.{nodes_now};
-ghost use Rattle.layout.specs.Waiting.{queue_now};
+ghost use Rattle.layout.specs.Tree.{node_lists};
+ghost use Rattle.layout.specs.Waiting.{queue_lists};
 ghost use Rattle.lent.specs.Lists.{clear_queue};
 ghost use Rattle.rows.specs.Flat.{flat, held_in};
 ghost use Rattle.finish.specs.Finished.{FinishedTo};
@@ -45,16 +45,16 @@ pub fn grow_from_seed(
     flat_bits: f64,
 ) -> Finished
     requires seedable { Seedable s logs.now counts.old (flat props.old tok.old res.old)
-        (nodes_now words values costs) (queue_now queue_words queue_values queue_gains) rows count }
-    requires flat_bits_value { flat_bits ≡ flat_bits (settings_of s) logs.now (held_in (flat props.old tok.old res.old)) }
+        (node_lists words.old values.old costs.old) (queue_lists queue_words.old queue_values.old queue_gains.old) rows count }
+    requires flat_bits_value { flat_bits ≡ flat_bits_of (settings_of s) logs.now (held_in (flat props.old tok.old res.old)) }
     ensures finished { FinishedTo (flat props.old tok.old res.old)
         (flat props.new tok.new res.new)
-        (nodes_now words.exit values.exit costs.exit) result (nodes_now words.entry values.entry costs.entry)
+        (node_lists words.new values.new costs.new) result (node_lists words.old values.old costs.old)
         (deepened_in s logs.now count (flat props.old tok.old res.old)
-        (nodes_now words.entry values.entry costs.entry)) }
+        (node_lists words.old values.old costs.old)) }
     ensures zeros { counts.new ≡ counts.old }
-    ensures queue { queue_now queue_words.exit queue_values.exit queue_gains.exit
-        ≡ clear_queue (queue_now queue_words.entry queue_values.entry queue_gains.entry) }
+    ensures queue { queue_lists queue_words.new queue_values.new queue_gains.new
+        ≡ clear_queue (queue_lists queue_words.old queue_values.old queue_gains.old) }
 {
     let planted = seed_leaves::plant_seed(
         props,

@@ -3,7 +3,10 @@
 #![tactic(auto)]
 
 ghost use Rattle.std.specs.Prelude.{◌≡◌};
-ghost use Rattle.lent.specs.Lists.{lists_now, lists_after};
+ghost use Rattle.layout.specs.Tree.{node_lists};
+ghost use Rattle.layout.specs.Waiting.{queue_lists};
+ghost use Rattle.rows.specs.Flat.{flat};
+ghost use Rattle.lent.specs.Lists.{lists, lists_after};
 ghost use Rattle.lent.specs.Answer.{LearnedAs};
 ghost use Rattle.from_root.specs.Result.{result_in};
 ghost use Rattle.learn.specs.Learns.{Learnable};
@@ -27,17 +30,19 @@ pub fn learn_ma_tree_in_place(
     s: Settings,
     rows: usize,
 ) -> Finished
-    requires { Learnable s logs.now (lists_now props tok res words values costs
-        queue_words queue_values queue_gains counts) rows }
-    ensures finished { let x = lists_now props.entry tok.entry res.entry
-        words.entry values.entry costs.entry
-        queue_words.entry queue_values.entry queue_gains.entry counts.entry in
+    requires { Learnable s logs.now (lists (flat props.old tok.old res.old)
+        (node_lists words.old values.old costs.old)
+        (queue_lists queue_words.old queue_values.old queue_gains.old) counts.old) rows }
+    ensures finished { let x = lists (flat props.old tok.old res.old)
+        (node_lists words.old values.old costs.old)
+        (queue_lists queue_words.old queue_values.old queue_gains.old) counts.old in
         LearnedAs (result_in s logs.now x.rows) result }
-    ensures lists { let x = lists_now props.entry tok.entry res.entry
-        words.entry values.entry costs.entry
-        queue_words.entry queue_values.entry queue_gains.entry counts.entry in
-        let y = lists_now props.exit tok.exit res.exit words.exit values.exit costs.exit
-        queue_words.exit queue_values.exit queue_gains.exit counts.exit in
+    ensures lists { let x = lists (flat props.old tok.old res.old)
+        (node_lists words.old values.old costs.old)
+        (queue_lists queue_words.old queue_values.old queue_gains.old) counts.old in
+        let y = lists (flat props.new tok.new res.new)
+        (node_lists words.new values.new costs.new)
+        (queue_lists queue_words.new queue_values.new queue_gains.new) counts.new in
         y ≡ lists_after (result_in s logs.now x.rows) x }
 {
     lists::clear_u32(counts);
