@@ -5,27 +5,27 @@ use Prim.Native.Nat.{ℕ}
 use Rattle.layout.specs.Tree.{node_lists}
 use Rattle.layout.specs.Waiting.{queue_lists}
 use Rattle.rows.specs.Flat.{flat}
-use Rattle.lent.specs.Lists.{Lists, lists}
+use Rattle.lent.specs.Lists.{lists}
 use Rattle.lent.proofs.Flatly.{flattened_from}
 use Rattle.finish.proofs.Made.{made-lists, learned_as}
 use Rattle.seed_leaves.specs.Seeded.{Seedable}
 use Rattle.from_seed.specs.Result.{deepened_in}
 use Rattle.deepen.proofs.deepen_ma_tree.Goals as goal
 
--- what was asked
-module _ (c : goal.After-clear_u32) where
-  abbrev x : Lists
-  x =
-      let given = c.args in
-      lists (flat given.props.now given.tok.now given.res.now) (node_lists given.words.now given.values.now given.costs.now)
-      (queue_lists given.queue-words.now given.queue-values.now given.queue-gains.now) given.counts.now
-
 pub flat_bits-flat_bits-requires : goal.flat_bits-flat_bits-requires
 flat_bits-flat_bits-requires c = let asked = c.requires.seedable in
     flattened_from asked.fitting asked.counted c.clear_u32.ensures
 
 pub grow_from_seed-requires : goal.grow_from_seed-requires
-grow_from_seed-requires c = let given = c.args in record { seedable = subst (λ (l : List ℕ). Seedable given.s given.logs.now l (x c).rows (x c).nodes (x c).queue given.rows given.count) (sym (c.flat_bits-flat_bits.ensures.zeros ∙ c.clear_u32.ensures)) c.requires.seedable; flat_bits_value = c.flat_bits-flat_bits.ensures.answer given.res.now }
+grow_from_seed-requires c =
+    let given = c.args in
+    let rows = flat given.props.now given.tok.now given.res.now in
+    let nodes = node_lists given.words.now given.values.now given.costs.now in
+    let queue = queue_lists given.queue_words.now given.queue_values.now given.queue_gains.now in
+    record {
+      seedable = subst (λ (l : List ℕ). Seedable given.s given.logs.now l rows nodes queue given.rows given.count) (sym (c.flat_bits-flat_bits.ensures.zeros ∙ c.clear_u32.ensures)) c.requires.seedable;
+      flat_bits_value = c.flat_bits-flat_bits.ensures.answer given.res.now;
+    }
 
 pub shape_of-props : goal.shape_of-props
 shape_of-props c = c.grow_from_seed.auto.props
@@ -58,10 +58,18 @@ pub shape_of-counts : goal.shape_of-counts
 shape_of-counts c = c.grow_from_seed.auto.counts ∙ c.flat_bits-flat_bits.auto.counts ∙ c.clear_u32.auto.list
 
 pub returns : goal.returns
-returns c = let given = c.args in
-    let made = deepened_in given.s given.logs.now given.count (x c).rows (x c).nodes in
-    let f = c.grow_from_seed.ensures.finished in record { finished = learned_as f; lists = made-lists (x c) made (flat c.grow_from_seed.new.props c.grow_from_seed.new.tok c.grow_from_seed.new.res)
+returns c =
+    let given = c.args in
+    let rows = flat given.props.now given.tok.now given.res.now in
+    let nodes = node_lists given.words.now given.values.now given.costs.now in
+    let queue = queue_lists given.queue_words.now given.queue_values.now given.queue_gains.now in
+    let made = deepened_in given.s given.logs.now given.count rows nodes in
+    let f = c.grow_from_seed.ensures.finished in
+    record {
+      finished = learned_as f;
+      lists = made-lists (lists rows nodes queue given.counts.now) made (flat c.grow_from_seed.new.props c.grow_from_seed.new.tok c.grow_from_seed.new.res)
           (node_lists c.grow_from_seed.new.words c.grow_from_seed.new.values c.grow_from_seed.new.costs)
           (queue_lists c.grow_from_seed.new.queue_words c.grow_from_seed.new.queue_values c.grow_from_seed.new.queue_gains) c.grow_from_seed.new.counts c.grow_from_seed.result
           c.requires.seedable.fitting.shaped f
-          c.grow_from_seed.ensures.queue (c.grow_from_seed.ensures.zeros ∙ c.flat_bits-flat_bits.ensures.zeros ∙ c.clear_u32.ensures) }
+          c.grow_from_seed.ensures.queue (c.grow_from_seed.ensures.zeros ∙ c.flat_bits-flat_bits.ensures.zeros ∙ c.clear_u32.ensures);
+    }

@@ -3,9 +3,6 @@ use mathlib.Core.Path.{◌∙◌}
 use Rattle.finish.proofs.Finishing.{grown_state, grew_so, finished_so, clear-same}
 use Rattle.finish.proofs.grow_and_finish.Goals as goal
 
--- what was asked
-module _ (c : goal.After-grow_tree-grown) where
-
 pub finish_tree-made-requires : goal.finish_tree-made-requires
 finish_tree-made-requires c = let asked = c.requires in
     record {

@@ -11,9 +11,6 @@ use Rattle.lent.specs.Grows.{job_in}
 use Rattle.finish.proofs.Finishing.{finished_from, flat-is, clear-same}
 use Rattle.from_root.proofs.grow_from_root.Goals as goal
 
--- what was asked
-module _ (c : goal.After-plant_root-root) where
-
 pub overflow_cast-more : goal.overflow_cast-more
 overflow_cast-more c = record { fits = omega (arith, c.requires.plantable.fitting.settings.limit) }
 

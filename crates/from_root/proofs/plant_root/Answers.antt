@@ -13,9 +13,6 @@ use Rattle.lent.specs.Grows.{job_in, Grows}
 use Rattle.from_root.proofs.Planting.{none-queued, root-fits, root-number, planted}
 use Rattle.from_root.proofs.plant_root.Goals as goal
 
--- what was asked
-module _ (c : goal.After-make_leaf-root) where
-
 pub make_leaf-root-requires : goal.make_leaf-root-requires
 make_leaf-root-requires c = root-fits c.requires
 
@@ -61,7 +58,7 @@ returns c = let given = c.args in
     let x : Flat = flat given.props.now given.tok.now given.res.now in
     let y : Flat = flat given.props.now c.make_leaf-root.new.tok given.res.now in
     let n : NodeLists = node_lists given.words.now given.values.now given.costs.now in
-    let q : QueueLists = queue_lists given.queue-words.now given.queue-values.now given.queue-gains.now in
+    let q : QueueLists = queue_lists given.queue_words.now given.queue_values.now given.queue_gains.now in
     let q' : QueueLists = queue_lists c.enqueue-waiting.new.words c.enqueue-waiting.new.values c.enqueue-waiting.new.gains in
     let counts : List ℕ = c.make_leaf-root.new.counts in record { planted = subst
           (λ (m : NodeLists). Grows given.s given.logs.now counts y m q' (record { nodes = 1; waiting = c.enqueue-waiting.result; bits = c.as_total.result }) (given.s.max_leaves - 1) n

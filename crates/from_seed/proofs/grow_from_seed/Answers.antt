@@ -11,10 +11,6 @@ use Rattle.seed_leaves.specs.Seeded.{splits_of}
 use Rattle.from_seed.proofs.FromSeed.{seed-few, seed-growable, seed-grows, seed-finished}
 use Rattle.from_seed.proofs.grow_from_seed.Goals as goal
 
--- ---- lengths
-abbrev seeded : goal.After-slice_known-18-1 → goal.After-plant_seed-planted
-seeded c = c
-
 pub overflow_cast-s : goal.overflow_cast-s
 overflow_cast-s c = record { fits = omega (arith, c.requires.seedable.fitting.settings.limit) }
 
@@ -25,43 +21,47 @@ pub grow_and_finish-requires : goal.grow_and_finish-requires
 grow_and_finish-requires c = seed-growable c.plant_seed-planted.ensures.planted c.leaves_left-more.ensures
 
 pub shape_of-props : goal.shape_of-props
-shape_of-props c = c.grow_and_finish.auto.props ∙ (seeded c).plant-seed.auto.0
+shape_of-props c = c.grow_and_finish.auto.props ∙ c.plant_seed-planted.auto.props
 
 pub shape_of-tok : goal.shape_of-tok
-shape_of-tok c = c.grow_and_finish.auto.tok ∙ (seeded c).plant-seed.auto.1.0
+shape_of-tok c = c.grow_and_finish.auto.tok ∙ c.plant_seed-planted.auto.tok
 
 pub shape_of-res : goal.shape_of-res
-shape_of-res c = c.grow_and_finish.auto.res ∙ (seeded c).plant-seed.auto.1.1.0
+shape_of-res c = c.grow_and_finish.auto.res ∙ c.plant_seed-planted.auto.res
 
 pub shape_of-words : goal.shape_of-words
-shape_of-words c = c.grow_and_finish.auto.words ∙ (seeded c).plant-seed.auto.1.1.1.0
+shape_of-words c = c.grow_and_finish.auto.words ∙ c.plant_seed-planted.auto.words
 
 pub shape_of-values : goal.shape_of-values
-shape_of-values c = c.grow_and_finish.auto.values ∙ (seeded c).plant-seed.auto.1.1.1.1.0
+shape_of-values c = c.grow_and_finish.auto.values ∙ c.plant_seed-planted.auto.values
 
 pub shape_of-costs : goal.shape_of-costs
-shape_of-costs c = c.grow_and_finish.auto.costs ∙ (seeded c).plant-seed.auto.1.1.1.1.1.0
+shape_of-costs c = c.grow_and_finish.auto.costs ∙ c.plant_seed-planted.auto.costs
 
 pub shape_of-queue_words : goal.shape_of-queue_words
-shape_of-queue_words c = c.grow_and_finish.auto.queue_words ∙ (seeded c).plant-seed.auto.1.1.1.1.1.1.0
+shape_of-queue_words c = c.grow_and_finish.auto.queue_words ∙ c.plant_seed-planted.auto.queue_words
 
 pub shape_of-queue_values : goal.shape_of-queue_values
-shape_of-queue_values c = c.grow_and_finish.auto.queue_values ∙ (seeded c).plant-seed.auto.1.1.1.1.1.1.1.0
+shape_of-queue_values c = c.grow_and_finish.auto.queue_values ∙ c.plant_seed-planted.auto.queue_values
 
 pub shape_of-queue_gains : goal.shape_of-queue_gains
-shape_of-queue_gains c = c.grow_and_finish.auto.queue_gains ∙ (seeded c).plant-seed.auto.1.1.1.1.1.1.1.1.0
+shape_of-queue_gains c = c.grow_and_finish.auto.queue_gains ∙ c.plant_seed-planted.auto.queue_gains
 
 pub shape_of-counts : goal.shape_of-counts
-shape_of-counts c = c.grow_and_finish.auto.counts ∙ (seeded c).plant-seed.auto.1.1.1.1.1.1.1.1.1.0
+shape_of-counts c = c.grow_and_finish.auto.counts ∙ c.plant_seed-planted.auto.counts
 
 pub returns : goal.returns
-returns c = let planted = seeded c in
-    let seeding = planted.plant-seed in
+returns c =
     let left = c.leaves_left-more.ensures in
-    let given = planted.args in
+    let given = c.args in
     let x = flat given.props.now given.tok.now given.res.now in
     let n = node_lists given.words.now given.values.now given.costs.now in
     let j = job_in given.s given.logs.now x in
     let seed = seed_in given.count n in
-    let sown = seeding.ensures.0 in record { finished = seed-finished sown left planted.pre.1
-          (c.grow_and_finish.ensures.finished n (seed_state j seed (held_in x)) (splits_of seed) (held_in x) (seed-grows sown left)); zeros = c.grow_and_finish.ensures.zeros ∙ seeding.ensures.1; queue = c.grow_and_finish.ensures.queue ∙ clear-same sown.queue }
+    let sown = c.plant_seed-planted.ensures.planted in
+    record {
+      finished = seed-finished sown left c.requires.flat_bits_value
+          (c.grow_and_finish.ensures.finished n (seed_state j seed (held_in x)) (splits_of seed) (held_in x) (seed-grows sown left));
+      zeros = c.grow_and_finish.ensures.zeros ∙ c.plant_seed-planted.ensures.zeros;
+      queue = c.grow_and_finish.ensures.queue ∙ clear-same sown.queue;
+    }

@@ -5,27 +5,27 @@ use Prim.Native.Nat.{ℕ}
 use Rattle.layout.specs.Tree.{node_lists}
 use Rattle.layout.specs.Waiting.{queue_lists}
 use Rattle.rows.specs.Flat.{flat}
-use Rattle.lent.specs.Lists.{Lists, lists}
+use Rattle.lent.specs.Lists.{lists}
 use Rattle.lent.proofs.Flatly.{flattened_from}
 use Rattle.finish.proofs.Made.{made-lists, learned_as}
 use Rattle.lent.specs.Starts.{Plantable}
 use Rattle.from_root.specs.Result.{result_in}
 use Rattle.learn.proofs.learn_ma_tree_in_place.Goals as goal
 
--- what was asked
-module _ (c : goal.After-clear_u32) where
-  abbrev x : Lists
-  x =
-      let given = c.args in
-      lists (flat given.props.now given.tok.now given.res.now) (node_lists given.words.now given.values.now given.costs.now)
-      (queue_lists given.queue-words.now given.queue-values.now given.queue-gains.now) given.counts.now
-
 pub flat_bits-flat_bits-requires : goal.flat_bits-flat_bits-requires
 flat_bits-flat_bits-requires c = let asked = c.requires.plantable in
     flattened_from asked.fitting asked.counted c.clear_u32.ensures
 
 pub grow_from_root-requires : goal.grow_from_root-requires
-grow_from_root-requires c = let given = c.args in record { plantable = subst (λ (l : List ℕ). Plantable given.s given.logs.now l (x c).rows (x c).nodes (x c).queue given.rows) (sym (c.flat_bits-flat_bits.ensures.zeros ∙ c.clear_u32.ensures)) c.requires.plantable; flat_bits_value = c.flat_bits-flat_bits.ensures.answer given.res.now }
+grow_from_root-requires c =
+    let given = c.args in
+    let rows = flat given.props.now given.tok.now given.res.now in
+    let nodes = node_lists given.words.now given.values.now given.costs.now in
+    let queue = queue_lists given.queue_words.now given.queue_values.now given.queue_gains.now in
+    record {
+      plantable = subst (λ (l : List ℕ). Plantable given.s given.logs.now l rows nodes queue given.rows) (sym (c.flat_bits-flat_bits.ensures.zeros ∙ c.clear_u32.ensures)) c.requires.plantable;
+      flat_bits_value = c.flat_bits-flat_bits.ensures.answer given.res.now;
+    }
 
 pub shape_of-props : goal.shape_of-props
 shape_of-props c = c.grow_from_root.auto.props
@@ -58,10 +58,18 @@ pub shape_of-counts : goal.shape_of-counts
 shape_of-counts c = c.grow_from_root.auto.counts ∙ c.flat_bits-flat_bits.auto.counts ∙ c.clear_u32.auto.list
 
 pub returns : goal.returns
-returns c = let given = c.args in
-    let made = result_in given.s given.logs.now (x c).rows in
-    let f = c.grow_from_root.ensures.finished in record { finished = learned_as f; lists = made-lists (x c) made (flat c.grow_from_root.new.props c.grow_from_root.new.tok c.grow_from_root.new.res)
+returns c =
+    let given = c.args in
+    let rows = flat given.props.now given.tok.now given.res.now in
+    let nodes = node_lists given.words.now given.values.now given.costs.now in
+    let queue = queue_lists given.queue_words.now given.queue_values.now given.queue_gains.now in
+    let made = result_in given.s given.logs.now rows in
+    let f = c.grow_from_root.ensures.finished in
+    record {
+      finished = learned_as f;
+      lists = made-lists (lists rows nodes queue given.counts.now) made (flat c.grow_from_root.new.props c.grow_from_root.new.tok c.grow_from_root.new.res)
           (node_lists c.grow_from_root.new.words c.grow_from_root.new.values c.grow_from_root.new.costs)
           (queue_lists c.grow_from_root.new.queue_words c.grow_from_root.new.queue_values c.grow_from_root.new.queue_gains) c.grow_from_root.new.counts c.grow_from_root.result
           c.requires.plantable.fitting.shaped f
-          c.grow_from_root.ensures.queue (c.grow_from_root.ensures.zeros ∙ c.flat_bits-flat_bits.ensures.zeros ∙ c.clear_u32.ensures) }
+          c.grow_from_root.ensures.queue (c.grow_from_root.ensures.zeros ∙ c.flat_bits-flat_bits.ensures.zeros ∙ c.clear_u32.ensures);
+    }
