@@ -17,7 +17,7 @@ fn wide(b: u8) -> u32
 
 // The place so many words further on.
 pub fn after(at: usize, words: u32) -> usize {
-    std::num::wrapping_add_usize(at, 4 * words as usize)
+    at.wrapping_add(4 * words as usize)
 }
 
 // The word whose four little-endian bytes start at a place.
@@ -63,7 +63,7 @@ pub fn expect(b: &[u8], c: Check, value: u32) -> Check {
 // After one more byte.
 pub fn expect_byte(b: &[u8], c: Check, value: u8) -> Check {
     Check {
-        at: std::num::wrapping_add_usize(c.at, 1),
+        at: c.at.wrapping_add(1),
         same: c.same & (byte(b, c.at) == value),
     }
 }

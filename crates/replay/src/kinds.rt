@@ -1,5 +1,6 @@
 // The kinds of jobs, by their numbers in the stream, and a tally of each: cases tried, those that came out wrong, and
 // the first of these.
+use std::io;
 use tally::{Tally, report};
 
 pub const CONTEXTS: u32 = 4;
@@ -39,23 +40,35 @@ pub fn add(
     first[k] = t.first;
 }
 
-fn report_kind(name: &[u8], kind: u32, tried: &[u64; 32], wrong: &[u64; 32], first: &[u32; 32]) {
+fn report_kind(
+    rt: &impl Print,
+    name: &[u8],
+    kind: u32,
+    tried: &[u64; 32],
+    wrong: &[u64; 32],
+    first: &[u32; 32],
+) -> io::Result<()> {
     let k = (kind % 32) as usize;
     let t = Tally {
         tried: tried[k],
         wrong: wrong[k],
         first: first[k],
     };
-    report(name, t);
+    report(rt, name, t)
 }
 
-pub fn report_all(tried: &[u64; 32], wrong: &[u64; 32], first: &[u32; 32]) {
-    report_kind(b"contexts", CONTEXTS, tried, wrong, first);
-    report_kind(b"even sampling", SAMPLING, tried, wrong, first);
-    report_kind(b"packing", PACK, tried, wrong, first);
-    report_kind(b"tokens", TOKEN, tried, wrong, first);
-    report_kind(b"values", VALUE, tried, wrong, first);
-    report_kind(b"mode step", MODE_STEP, tried, wrong, first);
-    report_kind(b"candidates", CANDIDATES, tried, wrong, first);
-    report_kind(b"partition", PARTITION, tried, wrong, first);
+pub fn report_all(
+    rt: &impl Print,
+    tried: &[u64; 32],
+    wrong: &[u64; 32],
+    first: &[u32; 32],
+) -> io::Result<()> {
+    report_kind(rt, b"contexts", CONTEXTS, tried, wrong, first)?;
+    report_kind(rt, b"even sampling", SAMPLING, tried, wrong, first)?;
+    report_kind(rt, b"packing", PACK, tried, wrong, first)?;
+    report_kind(rt, b"tokens", TOKEN, tried, wrong, first)?;
+    report_kind(rt, b"values", VALUE, tried, wrong, first)?;
+    report_kind(rt, b"mode step", MODE_STEP, tried, wrong, first)?;
+    report_kind(rt, b"candidates", CANDIDATES, tried, wrong, first)?;
+    report_kind(rt, b"partition", PARTITION, tried, wrong, first)
 }

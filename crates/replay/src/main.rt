@@ -5,6 +5,8 @@
 // To add a kind: a function like those of `small`, an arm in `replayed`, and a number and a line in `kinds`.
 #![tactic(auto)]
 
+ghost use Rattle.std.specs.Prelude.{◌≤◌, length, IfOk};
+
 mod bytes;
 mod kinds;
 mod parts;
@@ -13,7 +15,7 @@ mod small;
 mod trees;
 
 use bytes::{Check, after, word};
-use libc::{STDIN_FILENO, STDOUT_FILENO};
+use std::io::{self, Read};
 
 // The comparison at the answer's end. A kind that is not known is wrong.
 fn replayed(b: &[u8], kind: u32, job: usize, answer: Check) -> Check {
@@ -41,8 +43,8 @@ struct Case {
 
 // The place behind a body, whose length stands just before it.
 fn behind(b: &[u8], body: usize) -> usize {
-    let size = word(b, std::num::wrapping_sub_usize(body, 4)) as usize;
-    std::num::wrapping_add_usize(body, size)
+    let size = word(b, body.wrapping_sub(4)) as usize;
+    body.wrapping_add(size)
 }
 
 fn case_at(b: &[u8], at: usize) -> Case {
@@ -58,7 +60,7 @@ fn case_at(b: &[u8], at: usize) -> Case {
 
 // Whether the case comes out as stored: the answer is of its kind, alike, and ends where it should.
 fn is_right(b: &[u8], c: Case) -> bool {
-    let head = std::num::wrapping_sub_usize(c.answer, 8);
+    let head = c.answer.wrapping_sub(8);
     let start = Check {
         at: c.answer,
         same: word(b, head) == c.kind,
@@ -81,26 +83,43 @@ fn replay(b: &[u8], tried: &mut [u64; 32], wrong: &mut [u64; 32], first: &mut [u
             return at;
         }
         kinds::add(tried, wrong, first, c.kind, is_right(b, c), case);
-        case = std::num::wrapping_add_u32(case, 1);
+        case = case.wrapping_add(1);
         at = end;
     }
     at
 }
 
 // Replays the stored bytes and prints what came out.
-fn replay_and_report(b: &[u8]) {
+fn replay_and_report(rt: &impl Print, b: &[u8]) -> io::Result<()> {
     let mut tried = [0u64; 32];
     let mut wrong = [0u64; 32];
     let mut first = [0u32; 32];
     let at = replay(b, &mut tried, &mut wrong, &mut first);
-    kinds::report_all(&tried, &wrong, &first);
+    kinds::report_all(rt, &tried, &wrong, &first)?;
     if at < b.len() {
-        io::write_all(STDOUT_FILENO, b"damaged input\n");
+        rt.write_all(b"damaged input\n")?;
     }
+    Ok(())
 }
 
-fn main() {
+// Reads until the buffer is full or the input ends; answers how many bytes were read.
+fn read_full<R: Read>(from: &mut R, buf: &mut [u8]) -> io::Result<usize>
+    ensures { IfOk result (λ n. n ≤ length buf.new) }
+{
+    let mut n: usize = 0;
+    while n < buf.len() {
+        let more = from.read(&mut buf[n..])?;
+        if more == 0 {
+            return Ok(n);
+        }
+        n += more;
+    }
+    Ok(n)
+}
+
+fn main(rt: HostRuntime) -> io::Result<()> {
     let mut stored = rooms::stored();
-    let n = io::read_full(STDIN_FILENO, &mut stored);
-    replay_and_report(&stored[..n]);
+    let mut from = rt.reader();
+    let n = read_full(&mut from, &mut stored)?;
+    replay_and_report(&rt, &stored[..n])
 }

@@ -62,7 +62,7 @@ fn put_given(
     n: u32,
 ) {
     for i in 0..n {
-        let at = std::num::wrapping_add_usize(first, 32 * i as usize);
+        let at = first.wrapping_add(32 * i as usize);
         put(words, values, costs, i, record_at(b, at));
     }
 }
@@ -77,14 +77,14 @@ fn put_rest(
     fill: u32,
 ) {
     for i in given..entries {
-        let v = std::num::wrapping_add_u32(fill, i);
+        let v = fill.wrapping_add(i);
         put(words, values, costs, i, pattern(v));
     }
 }
 
 // Where a node list that starts at a place ends: its two numbers, and a record for each node given.
 fn nodes_end(b: &[u8], at: usize) -> usize {
-    std::num::wrapping_add_usize(after(at, 2), 32 * word(b, after(at, 1)) as usize)
+    after(at, 2).wrapping_add(32 * word(b, after(at, 1)) as usize)
 }
 
 // The whole node list that starts at a place; the fill is the word behind it.
@@ -132,7 +132,7 @@ fn count_runs(queue: &[u32], fill: u32) -> u32 {
     let mut runs: u32 = 0;
     for i in 0..queue.len() {
         if ends_run(queue, i, fill) {
-            runs = std::num::wrapping_add_u32(runs, 1);
+            runs = runs.wrapping_add(1);
         }
     }
     runs
@@ -143,7 +143,7 @@ fn expect_runs(b: &[u8], c: Check, count: u32, queue: &[u32], fill: u32) -> Chec
     let mut all = expect(b, expect(b, c, count), count_runs(queue, fill));
     let mut length: u32 = 0;
     for i in 0..queue.len() {
-        length = std::num::wrapping_add_u32(length, 1);
+        length = length.wrapping_add(1);
         if ends_run(queue, i, fill) {
             all = expect(b, expect(b, all, printed(queue[i], fill)), length);
             length = 0;
