@@ -3,7 +3,7 @@ use mathlib.Core.Path.{◌≡◌, refl, sym, ap, ◌∙◌, subst}
 use mathlib.Core.Bool.{Bool, true}
 use mathlib.Core.List.{List, [], ◌∷◌, ◌++◌, append-nil}
 use mathlib.Core.Option.{Option}
-use Prim.Native.Nat.{ℕ, zero, suc, ◌+◌, ◌-◌}
+use Prim.Native.Nat.{ℕ, zero, suc, ◌+◌, ◌-◌, ◌<◌}
 use native.Mathlib.Omega.{arith}
 use borrow.Author.Tests.{lt-ltb}
 use lib.Dec.{ltb}
@@ -11,6 +11,7 @@ use lib.ListN.{length, get_or, drop_of_length-le}
 use lib.Seq.{take_all}
 use lib.Ieee.{Float}
 use Rattle.model.specs.Meter.{Meter}
+use Rattle.model.specs.Settings.{max_depth}
 use Rattle.model.specs.Single.{singles}
 use Rattle.model.specs.Rows.{Row, within}
 use Rattle.model.specs.Mode.{span_mode, fresh}
@@ -32,7 +33,7 @@ use Rattle.layout.specs.declared.Leaf.{Leaf}
 use Rattle.layout.specs.Values.{info_is, offer_is}
 use Rattle.layout.specs.Tree.{NodeLists, holding, HasRoom, put, leaf_with}
 use Rattle.layout.specs.Waiting.{QueueListsOf, QueueLists, Queued, SameQueue, waits, waiting_from}
-use Rattle.layout.proofs.Held.{put-more, holding-none, holding-same, same-cells, room-fewer}
+use Rattle.layout.proofs.Held.{SameCells, put-more, holding-none, holding-same, same-cells, room-fewer}
 use Rattle.layout.proofs.Queue.{fewer-room, same-room, few-waits}
 use Rattle.rows.specs.Cells.{span}
 use Rattle.rows.specs.Flat.{Flat, held_in, row_count, Spanned}
@@ -95,7 +96,7 @@ module _ {s : Settings} {logs : List Float} {counts : List ℕ} {x : Flat} {n : 
         let room : HasRoom (0 + 1) n = room-fewer p.room (omega (arith, p.fitting.settings.limit.0)) in
         ap (put 0 e) (sym (holding-none n)) ∙ put-more [] n e room
         ∙ holding-same (e ∷ []) root.tree n refl
-        (λ i h. elim i [ zero ↦ same-cells e (get_or root.tree 0 no_entry) refl info-is (ap (span 0) counted) | suc k ↦ same-cells no_entry no_entry refl refl refl ])
+        (λ i h. elim i as (λ k. SameCells (get_or (e ∷ []) k no_entry) (get_or root.tree k no_entry)) [ zero ↦ same-cells e (get_or root.tree 0 no_entry) refl info-is (ap (span 0) counted) | suc k ↦ same-cells no_entry no_entry refl refl refl ])
 
     offer-is : scored ≡ true → offer_is r.offer ≡ j.offered 0 (j.info (span_mode (uses_of s x) given) (fresh (uses_of s x) given)).cost (fresh (uses_of s x) given)
     offer-is e = rw (mine, e) at m.leaf.offer
@@ -121,5 +122,5 @@ module _ {s : Settings} {logs : List Float} {counts : List ℕ} {x : Flat} {n : 
           inv = subst (λ (u : Bool). Invariant u no_seeds given root) (uses_still s m.changed.size) (root_keeps j given);
           healthy = root-healthy single-lawful.bounds j given (subst (JobFits SingleSmall j) (sym (length-held x.props x.toks x.res)) p.lawful) no_seeds;
           sized = root-sized Number (row_count y) j nought-number (λ mode l h. evaluated_number p.fitting mode l (omega arith)) given (omega (arith, length-held x.props x.toks x.res));
-          shallow = λ k h o e. elim k [ zero ↦ omega arith | suc i ↦ omega arith ];
+          shallow = λ k h o e. elim k as (λ i. (get_or root.tree i no_entry).depth < max_depth) [ zero ↦ omega arith | suc i ↦ omega arith ];
         }

@@ -3,9 +3,10 @@ use Prim.Native.Nat.{◌-◌}
 use mathlib.Core.Path.{refl, ◌∙◌}
 use native.Mathlib.Omega.{arith}
 use Rattle.model.specs.Grow.{steps}
-use Rattle.model.specs.Learn.{root_state, learned}
+use Rattle.model.specs.Learn.{root_state, learned, finished}
 use Rattle.model.specs.Kept.{no_seeds}
 use Rattle.layout.specs.Tree.{node_lists}
+use Rattle.layout.specs.Waiting.{queue_lists}
 use Rattle.rows.specs.Flat.{flat, held_in}
 use Rattle.lent.specs.Grows.{job_in}
 use Rattle.finish.proofs.Finishing.{finished_from, flat-is, clear-same}
@@ -57,8 +58,23 @@ shape_of-counts c = c.grow_and_finish.auto.counts ∙ c.plant_root-root.auto.cou
 
 pub returns : goal.returns
 unfolding learned
-returns c = let given = c.args in
+returns c =
+    let given = c.args in
     let x = flat given.props.now given.tok.now given.res.now in
     let n = node_lists given.words.now given.values.now given.costs.now in
-    let j = job_in given.s given.logs.now x in record { finished = flat-is j (steps j (given.s.max_leaves - 1) (root_state j (held_in x))) c.requires.flat_bits_value
-          (finished_from (record { props = refl; toks = c.plant_root-root.auto.tok; res = refl }) (c.grow_and_finish.ensures.finished n (root_state j (held_in x)) no_seeds (held_in x) c.plant_root-root.ensures.planted)); zeros = c.grow_and_finish.ensures.zeros ∙ c.plant_root-root.ensures.zeros; queue = c.grow_and_finish.ensures.queue ∙ clear-same (record { words = c.plant_root-root.auto.queue_words; values = c.plant_root-root.auto.queue_values; gains = c.plant_root-root.auto.queue_gains }) }
+    let j = job_in given.s given.logs.now x in
+    let root = c.plant_root-root in
+    let grown = c.grow_and_finish in
+    let st = steps j (given.s.max_leaves - 1) (root_state j (held_in x)) in
+    record {
+      finished = flat-is j st c.requires.flat_bits_value
+          (finished_from {x = flat given.props.now given.tok.now given.res.now} {x' = flat given.props.now root.new.tok given.res.now}
+          {y = flat grown.new.props grown.new.tok grown.new.res} {n = node_lists grown.new.words grown.new.values grown.new.costs}
+          {made = finished j st given.flat_bits}
+          (record { props = refl; toks = root.auto.tok; res = refl })
+          (grown.ensures.finished n (root_state j (held_in x)) no_seeds (held_in x) root.ensures.planted));
+      zeros = grown.ensures.zeros ∙ root.ensures.zeros;
+      queue = grown.ensures.queue
+          ∙ clear-same {q = queue_lists given.queue_words.now given.queue_values.now given.queue_gains.now} {p = queue_lists root.new.queue_words root.new.queue_values root.new.queue_gains}
+          (record { words = root.auto.queue_words; values = root.auto.queue_values; gains = root.auto.queue_gains });
+    }
