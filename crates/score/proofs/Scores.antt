@@ -1,7 +1,7 @@
 -- From the counts of windows to the model's scores: the lowest over predictors, the first of the lowest over candidates, and a side's cost from
 -- its window. Assumes nothing.
 use mathlib.Core.Path.{◌≡◌, refl, sym, ap, ◌∙◌}
-use mathlib.Core.Bool.{Bool, true, false, not}
+use mathlib.Core.Bool.{Bool, not}
 use mathlib.Core.List.{List, [], ◌∷◌, ◌++◌}
 use Prim.Native.Nat.{ℕ, zero, suc, ◌+◌, ◌-◌, ◌*◌, ◌≤◌, ◌<◌}
 use native.Mathlib.Numerals.{add-one}
@@ -27,24 +27,9 @@ use Rattle.score_sides.specs.declared.Sides.{Sides}
 use Rattle.score_sides.specs.Sides.{rest, costs_of, lower_cost, SideCounted}
 use Rattle.score_sides.specs.Lowest.{run, lane_at, lowest_to}
 use Rattle.score_sides.proofs.Sweeps.{rest-length, rest_at}
-use Rattle.score.specs.declared.Score as answer
-use Rattle.score.specs.declared.Score.TheVariants.{Nothing, Threshold}
-use Rattle.score.specs.Scored.{score_is, scored_sides, size_at, scored_at, scored_to, Extras}
+use Rattle.score.specs.Scored.{scored_sides, size_at, scored_at, scored_to, Extras}
 use Rattle.score.proofs.Packing.{histogram-at}
 use Rattle.score.proofs.Counting.{count-sides, rows_in-parts, rows_in-none}
-
--- ---- the lower of two scores, by cases
-
-pub lower-nothing : (best next : answer.Score) (v : ℤ) (b : Float) → best ≡ Threshold v b → next ≡ Nothing → score_is (Threshold v b) ≡ lower (score_is best) (score_is next)
-lower-nothing best next v b e f = rw (e, f)
-
-pub lower-next : (best next : answer.Score) (v w : ℤ) (b d : Float) → best ≡ Threshold v b → next ≡ Threshold w d → singles.less d b ≡ true
-    → score_is (Threshold w d) ≡ lower (score_is best) (score_is next)
-lower-next best next v w b d e f t = rw (e, f, t)
-
-pub lower-best : (best next : answer.Score) (v w : ℤ) (b d : Float) → best ≡ Threshold v b → next ≡ Threshold w d → singles.less d b ≡ false
-    → score_is (Threshold v b) ≡ lower (score_is best) (score_is next)
-lower-best best next v w b d e f t = rw (e, f, t)
 
 -- ---- for the loops
 

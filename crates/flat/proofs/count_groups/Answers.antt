@@ -1,4 +1,5 @@
 -- `flat::count_groups` meets its contract: the rows passed are counted. Assumes nothing.
+use borrow.Author.Rules.{rules}
 use mathlib.Core.Path.{◌≡◌, ◌∙◌, subst}
 use Prim.Native.Nat.{ℕ, ◌*◌}
 use native.Mathlib.Omega.{arith}
@@ -30,20 +31,20 @@ pub bounds-props-row : goal.bounds-props-row
 bounds-props-row c = omega (arith, c.requires.rows_fit.props)
 
 pub bump-requires : goal.bump-requires
-bump-requires c = sizes_fit _ _ _ _ c.requires.rows_fit c.loop-row.row c.loop-row-test.true c.loop-row.hist c.loop-row.sizes c.loop-row.invariant.1 c.group_of-group.result ((own (get_or c.args.props.now (c.loop-row.row * 24) (pos 0)) c.group_of-group.result (record { sfits = c.group_of-arg-1.given }) c.group_of-group.ensures))
+bump-requires c = sizes_fit _ _ _ _ c.requires.rows_fit c.loop-row.row c.loop-row-test.true c.loop-row.hist c.loop-row.sizes c.loop-row.invariant.1 c.group_of-group.result ((own (get_or c.args.props.now (c.loop-row.row * 24) (pos 0)) c.group_of-group.result (search rules) c.group_of-group.ensures))
 
 pub overflow_mul-alphabet : goal.overflow_mul-alphabet
-overflow_mul-alphabet c = omega (arith, (row_fits _ _ _ _ c.requires.rows_fit c.loop-row.row c.loop-row-test.true c.loop-row.hist c.loop-row.sizes c.loop-row.invariant.1 c.group_of-group.result (own (get_or c.args.props.now (c.loop-row.row * 24) (pos 0)) c.group_of-group.result (record { sfits = c.group_of-arg-1.given }) c.group_of-group.ensures)).room, c.loop-row.invariant.2)
+overflow_mul-alphabet c = omega (arith, (row_fits _ _ _ _ c.requires.rows_fit c.loop-row.row c.loop-row-test.true c.loop-row.hist c.loop-row.sizes c.loop-row.invariant.1 c.group_of-group.result (own (get_or c.args.props.now (c.loop-row.row * 24) (pos 0)) c.group_of-group.result (search rules) c.group_of-group.ensures)).room, c.loop-row.invariant.2)
 
 pub overflow_mul-group : goal.overflow_mul-group
-overflow_mul-group c = omega (arith, (row_fits _ _ _ _ c.requires.rows_fit c.loop-row.row c.loop-row-test.true c.loop-row.hist c.loop-row.sizes c.loop-row.invariant.1 c.group_of-group.result (own (get_or c.args.props.now (c.loop-row.row * 24) (pos 0)) c.group_of-group.result (record { sfits = c.group_of-arg-1.given }) c.group_of-group.ensures)).room, c.loop-row.invariant.2)
+overflow_mul-group c = omega (arith, (row_fits _ _ _ _ c.requires.rows_fit c.loop-row.row c.loop-row-test.true c.loop-row.hist c.loop-row.sizes c.loop-row.invariant.1 c.group_of-group.result (own (get_or c.args.props.now (c.loop-row.row * 24) (pos 0)) c.group_of-group.result (search rules) c.group_of-group.ensures)).room, c.loop-row.invariant.2)
 
 pub count_row-requires : goal.count_row-requires
-count_row-requires c = row_fits _ _ _ _ c.requires.rows_fit c.loop-row.row c.loop-row-test.true c.loop-row.hist c.loop-row.sizes c.loop-row.invariant.1 c.group_of-group.result (own (get_or c.args.props.now (c.loop-row.row * 24) (pos 0)) c.group_of-group.result (record { sfits = c.group_of-arg-1.given }) c.group_of-group.ensures)
+count_row-requires c = row_fits _ _ _ _ c.requires.rows_fit c.loop-row.row c.loop-row-test.true c.loop-row.hist c.loop-row.sizes c.loop-row.invariant.1 c.group_of-group.result (own (get_or c.args.props.now (c.loop-row.row * 24) (pos 0)) c.group_of-group.result (search rules) c.group_of-group.ensures)
 
 pub loop-row-preserved : goal.loop-row-preserved
 loop-row-preserved c = let taken = c.loop-row-test.true in
-    let turn = groups_turn _ _ _ _ c.requires.rows_fit c.loop-row.row taken c.loop-row.hist c.loop-row.sizes c.loop-row.invariant.1 c.group_of-group.result ((own (get_or c.args.props.now (c.loop-row.row * 24) (pos 0)) c.group_of-group.result (record { sfits = c.group_of-arg-1.given }) c.group_of-group.ensures)) in
+    let turn = groups_turn _ _ _ _ c.requires.rows_fit c.loop-row.row taken c.loop-row.hist c.loop-row.sizes c.loop-row.invariant.1 c.group_of-group.result ((own (get_or c.args.props.now (c.loop-row.row * 24) (pos 0)) c.group_of-group.result (search rules) c.group_of-group.ensures)) in
     (omega arith, turn _ _ c.bump.ensures c.count_row.ensures, c.count_row.auto.hist ∙ c.loop-row.invariant.2, c.bump.auto.cells ∙ c.loop-row.invariant.3)
 
 pub shape_of-hist : goal.shape_of-hist

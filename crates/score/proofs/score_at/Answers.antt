@@ -1,4 +1,5 @@
 -- `score::score_at` meets its contract: by the sizes of the sides. Assumes nothing.
+use borrow.Author.Rules.{rules}
 use mathlib.Core.Path.{◌≡◌}
 use mathlib.Core.List.{List}
 use lib.Ieee.{Float}
@@ -73,5 +74,5 @@ lowest_sides-sides-requires c = c.requires.binned.ready c.args.k c.requires.k_in
 pub returns : goal.returns
 returns c = let h = here _ _ _ _ _ _ _ _ _ _ _ _ c.requires.binned c.requires.k_in_bounds in
     let size = found c.args.cells.now c.args.offs.now (c.args.k * c.args.stride) c.rows_in-size.result c.rows_in-size.ensures in
-    rw (to_z-of_z w32 (get_or c.args.cands.now c.args.k (pos 0)) (record { sfits = c.result-1.given }))
+    rw (to_z-of_z w32 (get_or c.args.cands.now c.args.k (pos 0)) (search rules))
     (at_both _ _ _ _ _ _ _ _ _ _ _ c.rows_in-size.result size c.if-size-eq0.false c.if-size-total.false (omega (arith, h, size)) h.reach c.lowest_sides-sides.result c.lowest_sides-sides.ensures)

@@ -14,9 +14,6 @@ offset_bounds-offs-last c = omega (arith, c.requires.windows.offs_room)
 pub bounds-offs-last : goal.bounds-offs-last
 bounds-offs-last c = omega (arith, c.requires.windows.offs_room)
 
-pub overflow_cast-stride : goal.overflow_cast-stride
-overflow_cast-stride c = omega (arith, c.shared_slice_known-7-1.given (length c.args.preds.now))
-
 pub overflow_mul-bins : goal.overflow_mul-bins
 overflow_mul-bins c = omega (arith, bins_fit _ _ _ _ _ _ _ _ _ _ c.requires.scorable _ _ c.requires.windows _ refl c.args.room.now c.requires.spare)
 

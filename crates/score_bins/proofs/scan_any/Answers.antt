@@ -1,4 +1,5 @@
 -- `score_bins::scan_any` meets its contract: the rows passed are counted. Assumes nothing.
+use borrow.Author.Rules.{rules}
 use mathlib.Core.Path.{◌≡◌, refl, sym, ap, ◌∙◌}
 use mathlib.Core.List.{List}
 use Prim.Native.Nat.{ℕ, ◌≤◌, ◌<◌, ◌+◌, ◌*◌}
@@ -48,11 +49,11 @@ pub bin_for-bin-requires : goal.bin_for-bin-requires
 bin_for-bin-requires c = c.requires.prop_lt_props_per_row.1
 
 pub overflow_cast-bin : goal.overflow_cast-bin
-overflow_cast-bin c = omega (arith, found c.args.cands.now c.args.props.now c.args.prop (c.args.first + c.loop-k.k) _ (record { sfits = c.bin_for-arg-1.given }) c.bin_for-bin.ensures, bin-le c.args.cands.now c.args.props.now c.args.prop (c.args.first + c.loop-k.k), c.requires.prop_lt_props_per_row.1)
+overflow_cast-bin c = omega (arith, found c.args.cands.now c.args.props.now c.args.prop (c.args.first + c.loop-k.k) _ (search rules) c.bin_for-bin.ensures, bin-le c.args.cands.now c.args.props.now c.args.prop (c.args.first + c.loop-k.k), c.requires.prop_lt_props_per_row.1)
 
 pub overflow_mul-bin : goal.overflow_mul-bin
 overflow_mul-bin c = let k = c.loop-k.k in
-    omega (arith, part_end c.bin_for-bin.result (length c.args.cands.now + 1) c.args.stride (omega (arith, found c.args.cands.now c.args.props.now c.args.prop (c.args.first + c.loop-k.k) _ (record { sfits = c.bin_for-arg-1.given }) c.bin_for-bin.ensures, bin-le c.args.cands.now c.args.props.now c.args.prop (c.args.first + k))), c.requires.prop_lt_props_per_row.2)
+    omega (arith, part_end c.bin_for-bin.result (length c.args.cands.now + 1) c.args.stride (omega (arith, found c.args.cands.now c.args.props.now c.args.prop (c.args.first + c.loop-k.k) _ (search rules) c.bin_for-bin.ensures, bin-le c.args.cands.now c.args.props.now c.args.prop (c.args.first + k))), c.requires.prop_lt_props_per_row.2)
 
 pub scan_row-requires : goal.scan_row-requires
 scan_row-requires c = let p = c.requires in
@@ -64,7 +65,7 @@ scan_row-requires c = let p = c.requires in
     (omega (arith, c.loop-k.invariant.2, p.prop_lt_props_per_row.2)) in
     let low = rows-turn (bin_cell c.args.props.now c.args.tok.now c.args.first c.args.prop c.args.cands.now c.args.preds.now c.args.firsts.now c.args.offs.now c.args.stride) (length a.preds.now) c.loop-k.k a.rows a.cells.now c.loop-k.cells (λ k j l m. omega (arith, room k j l m, p.prop_lt_props_per_row.2)) p.low w.few p.rows_there.few taken
     c.loop-k.invariant.1 in
-    record { in_lanes = rw (found c.args.cands.now c.args.props.now c.args.prop (c.args.first + c.loop-k.k) _ (record { sfits = c.bin_for-arg-1.given }) c.bin_for-bin.ensures) inside; low = low }
+    record { in_lanes = rw (found c.args.cands.now c.args.props.now c.args.prop (c.args.first + c.loop-k.k) _ (search rules) c.bin_for-bin.ensures) inside; low = low }
 
 pub overflow_step-k : goal.overflow_step-k
 overflow_step-k c = omega (arith, c.requires.rows_there, c.requires.prop_lt_props_per_row, c.loop-k-test.true)
@@ -73,7 +74,7 @@ pub loop-k-smaller : goal.loop-k-smaller
 loop-k-smaller c = omega (arith, c.requires.rows_there, c.requires.prop_lt_props_per_row, c.loop-k-test.true)
 
 pub loop-k-preserved : goal.loop-k-preserved
-loop-k-preserved c = let cells = rw (found c.args.cands.now c.args.props.now c.args.prop (c.args.first + c.loop-k.k) _ (record { sfits = c.bin_for-arg-1.given }) c.bin_for-bin.ensures) at c.scan_row.ensures in (
+loop-k-preserved c = let cells = rw (found c.args.cands.now c.args.props.now c.args.prop (c.args.first + c.loop-k.k) _ (search rules) c.bin_for-bin.ensures) at c.scan_row.ensures in (
   omega (arith, c.loop-k-test.true),
   cells ∙ ap (tallied (bin_cell c.args.props.now c.args.tok.now c.args.first c.args.prop c.args.cands.now c.args.preds.now c.args.firsts.now c.args.offs.now c.args.stride c.loop-k.k) (length c.args.preds.now)) c.loop-k.invariant.1 ∙ sym (rows_more (bin_cell c.args.props.now c.args.tok.now c.args.first c.args.prop c.args.cands.now c.args.preds.now c.args.firsts.now c.args.offs.now c.args.stride) (length c.args.preds.now) c.loop-k.k c.args.cells.now),
   c.scan_row.auto.cells ∙ c.loop-k.invariant.2,

@@ -1,4 +1,5 @@
 -- `score_bins::scan_four` meets its contract: the rows passed are counted, each by its four tokens. Assumes nothing.
+use borrow.Author.Rules.{rules}
 use mathlib.Core.Path.{◌≡◌, refl, sym, ap, ◌∙◌}
 use mathlib.Core.List.{List}
 use Prim.Native.Nat.{ℕ, suc, ◌≤◌, ◌<◌, ◌+◌, ◌*◌}
@@ -130,29 +131,29 @@ pub bin_for-bin-requires : goal.bin_for-bin-requires
 bin_for-bin-requires c = c.requires.prop_lt_props_per_row.1
 
 pub overflow_cast-bin : goal.overflow_cast-bin
-overflow_cast-bin c = omega (arith, found c.args.cands.now c.args.props.now c.args.prop (c.args.first + c.loop-k.k) _ (record { sfits = c.bin_for-arg-1.given }) c.bin_for-bin.ensures, bin-le c.args.cands.now c.args.props.now c.args.prop (c.args.first + c.loop-k.k), c.requires.prop_lt_props_per_row.1)
+overflow_cast-bin c = omega (arith, found c.args.cands.now c.args.props.now c.args.prop (c.args.first + c.loop-k.k) _ (search rules) c.bin_for-bin.ensures, bin-le c.args.cands.now c.args.props.now c.args.prop (c.args.first + c.loop-k.k), c.requires.prop_lt_props_per_row.1)
 
 pub overflow_mul-base : goal.overflow_mul-base
-overflow_mul-base c = omega (arith, part_end c.bin_for-bin.result (length c.args.cands.now + 1) c.args.stride (omega (arith, found c.args.cands.now c.args.props.now c.args.prop (c.args.first + c.loop-k.k) _ (record { sfits = c.bin_for-arg-1.given }) c.bin_for-bin.ensures, bin-le c.args.cands.now c.args.props.now c.args.prop (c.args.first + c.loop-k.k))), c.requires.prop_lt_props_per_row.2)
+overflow_mul-base c = omega (arith, part_end c.bin_for-bin.result (length c.args.cands.now + 1) c.args.stride (omega (arith, found c.args.cands.now c.args.props.now c.args.prop (c.args.first + c.loop-k.k) _ (search rules) c.bin_for-bin.ensures, bin-le c.args.cands.now c.args.props.now c.args.prop (c.args.first + c.loop-k.k))), c.requires.prop_lt_props_per_row.2)
 
 pub count_token-requires : goal.count_token-requires
 count_token-requires c = fits-a _ _ _ _ _ _ _ _ _ _ _ _ _ _ c.requires.rows_there c.requires.prop_lt_props_per_row.2 c.requires.lanes c.requires.low c.requires.preds_len
-    c.loop-k-test.true c.loop-k.invariant.1 c.loop-k.invariant.2 (found c.args.cands.now c.args.props.now c.args.prop (c.args.first + c.loop-k.k) _ (record { sfits = c.bin_for-arg-1.given }) c.bin_for-bin.ensures)
+    c.loop-k-test.true c.loop-k.invariant.1 c.loop-k.invariant.2 (found c.args.cands.now c.args.props.now c.args.prop (c.args.first + c.loop-k.k) _ (search rules) c.bin_for-bin.ensures)
     _ c.lane_at-a.ensures
 
 pub count_token-requires-in-loop-k : goal.count_token-requires-in-loop-k
 count_token-requires-in-loop-k c = fits-b _ _ _ _ _ _ _ _ _ _ _ _ _ _ c.requires.rows_there c.requires.prop_lt_props_per_row.2 c.requires.lanes c.requires.low c.requires.preds_len
-    c.loop-k-test.true c.loop-k.invariant.1 c.loop-k.invariant.2 (found c.args.cands.now c.args.props.now c.args.prop (c.args.first + c.loop-k.k) _ (record { sfits = c.bin_for-arg-1.given }) c.bin_for-bin.ensures)
+    c.loop-k-test.true c.loop-k.invariant.1 c.loop-k.invariant.2 (found c.args.cands.now c.args.props.now c.args.prop (c.args.first + c.loop-k.k) _ (search rules) c.bin_for-bin.ensures)
     _ c.lane_at-a.ensures _ c.lane_at-b.ensures _ c.count_token.ensures
 
 pub count_token-requires-in-loop-k-2 : goal.count_token-requires-in-loop-k-2
 count_token-requires-in-loop-k-2 c = fits-c _ _ _ _ _ _ _ _ _ _ _ _ _ _ c.requires.rows_there c.requires.prop_lt_props_per_row.2 c.requires.lanes c.requires.low c.requires.preds_len
-    c.loop-k-test.true c.loop-k.invariant.1 c.loop-k.invariant.2 (found c.args.cands.now c.args.props.now c.args.prop (c.args.first + c.loop-k.k) _ (record { sfits = c.bin_for-arg-1.given }) c.bin_for-bin.ensures)
+    c.loop-k-test.true c.loop-k.invariant.1 c.loop-k.invariant.2 (found c.args.cands.now c.args.props.now c.args.prop (c.args.first + c.loop-k.k) _ (search rules) c.bin_for-bin.ensures)
     _ c.lane_at-a.ensures _ c.lane_at-b.ensures _ c.count_token.ensures _ c.lane_at-c.ensures _ c.count_token-in-loop-k.ensures
 
 pub count_token-requires-in-loop-k-3 : goal.count_token-requires-in-loop-k-3
 count_token-requires-in-loop-k-3 c = fits-d _ _ _ _ _ _ _ _ _ _ _ _ _ _ c.requires.rows_there c.requires.prop_lt_props_per_row.2 c.requires.lanes c.requires.low c.requires.preds_len
-    c.loop-k-test.true c.loop-k.invariant.1 c.loop-k.invariant.2 (found c.args.cands.now c.args.props.now c.args.prop (c.args.first + c.loop-k.k) _ (record { sfits = c.bin_for-arg-1.given }) c.bin_for-bin.ensures)
+    c.loop-k-test.true c.loop-k.invariant.1 c.loop-k.invariant.2 (found c.args.cands.now c.args.props.now c.args.prop (c.args.first + c.loop-k.k) _ (search rules) c.bin_for-bin.ensures)
     _ c.lane_at-a.ensures _ c.lane_at-b.ensures _ c.count_token.ensures _ c.lane_at-c.ensures _ c.count_token-in-loop-k.ensures _ c.lane_at-d.ensures _ c.count_token-in-loop-k-2.ensures
 
 pub overflow_step-k : goal.overflow_step-k
@@ -164,7 +165,7 @@ loop-k-smaller c = omega (arith, c.requires.rows_there, c.requires.prop_lt_props
 pub loop-k-preserved : goal.loop-k-preserved
 loop-k-preserved c =
     let next = all_four _ _ _ _ _ _ _ _ _ _ _ _ _ _ c.requires.rows_there c.requires.prop_lt_props_per_row.2 c.requires.lanes c.requires.low c.requires.preds_len
-    c.loop-k-test.true c.loop-k.invariant.1 c.loop-k.invariant.2 (found c.args.cands.now c.args.props.now c.args.prop (c.args.first + c.loop-k.k) _ (record { sfits = c.bin_for-arg-1.given }) c.bin_for-bin.ensures)
+    c.loop-k-test.true c.loop-k.invariant.1 c.loop-k.invariant.2 (found c.args.cands.now c.args.props.now c.args.prop (c.args.first + c.loop-k.k) _ (search rules) c.bin_for-bin.ensures)
     _ c.lane_at-a.ensures _ c.lane_at-b.ensures _ c.count_token.ensures _ c.lane_at-c.ensures _ c.count_token-in-loop-k.ensures _ c.lane_at-d.ensures _ c.count_token-in-loop-k-2.ensures _ c.count_token-in-loop-k-3.ensures in
     (omega (arith, c.loop-k-test.true), next, ap length next ∙ rows-length (bin_cell c.args.props.now c.args.tok.now c.args.first c.args.prop c.args.cands.now c.args.preds.now c.args.firsts.now c.args.offs.now c.args.stride) (length c.args.preds.now) (c.loop-k.k + 1) c.args.cells.now)
 

@@ -53,17 +53,11 @@ overflow_add-token c = omega (arith, here _ _ _ _ _ _ _ _ c.requires.in_lanes c.
 pub bounds-tok-row : goal.bounds-tok-row
 bounds-tok-row c = omega (arith, here _ _ _ _ _ _ _ _ c.requires.in_lanes c.loop-j-test.true)
 
-pub overflow_cast-token-in-loop-j : goal.overflow_cast-token-in-loop-j
-overflow_cast-token-in-loop-j c = omega (arith, c.shared_slice_known-in-loop-j-2-1.given (c.args.row * 14 + get_or c.args.preds.now c.loop-j.j 0))
-
 pub offset_bounds-offs-j : goal.offset_bounds-offs-j
 offset_bounds-offs-j c = omega (arith, here _ _ _ _ _ _ _ _ c.requires.in_lanes c.loop-j-test.true)
 
 pub bounds-offs-j : goal.bounds-offs-j
 bounds-offs-j c = omega (arith, here _ _ _ _ _ _ _ _ c.requires.in_lanes c.loop-j-test.true)
-
-pub overflow_cast-offs : goal.overflow_cast-offs
-overflow_cast-offs c = omega (arith, c.shared_slice_known-in-loop-j-3-1.given c.loop-j.j)
 
 pub overflow_add-base : goal.overflow_add-base
 overflow_add-base c = omega (arith, here _ _ _ _ _ _ _ _ c.requires.in_lanes c.loop-j-test.true)
@@ -73,9 +67,6 @@ offset_bounds-firsts-j c = omega (arith, here _ _ _ _ _ _ _ _ c.requires.in_lane
 
 pub bounds-firsts-j : goal.bounds-firsts-j
 bounds-firsts-j c = omega (arith, here _ _ _ _ _ _ _ _ c.requires.in_lanes c.loop-j-test.true)
-
-pub overflow_cast-firsts : goal.overflow_cast-firsts
-overflow_cast-firsts c = omega (arith, c.shared_slice_known-in-loop-j-4-1.given c.loop-j.j)
 
 pub overflow_sub-token : goal.overflow_sub-token
 overflow_sub-token c = omega (arith, here _ _ _ _ _ _ _ _ c.requires.in_lanes c.loop-j-test.true)

@@ -21,9 +21,6 @@ offset_bounds-preds-j c = omega (arith, lane_here _ _ _ _ _ _ _ _ _ _ c.requires
 pub bounds-preds-j : goal.bounds-preds-j
 bounds-preds-j c = omega (arith, lane_here _ _ _ _ _ _ _ _ _ _ c.requires.ready c.requires.j_in_bounds, c.requires.j_in_bounds)
 
-pub overflow_cast-from : goal.overflow_cast-from
-overflow_cast-from c = omega (arith, c.shared_slice_known-9-1.given c.args.j)
-
 pub overflow_mul-from : goal.overflow_mul-from
 overflow_mul-from c = omega (arith, lane_here _ _ _ _ _ _ _ _ _ _ c.requires.ready c.requires.j_in_bounds)
 
