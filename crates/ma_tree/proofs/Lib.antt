@@ -1,7 +1,2 @@
--- What the walks by hand use. `Copied`, `Zeros`, `Copying`: local arrays, and records copied to them. `Slices`, `Said`, `Passing`: slices that are passed on.
+-- `Copied`: records copied to number lists that are long enough.
 pub mod Copied
-pub mod Said
-pub mod Slices
-pub mod Zeros
-pub mod Copying
-pub mod Passing

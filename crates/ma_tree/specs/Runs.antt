@@ -1,7 +1,7 @@
 -- What each public operation ensures of a run, acceptance and each refusal alike: its answer, and what every lent list holds at exit. A contract of src/ is one of these
 -- relations, and the promises (crate `promises`) are drawn from the same. Assumes nothing.
 use Rattle.std.specs.Prelude.{◌≡◌, ℕ, List, map, ℤ, Float}
-use Rattle.std.specs.Borrow.{Bor}
+use Rattle.std.specs.Borrow.{MutBor}
 use Rattle.model.specs.Pack.{packed}
 use Rattle.model.specs.Token.{encoded_of}
 use Rattle.model.specs.declared.Encoded.{Encoded}
@@ -20,8 +20,8 @@ use Rattle.answers.specs.declared.Read.{Read}
 use Rattle.border.specs.Lists.{Records, records_with, lent_in, learn_records, deepen_records}
 
 -- what the lists lent to learning or deepening hold, in the order of the parameters
-abbrev pub records_now : Bor (List MaNode) → Bor (List Span) → Bor (List ℤ) → Bor (List ℕ) → Bor (List ℤ)
-    → Bor (List ℕ) → Bor (List ℤ) → Bor (List Float) → Bor (List ℕ) → Records
+abbrev pub records_now : MutBor (List MaNode) → MutBor (List Span) → MutBor (List ℤ) → MutBor (List ℕ) → MutBor (List ℤ)
+    → MutBor (List ℕ) → MutBor (List ℤ) → MutBor (List Float) → MutBor (List ℕ) → Records
 records_now nodes spans props tok res words values gains counts =
     records_with nodes.now spans.now props tok res words values gains counts
 

@@ -2,8 +2,8 @@
 // slices of records. Whatever is handed in, the answer is document 01's, and a refusal changes no list. Crate
 // `ma_tree_c` exports each for C and Rust, by the same name and with the same clauses.
 //
-// A function that sees a slice of records is walked by hand, so it does little: it copies records to the core's
-// number lists (crate `border`) and back, or reads one record after another (crate `lookup`).
+// A function that sees a slice of records does little: it copies records to the core's number lists (crate `border`)
+// and back, or reads one record after another (crate `lookup`).
 #![tactic(auto)]
 
 ghost use Rattle.std.specs.Prelude.{◌≡◌, map};
