@@ -10,9 +10,6 @@ use Rattle.refuse.proofs.first_bad_row.Goals as goal
 pub loop-k-init : goal.loop-k-init
 loop-k-init c = (search rules, below_none _)
 
-pub overflow_cast-tok : goal.overflow_cast-tok
-overflow_cast-tok c = omega (arith, c.shared_slice_known-1.given c.loop-k.k)
-
 pub returns-then-alphabet-tok : goal.returns-then-alphabet-tok
 returns-then-alphabet-tok c = ap found_of (sym (bad_found _ _ c.args.tok.now c.requires.whole c.loop-k-test.true c.loop-k.invariant.1 c.if-alphabet-tok.true))
 
