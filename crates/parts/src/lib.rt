@@ -15,7 +15,7 @@ ghost use Rattle.mode.specs.Lent.{Rebasable};
 ghost use Rattle.candidates.specs.Column.{column};
 ghost use Rattle.candidates.specs.Plan.{Pickable};
 ghost use Rattle.cost.specs.Counted.{Counted};
-ghost use Rattle.layout.specs.Tree.{NodeLists, nodes_now};
+ghost use Rattle.layout.specs.Tree.{NodeLists, node_lists};
 ghost use Rattle.model.specs.Grow.{Entry};
 ghost use Rattle.prune.specs.Held.{Prunable, HoldsTree, PrunedAs};
 ghost use Rattle.model.specs.Settings as model;
@@ -40,10 +40,10 @@ pub extern "C" fn ostrovuc_prune(
     count: usize,
     price: f32,
 ) -> PrunedTree
-    requires { Prunable (nodes_now words values costs) count price }
+    requires { Prunable (node_lists words.old values.old costs.old) count price }
     ensures { (tree : List (Entry singles)) (lent : NodeLists)
-        → HoldsTree (nodes_now words.entry values.entry costs.entry) count price tree lent
-        → PrunedAs price tree lent (nodes_now words.exit values.exit costs.exit)
+        → HoldsTree (node_lists words.old values.old costs.old) count price tree lent
+        → PrunedAs price tree lent (node_lists words.new values.new costs.new)
         (record { nodes = result.nodes; waiting = 0; bits = result.bits }) }
 {
     let pruned = prune::prune_tree(words, values, costs, count, price);
