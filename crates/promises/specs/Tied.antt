@@ -5,7 +5,7 @@ use seplogic.Ra.Ura.{Ura}
 use base.Logic.{SProp, emp}
 use contract.Monad.{fact}
 use contract.Lifetimes.{Lfts}
-use Rattle.std.specs.Borrow.{Bor}
+use Rattle.std.specs.Borrow.{Bor, MutBor}
 use denote.Triple.Entry.{Args, Res}
 use denote.Triple.Clauses.{Ended, Clauses, Lasts, at_exit}
 use Rattle.model.specs.declared.Encoded.{Encoded}
@@ -34,23 +34,23 @@ pub record Says {M : Type 1} (𝓤 : Ura M) (T : Ended) (c : Clauses 𝓤 T) (R 
 -- ---- the relation of each operation, over its parameters in their order; a parameter that is not written has no last value
 -- rows' three lists, the queue's three lists and the count space
 abbrev pub NumberRefs : Type 0
-NumberRefs = Bor (List ℤ) × (Bor (List ℕ) × (Bor (List ℤ) × (Bor (List ℕ) × (Bor (List ℤ) × (Bor (List Float) × (Bor (List ℕ) × Unit {0}))))))
+NumberRefs = MutBor (List ℤ) × (MutBor (List ℕ) × (MutBor (List ℤ) × (MutBor (List ℕ) × (MutBor (List ℤ) × (MutBor (List Float) × (MutBor (List ℕ) × Unit {0}))))))
 
 abbrev pub NumberLists : Type 0
 NumberLists = List ℤ × (List ℕ × (List ℤ × (List ℕ × (List ℤ × (List Float × (List ℕ × Unit {0}))))))
 
-abbrev entered : Bor (List MaNode) → Bor (List Span) → NumberRefs → Records
+abbrev entered : MutBor (List MaNode) → MutBor (List Span) → NumberRefs → Records
 entered nodes spans n = records_now nodes spans n.0 n.1.0 n.1.1.0 n.1.1.1.0 n.1.1.1.1.0 n.1.1.1.1.1.0 n.1.1.1.1.1.1.0
 
 abbrev left : List MaNode → List Span → NumberLists → Records
 left nodes spans n =
     records (flat n.0 n.1.0 n.1.1.0) nodes spans (queue_lists n.1.1.1.0 n.1.1.1.1.0 n.1.1.1.1.1.0) n.1.1.1.1.1.1.0
 
-abbrev pub LearningRun : Bor (List MaNode) × (Bor (List Span) × (Settings × (Bor (List Float) × NumberRefs))) → LearnedTree
+abbrev pub LearningRun : MutBor (List MaNode) × (MutBor (List Span) × (Settings × (Bor (List Float) × NumberRefs))) → LearnedTree
     → List MaNode × (List Span × (Unit {0} × (Unit {0} × NumberLists))) → Type 0
 LearningRun a r w = Learning a.1.1.0 a.1.1.1.0.now (entered a.0 a.1.0 a.1.1.1.1) r (left w.0 w.1.0 w.1.1.1.1)
 
-abbrev pub DeepeningRun : Bor (List MaNode) × (Bor (List Span) × (Settings × (ℕ × (Bor (List Float) × NumberRefs)))) → LearnedTree
+abbrev pub DeepeningRun : MutBor (List MaNode) × (MutBor (List Span) × (Settings × (ℕ × (Bor (List Float) × NumberRefs)))) → LearnedTree
     → List MaNode × (List Span × (Unit {0} × (Unit {0} × (Unit {0} × NumberLists)))) → Type 0
 DeepeningRun a r w =
     Deepening a.1.1.0 a.1.1.1.1.0.now a.1.1.1.0 (entered a.0 a.1.0 a.1.1.1.1.1) r (left w.0 w.1.0 w.1.1.1.1.1)
@@ -58,10 +58,10 @@ DeepeningRun a r w =
 abbrev pub LookingUpRun : Bor (List MaNode) × (ℕ × (Bor (List ℤ) × Unit {0})) → FoundLeaf → Type 0
 LookingUpRun a r = LookingUp a.0.now a.1.0 a.1.1.0.now r
 
-abbrev pub NumberingRun : Bor (List MaNode) × (ℕ × (Bor (List ℕ) × (Bor (List ℕ) × Unit {0}))) → Count → Unit {0} × (Unit {0} × (List ℕ × (List ℕ × Unit {0}))) → Type 0
+abbrev pub NumberingRun : Bor (List MaNode) × (ℕ × (MutBor (List ℕ) × (MutBor (List ℕ) × Unit {0}))) → Count → Unit {0} × (Unit {0} × (List ℕ × (List ℕ × Unit {0}))) → Type 0
 NumberingRun a r w = Numbering a.0.now a.1.0 (contexts_now a.1.1.0 a.1.1.1.0) r (record { contexts = w.1.1.0; queue = w.1.1.1.0 })
 
-abbrev pub SamplingRun : ℕ × (ℕ × (Bor (List ℕ) × Unit {0})) → Count → Unit {0} × (Unit {0} × (List ℕ × Unit {0})) → Type 0
+abbrev pub SamplingRun : ℕ × (ℕ × (MutBor (List ℕ) × Unit {0})) → Count → Unit {0} × (Unit {0} × (List ℕ × Unit {0})) → Type 0
 SamplingRun a r w = Sampling a.0 a.1.0 a.1.1.0.now r w.1.1.0
 
 abbrev pub PackingRun : ℤ × Unit {0} → ℕ → Type 0
