@@ -1,7 +1,7 @@
 -- The lent lists of learning and deepening with their node and span lists of records: what the model's `Lent` reads in them, and what they hold afterwards,
 -- record by record (document 01, "Which number comes back"). Assumes nothing.
 use Rattle.std.specs.Prelude.{◌≡◌, ℕ, Bool, cond, List, map, length, replicate, ℤ, Float}
-use Rattle.std.specs.Borrow.{Bor}
+use Rattle.std.specs.Borrow.{MutBor}
 use Rattle.model.specs.Lists.{written_over}
 use Rattle.model.specs.Settings.{Settings}
 use Rattle.model.specs.Single.{singles}
@@ -12,7 +12,7 @@ use Rattle.model.specs.Lent.{Lent, stored, rows_in, uses_modes, tree_in}
 use Rattle.model.specs.Refuse.{learn_refusal, deepen_refusal}
 use Rattle.model.specs.Operations.{After, Tree, ContextLists, tree_of, unless, learn, deepen}
 use Rattle.model.specs.Tree.{Record}
-use Rattle.layout.specs.Waiting.{QueueLists, queue_now}
+use Rattle.layout.specs.Waiting.{QueueLists, queue_lists}
 use Rattle.rows.specs.Flat.{Flat, flat, flat_of, has_residuals}
 use Rattle.lent.specs.Lists.{stored_queue, clear_queue}
 use Rattle.layout.specs.Records.{stored_of, record_of, span_is, span_record}
@@ -33,13 +33,13 @@ abbrev pub records : Flat → List MaNode → List Span → QueueLists → List 
 records rows nodes spans queue counts = record { rows = rows; nodes = nodes; spans = spans; queue = queue; counts = counts }
 
 -- what lent lists hold, with these records
-abbrev pub records_with : List MaNode → List Span → Bor (List ℤ) → Bor (List ℕ) → Bor (List ℤ) → Bor (List ℕ) → Bor (List ℤ)
-    → Bor (List Float) → Bor (List ℕ) → Records
+abbrev pub records_with : List MaNode → List Span → MutBor (List ℤ) → MutBor (List ℕ) → MutBor (List ℤ) → MutBor (List ℕ) → MutBor (List ℤ)
+    → MutBor (List Float) → MutBor (List ℕ) → Records
 records_with nodes spans props tok res queue_words queue_values queue_gains counts =
-    records (flat props.now tok.now res.now) nodes spans (queue_now queue_words queue_values queue_gains) counts.now
+    records (flat props.now tok.now res.now) nodes spans (queue_lists queue_words.now queue_values.now queue_gains.now) counts.now
 
 -- and those lent to contexts
-abbrev pub contexts_now : Bor (List ℕ) → Bor (List ℕ) → ContextLists
+abbrev pub contexts_now : MutBor (List ℕ) → MutBor (List ℕ) → ContextLists
 contexts_now contexts queue = record { contexts = contexts.now; queue = queue.now }
 
 -- what the model reads in them

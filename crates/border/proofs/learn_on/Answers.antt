@@ -3,65 +3,69 @@ use mathlib.Core.Path.{◌≡◌, refl, sym, ◌∙◌}
 use mathlib.Core.Bool.{false}
 use mathlib.Core.List.{List}
 use lib.ListN.{length, replicate, length-replicate}
-use Rattle.model.specs.Lent.{row_count}
+use Prim.Native.Nat.{ℕ}
+use lib.Ieee.{Float}
+use Rattle.model.specs.Single.{singles}
+use Rattle.model.specs.Lent.{Lent, row_count}
 use Rattle.model.specs.Refuse.{Refusal, learn_refusal}
 use Rattle.model.specs.Profile.{single}
-use Rattle.refuse.specs.Given.{settings_of, check_of}
+use Rattle.refuse.specs.Given.{settings_of, Lends, check_of}
+use Rattle.refuse.specs.declared.Settings.{Settings}
+use Rattle.refuse.specs.declared.Rooms.{Rooms}
+use Rattle.refuse.specs.declared.Check.{Check}
+use Rattle.lent.specs.Lists.{leaves_lent}
 use Rattle.refuse.proofs.Passed.{learn-passed, learn-refused}
 use Rattle.layout.specs.Records.{no_span_record}
 use Rattle.layout.specs.Tree.{NodeLists, node_lists}
-use Rattle.layout.specs.Waiting.{queue_lists}
-use Rattle.layout.specs.declared.MaNode.{MaNode}
-use Rattle.layout.specs.declared.Span.{Span}
+use Rattle.layout.specs.Waiting.{QueueLists, queue_lists}
 use Rattle.from_root.specs.Result.{result_in}
-use Rattle.rows.specs.Flat.{flat}
+use Rattle.rows.specs.Flat.{Flat, flat}
 use Rattle.border.specs.Lists.{Records, records, lent_in}
 use Rattle.border.proofs.Reading.{arrays-room, records_held, held-length}
 use Rattle.border.proofs.Checking.{lends-records, learnable, learned_fitted, work_done, work_few, work_refused, none_written}
 use Rattle.border.proofs.learn_on.Goals as goal
 
--- what was asked, and what the checks answer, of all lists that are as long
-module _ (c : goal.After-check_learn) where
-  -- the number lists, and the caller's
-  abbrev n : NodeLists
-  n = let given = c.args in node_lists given.words.now given.values.now given.costs.now
-  abbrev x : List MaNode → List Span → Records
-  x nodes spans =
-      let given = c.args in
-      records (flat given.props.now given.tok.now given.res.now) nodes spans
-      (queue_lists given.queue-words.now given.queue-values.now given.queue-gains.now) given.counts.now
-  answer : (nodes : List MaNode) (spans : List Span) → c.args.node_room ≡ length nodes → c.args.span_room ≡ length spans
-      → c.check_learn.result ≡ check_of (row_count (lent_in (x nodes spans))) (learn_refusal single (settings_of c.args.s) c.args.logs.now (lent_in (x nodes spans)))
-  answer nodes spans a b =
-      let counted = c.rooms_of-rooms.ensures in
-      c.check_learn.ensures (lent_in (x nodes spans)) (lends-records (x nodes spans) _ (counted.1.0 ∙ a) (counted.1.1 ∙ b) counted.0 counted.1.2)
-  -- there are such lists
-  abbrev some-nodes : List MaNode
-  some-nodes = records_held n.words n.values n.costs c.args.node_room
-  abbrev some-spans : List Span
-  some-spans = replicate c.args.span_room no_span_record
-  nodes_are : c.args.node_room ≡ length some-nodes
-  nodes_are = held-length n.words n.values n.costs c.args.node_room
-  spans_are : c.args.span_room ≡ length some-spans
-  spans_are = sym (length-replicate c.args.span_room no_span_record)
+-- what the checks answer, of all lists that are as long
+answered : (s : Settings) (logs : List Float) (x : Records) (room : Rooms) (result : Check) {nodes spans : ℕ}
+    → ((y : Lent singles) → Lends x.rows.props x.rows.toks x.rows.res room y → result ≡ check_of (row_count y) (learn_refusal single (settings_of s) logs y))
+    → room.queue ≡ leaves_lent x.queue.words x.queue.values x.queue.gains → (room.nodes ≡ nodes) × (room.spans ≡ spans) × (room.counts ≡ length x.counts)
+    → nodes ≡ length x.nodes → spans ≡ length x.spans
+    → result ≡ check_of (row_count (lent_in x)) (learn_refusal single (settings_of s) logs (lent_in x))
+answered s logs x room result told queue rest a b = told (lent_in x) (lends-records x room (rest.0 ∙ a) (rest.1 ∙ b) queue rest.2)
+
+-- there are such lists
+abbrev some_records : Flat → NodeLists → QueueLists → List ℕ → ℕ → ℕ → Records
+some_records rows n queue counts node_room span_room =
+    records rows (records_held n.words n.values n.costs node_room) (replicate span_room no_span_record) queue counts
 
 pub learn_ma_tree_in_place-requires : goal.learn_ma_tree_in_place-requires
-learn_ma_tree_in_place-requires c = let passed = c.rows-1.given in
+learn_ma_tree_in_place-requires c =
     let given = c.args in
-    let y = x c (some-nodes c) (some-spans c) in
-    let e = sym (answer c (some-nodes c) (some-spans c) (nodes_are c) (spans_are c)) ∙ passed.1 in
-    learnable given.s given.logs.now y (learn-passed given.s given.logs.now (lent_in y) passed.0.0 e).1 (n c) (arrays-room c.requires)
+    let n = node_lists given.words.now given.values.now given.costs.now in
+    let y = some_records (flat given.props.now given.tok.now given.res.now) n (queue_lists given.queue_words.now given.queue_values.now given.queue_gains.now) given.counts.now given.node_room given.span_room in
+    let rooms = c.rooms_of-rooms in
+    let e = sym (answered given.s given.logs.now y rooms.result c.check_learn.result c.check_learn.ensures rooms.ensures.queue rooms.ensures.rest
+        (held-length given.words.now given.values.now given.costs.now given.node_room) (sym (length-replicate given.span_room no_span_record))) ∙ c.in-Pass.is in
+    learnable given.s given.logs.now y (learn-passed given.s given.logs.now (lent_in y) c.in-Pass.rows e).1 n (arrays-room c.requires)
 
 pub finished-requires : goal.finished-requires
 finished-requires c = c.learn_ma_tree_in_place.ensures.finished.few
 
 pub returns-in-Refused : goal.returns-in-Refused
-returns-in-Refused c = let told = c.number-1.given in
-    let given = c.args in record { few = none_written c.refused.result given.node_room given.span_room c.refused.ensures; worked = λ nodes spans count a b.
-          let f : Refusal = record { number = told.0.0; place = told.0.1.0 } in
-          let y = x c nodes spans in
+returns-in-Refused c =
+    let given = c.args in
+    let n = node_lists given.words.now given.values.now given.costs.now in
+    let rooms = c.rooms_of-rooms in
+    let arm = c.in-Refused in
+    record {
+      few = none_written c.refused.result given.node_room given.span_room c.refused.ensures;
+      worked = λ nodes spans count a b.
+          let f : Refusal = record { number = arm.number; place = arm.place } in
+          let y = records (flat given.props.now given.tok.now given.res.now) nodes spans (queue_lists given.queue_words.now given.queue_values.now given.queue_gains.now) given.counts.now in
+          let e = sym (answered given.s given.logs.now y rooms.result c.check_learn.result c.check_learn.ensures rooms.ensures.queue rooms.ensures.rest a b) ∙ arm.is in
           work_refused (settings_of given.s) given.logs.now y false count f
-          (learn-refused given.s given.logs.now (lent_in y) told.0.0 told.0.1.0 (sym (answer c nodes spans a b) ∙ told.1)) (n c) c.refused.result c.refused.ensures }
+          (learn-refused given.s given.logs.now (lent_in y) arm.number arm.place e) n c.refused.result c.refused.ensures;
+    }
 
 pub shape_of-words : goal.shape_of-words
 shape_of-words c = c.learn_ma_tree_in_place.auto.words
@@ -94,15 +98,29 @@ pub shape_of-counts-in-Pass : goal.shape_of-counts-in-Pass
 shape_of-counts-in-Pass c = c.learn_ma_tree_in_place.auto.counts
 
 pub returns-in-Pass : goal.returns-in-Pass
-returns-in-Pass c = let passed = c.rows-1.given in
+returns-in-Pass c =
     let given = c.args in
     let t = settings_of given.s in
-    let left = node_lists c.learn_ma_tree_in_place.new.words c.learn_ma_tree_in_place.new.values c.learn_ma_tree_in_place.new.costs in record { few = let y = x c (some-nodes c) (some-spans c) in
-          let e = sym (answer c (some-nodes c) (some-spans c) (nodes_are c) (spans_are c)) ∙ passed.1 in
-          let p = learn-passed given.s given.logs.now (lent_in y) passed.0.0 e in
+    let n = node_lists given.words.now given.values.now given.costs.now in
+    let rooms = c.rooms_of-rooms in
+    let arm = c.in-Pass in
+    let made = c.learn_ma_tree_in_place in
+    let left = node_lists made.new.words made.new.values made.new.costs in
+    let end = c.finished in
+    record {
+      few =
+          let y = some_records (flat given.props.now given.tok.now given.res.now) n (queue_lists given.queue_words.now given.queue_values.now given.queue_gains.now) given.counts.now given.node_room given.span_room in
+          let nodes_are = held-length given.words.now given.values.now given.costs.now given.node_room in
+          let spans_are = sym (length-replicate given.span_room no_span_record) in
+          let e = sym (answered given.s given.logs.now y rooms.result c.check_learn.result c.check_learn.ensures rooms.ensures.queue rooms.ensures.rest nodes_are spans_are) ∙ arm.is in
+          let p = learn-passed given.s given.logs.now (lent_in y) arm.rows e in
           work_few t given.logs.now y false 0 p.0 (learned_fitted given.s given.logs.now y p.1) (result_in given.s given.logs.now y.rows) refl
-          c.finished.result c.learn_ma_tree_in_place.ensures.finished c.finished.ensures.many (nodes_are c) (spans_are c); worked = λ nodes spans count a b.
-          let y = x c nodes spans in
-          let p = learn-passed given.s given.logs.now (lent_in y) passed.0.0 (sym (answer c nodes spans a b) ∙ passed.1) in
+          end.result made.ensures.finished end.ensures.many nodes_are spans_are;
+      worked = λ nodes spans count a b.
+          let y = records (flat given.props.now given.tok.now given.res.now) nodes spans (queue_lists given.queue_words.now given.queue_values.now given.queue_gains.now) given.counts.now in
+          let e = sym (answered given.s given.logs.now y rooms.result c.check_learn.result c.check_learn.ensures rooms.ensures.queue rooms.ensures.rest a b) ∙ arm.is in
+          let p = learn-passed given.s given.logs.now (lent_in y) arm.rows e in
           work_done t given.logs.now y false count p.0 (learned_fitted given.s given.logs.now y p.1) (result_in given.s given.logs.now y.rows) refl
-          (n c) left c.learn_ma_tree_in_place.ensures.finished c.learn_ma_tree_in_place.ensures.lists c.finished.result c.finished.ensures.told c.finished.ensures.many }
+          n left {rows' = flat made.new.props made.new.tok made.new.res}
+          {queue' = queue_lists made.new.queue_words made.new.queue_values made.new.queue_gains} made.ensures.finished made.ensures.lists end.result end.ensures.told end.ensures.many;
+    }

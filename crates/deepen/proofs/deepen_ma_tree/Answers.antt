@@ -64,12 +64,13 @@ returns c =
     let nodes = node_lists given.words.now given.values.now given.costs.now in
     let queue = queue_lists given.queue_words.now given.queue_values.now given.queue_gains.now in
     let made = deepened_in given.s given.logs.now given.count rows nodes in
-    let f = c.grow_from_seed.ensures.finished in
+    let end = c.grow_from_seed in
+    let left = flat end.new.props end.new.tok end.new.res in
     record {
-      finished = learned_as f;
-      lists = made-lists (lists rows nodes queue given.counts.now) made (flat c.grow_from_seed.new.props c.grow_from_seed.new.tok c.grow_from_seed.new.res)
-          (node_lists c.grow_from_seed.new.words c.grow_from_seed.new.values c.grow_from_seed.new.costs)
-          (queue_lists c.grow_from_seed.new.queue_words c.grow_from_seed.new.queue_values c.grow_from_seed.new.queue_gains) c.grow_from_seed.new.counts c.grow_from_seed.result
-          c.requires.seedable.fitting.shaped f
-          c.grow_from_seed.ensures.queue (c.grow_from_seed.ensures.zeros ∙ c.flat_bits-flat_bits.ensures.zeros ∙ c.clear_u32.ensures);
+      finished = learned_as {y = flat end.new.props end.new.tok end.new.res} {n = node_lists end.new.words end.new.values end.new.costs} end.ensures.finished;
+      lists = made-lists (lists rows nodes queue given.counts.now) made left
+          (node_lists end.new.words end.new.values end.new.costs)
+          (queue_lists end.new.queue_words end.new.queue_values end.new.queue_gains) end.new.counts end.result
+          c.requires.seedable.fitting.shaped end.ensures.finished
+          end.ensures.queue (end.ensures.zeros ∙ c.flat_bits-flat_bits.ensures.zeros ∙ c.clear_u32.ensures);
     }

@@ -3,6 +3,7 @@ use mathlib.Core.Path.{◌∙◌}
 use native.Mathlib.Omega.{arith}
 use Rattle.model.specs.Deepen.{seed_state}
 use Rattle.layout.specs.Tree.{node_lists}
+use Rattle.layout.specs.Waiting.{queue_lists}
 use Rattle.rows.specs.Flat.{flat, held_in}
 use Rattle.lent.specs.Grows.{job_in}
 use Rattle.finish.proofs.Finishing.{clear-same}
@@ -18,7 +19,11 @@ pub leaves_left-more-requires : goal.leaves_left-more-requires
 leaves_left-more-requires c = seed-few c.plant_seed-planted.ensures.planted
 
 pub grow_and_finish-requires : goal.grow_and_finish-requires
-grow_and_finish-requires c = seed-growable c.plant_seed-planted.ensures.planted c.leaves_left-more.ensures
+grow_and_finish-requires c =
+    let after = c.plant_seed-planted.new in
+    seed-growable {y = flat after.props after.tok after.res} {n' = node_lists after.words after.values after.costs}
+        {q' = queue_lists after.queue_words after.queue_values after.queue_gains}
+    c.plant_seed-planted.ensures.planted c.leaves_left-more.ensures
 
 pub shape_of-props : goal.shape_of-props
 shape_of-props c = c.grow_and_finish.auto.props ∙ c.plant_seed-planted.auto.props
@@ -58,10 +63,16 @@ returns c =
     let n = node_lists given.words.now given.values.now given.costs.now in
     let j = job_in given.s given.logs.now x in
     let seed = seed_in given.count n in
+    let after = c.plant_seed-planted.new in
+    let end = c.grow_and_finish.new in
     let sown = c.plant_seed-planted.ensures.planted in
     record {
-      finished = seed-finished sown left c.requires.flat_bits_value
-          (c.grow_and_finish.ensures.finished n (seed_state j seed (held_in x)) (splits_of seed) (held_in x) (seed-grows sown left));
+      finished = seed-finished {y = flat after.props after.tok after.res} {n' = node_lists after.words after.values after.costs}
+        {q' = queue_lists after.queue_words after.queue_values after.queue_gains}
+          sown left {z = flat end.props end.tok end.res} {l = node_lists end.words end.values end.costs} c.requires.flat_bits_value
+          (c.grow_and_finish.ensures.finished n (seed_state j seed (held_in x)) (splits_of seed) (held_in x)
+          (seed-grows {y = flat after.props after.tok after.res} {n' = node_lists after.words after.values after.costs}
+        {q' = queue_lists after.queue_words after.queue_values after.queue_gains} sown left));
       zeros = c.grow_and_finish.ensures.zeros ∙ c.plant_seed-planted.ensures.zeros;
-      queue = c.grow_and_finish.ensures.queue ∙ clear-same sown.queue;
+      queue = c.grow_and_finish.ensures.queue ∙ clear-same {p = queue_lists after.queue_words after.queue_values after.queue_gains} sown.queue;
     }
