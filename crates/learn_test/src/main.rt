@@ -12,6 +12,7 @@ mod rooms;
 use answers::LearnedTree;
 use layout::NodeNumber;
 use refuse::Settings;
+use std::io;
 use tally::{Tally, report};
 
 // Settings that a case changes one by one: nothing is weighed, every predictor is allowed.
@@ -239,8 +240,8 @@ fn refusals() -> Tally {
     t.with(is_refused(one_row(settings(1, 2, 65535, false)), 7, 0), 7)
 }
 
-fn main() {
-    report(b"rows", row_limit());
-    report(b"refusals", refusals());
-    report(b"growth", growth());
+fn main(rt: HostRuntime) -> io::Result<()> {
+    report(&rt, b"rows", row_limit())?;
+    report(&rt, b"refusals", refusals())?;
+    report(&rt, b"growth", growth())
 }
