@@ -4,12 +4,11 @@ use mathlib.Core.List.{List, map}
 use mathlib.Core.Option.{Option, none, some}
 use Prim.Native.Nat.{ℕ, ◌≤◌}
 use native.Mathlib.Omega.{arith}
-use lib.ListN.{length, get_or, length-map}
+use lib.ListN.{length, length-map}
 use lib.IntN.{ℤ}
-use Rattle.model.specs.Settings.{props_per_row}
 use Rattle.model.specs.Single.{singles}
 use Rattle.model.specs.Standard.{MaLeaf, MaTree, leaf_for, read_hybrid, default_config}
-use Rattle.model.specs.Token.{token_of, extra_count, extra_bits, value_of, encoded_of}
+use Rattle.model.specs.Token.{extra_count, value_of, encoded_of}
 use Rattle.model.specs.Lent.{Stored, tree_in}
 use Rattle.model.specs.Refuse.{Refusal, contexts_refusal, token_refusal}
 use Rattle.model.specs.Operations.{accepted, unless, outcome_of, ContextLists, leaf_contexts, token_answer}
@@ -25,7 +24,7 @@ use Rattle.answers.specs.Answers.{found_in, count_in, value_in}
 use Rattle.answers.specs.declared.Count.{Count}
 use Rattle.answers.specs.declared.FoundLeaf.{FoundLeaf}
 use Rattle.answers.specs.declared.Read.{Read}
-use Rattle.ma_tree.specs.Runs.{LookingUp, Numbering, Encoding, Reading}
+use Rattle.ma_tree.specs.Runs.{LookingUp, Encoding, Reading}
 use Rattle.promises.specs.Demand2.{Demand2}
 use Rattle.promises.proofs.Numbered.{Numbered, no_nought, contexts-numbered, token-numbered}
 

@@ -1,5 +1,5 @@
 -- The two laws of runs, from the model's and the contracts. Assumes nothing.
-use mathlib.Core.Path.{◌≡◌, sym, ap, subst, ◌∙◌}
+use mathlib.Core.Path.{◌≡◌, sym, ap, ◌∙◌}
 use mathlib.Core.Bool.{Bool}
 use mathlib.Core.List.{List}
 use Prim.Native.Nat.{ℕ}
@@ -18,7 +18,6 @@ use Rattle.refuse.specs.Given.{settings_of}
 use Rattle.refuse.specs.declared.Settings.{Settings}
 use Rattle.answers.specs.Answers.{learned_in}
 use Rattle.border.specs.Lists.{Records, lent_in, records_after, learn_records, deepen_records}
-use Rattle.ma_tree.specs.Runs.{Learning, Deepening}
 use Rattle.promises.specs.Laws.{Laws}
 use Rattle.promises.proofs.Demand3.{deepened}
 
