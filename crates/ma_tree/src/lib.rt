@@ -41,11 +41,7 @@ pub fn ostrovuc_token_value(token: u32, extra: u32) -> Read
     answers::value_answer(entropy::token_value(token, extra))
 }
 
-pub fn ostrovuc_evenly_sampled_indices(
-    rows: usize,
-    target: usize,
-    out: &mut [u32],
-) -> Count
+pub fn ostrovuc_evenly_sampled_indices(rows: usize, target: usize, out: &mut [u32]) -> Count
     ensures { Sampling rows target out.old result out.new }
 {
     answers::sampled_answer(sampling::evenly_sampled_indices(rows, target, out))
@@ -186,11 +182,7 @@ pub fn ostrovuc_deepen<'n, 'a>(
 
 // The leaf that 24 properties lead to in the tree of the first `count` nodes. Only the nodes met on the way are
 // looked at.
-pub fn ostrovuc_lookup<'n, 'a>(
-    nodes: &'n [MaNode],
-    count: u32,
-    props: &'a [i32],
-) -> FoundLeaf
+pub fn ostrovuc_lookup<'n, 'a>(nodes: &'n [MaNode], count: u32, props: &'a [i32]) -> FoundLeaf
     ensures { result ≡ found_in (lookup (map stored_of nodes.now) count props.now) }
 {
     let mut way = lookup::begin(nodes.len(), count, props);
