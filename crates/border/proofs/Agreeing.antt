@@ -19,7 +19,6 @@ use Rattle.model.specs.Operations.{Outcome, refused, accepted, After, Tree, tree
 use Rattle.model.proofs.Accepted.{learned_from, deepened_from}
 use Rattle.lent.proofs.Read.{queue-read}
 use Rattle.layout.specs.Records.{stored_of, span_is, span_record}
-use Rattle.layout.specs.declared.Span.{Span}
 use Rattle.answers.specs.declared.LearnedTree.{LearnedTree}
 use Rattle.answers.specs.Answers.{learned_in}
 use Rattle.border.specs.Lists.{Records, lent_in, node_record, records_after, read_after, learn_records, deepen_records, work_of, work_records, Worked}

@@ -14,10 +14,10 @@ use Rattle.model.specs.Profile.{single}
 use Rattle.model.specs.Lent.{row_count, tree_in}
 use Rattle.model.specs.Learn.{Result}
 use Rattle.model.specs.Deepen.{deepened}
-use Rattle.model.specs.Refuse.{Refusal, refuse_at, learn_refusal, deepen_refusal}
+use Rattle.model.specs.Refuse.{Refusal, refuse_at, deepen_refusal}
 use Rattle.model.specs.Operations.{tree_of, refused, accepted}
 use Rattle.model.specs.Accepting.{SeedRooms}
-use Rattle.model.proofs.Accepted.{learned_from, deepened_from}
+use Rattle.model.proofs.Accepted.{deepened_from}
 use Rattle.model.proofs.Demand3.{learned-fits, deepened-fits}
 use Rattle.model.proofs.Learned.{result-laws}
 use Rattle.model.proofs.SingleLawful.{single-lawful}

@@ -5,7 +5,7 @@ use mathlib.Core.List.{List, map, map-map}
 use Prim.Native.Nat.{ℕ, ◌+◌, ◌*◌, ◌≤◌, ◌<◌}
 use native.Mathlib.Omega.{arith}
 use lib.IntN.{ℤ, pos}
-use lib.Ieee.{Float, nan}
+use lib.Ieee.{Float}
 use lib.ListN.{length, get_or, take, length-take, length-map, get_or-map}
 use lib.Seq.{ext_get_or, get_or-take, length-take-le}
 use Rattle.model.specs.Lists.{range}
@@ -16,9 +16,8 @@ use Rattle.model.specs.Operations.{ContextLists, leaf_contexts}
 use Rattle.model.proofs.Places.{length-each, each_at}
 use Rattle.layout.specs.Layout.{words_per_node, values_per_node, stored_at, nodes_held, stored_in, stored_in_of}
 use Rattle.layout.specs.Records.{stored_of, no_record, node_of}
-use Rattle.layout.specs.Tree.{NodeLists, node_lists, HasRoom}
+use Rattle.layout.specs.Tree.{node_lists, HasRoom}
 use Rattle.layout.specs.declared.MaNode.{MaNode}
-use Rattle.layout.proofs.Held.{room-fewer}
 use Rattle.seed_rows.specs.Ordered.{seed_in}
 use Rattle.seed_leaves.proofs.SeedLists.{seed-each}
 use Rattle.border.specs.Numbers.{copied, Arrays, Numbered}

@@ -15,9 +15,9 @@ use Rattle.model.specs.Settings.{max_depth}
 use Rattle.model.specs.Single.{singles}
 use Rattle.model.specs.Rows.{Row, within}
 use Rattle.model.specs.Mode.{span_mode, fresh}
-use Rattle.model.specs.Tree.{leaf, Info}
+use Rattle.model.specs.Tree.{Info}
 use Rattle.model.specs.Job.{Offer, Job}
-use Rattle.model.specs.Evaluate.{info_of, offered}
+use Rattle.model.specs.Evaluate.{info_of}
 use Rattle.model.specs.Grow.{Entry, State, no_entry, leaf_over}
 use Rattle.model.specs.Learn.{root_state}
 use Rattle.model.specs.Accepting.{SingleSmall, JobFits}

@@ -39,7 +39,7 @@ returns c =
     let a = c.args in
     let x : ContextLists = record { contexts = a.contexts.now; queue = a.queue.now } in
     let all = λ (nodes : List MaNode) (costs : List Float). counted a.words.now a.values.now costs nodes a.n a.count x c.leaf_contexts.result c.words_for-words_end.result c.values_for-values_end.result
-        c.requires.has_words.0 c.requires.has_words.1 c.words_for-words_end.ensures c.values_for-values_end.ensures (c.leaf_contexts.ensures costs) in
+    c.requires.has_words.0 c.requires.has_words.1 c.words_for-words_end.ensures c.values_for-values_end.ensures (c.leaf_contexts.ensures costs) in
     record {
       answer = λ nodes costs same is. c.contexts_answer.ensures ∙ ap (λ (z : After ℕ ContextLists). count_in z.outcome) (all nodes costs same is);
       lists = λ nodes costs same is. ap (λ (z : After ℕ ContextLists). z.lent) (all nodes costs same is);

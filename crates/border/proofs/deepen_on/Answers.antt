@@ -102,7 +102,7 @@ deepen_ma_tree-requires c =
     let rooms = c.rooms_of-rooms in
     let y = some_records (flat given.props.now given.tok.now given.res.now) n (queue_lists given.queue_words.now given.queue_values.now given.queue_gains.now) given.counts.now given.node_room given.span_room in
     let e = sym (answered given.s given.logs.now y given.count rooms.result c.check_deepen.result c.check_deepen.ensures rooms.ensures.queue rooms.ensures.rest
-        (held-length given.words.now given.values.now given.costs.now given.node_room) (sym (length-replicate given.span_room no_span_record))) ∙ c.in-Pass.is in
+    (held-length given.words.now given.values.now given.costs.now given.node_room) (sym (length-replicate given.span_room no_span_record))) ∙ c.in-Pass.is in
     let few = c.if-nodes-gt-MAX_NODES.false in
     let room = arrays-room c.requires in
     let sound = found given.count n c.fault_of.result room few c.fault_of.ensures ∙ ap fault_named c.in-Sound.is in

@@ -45,7 +45,7 @@ learn_ma_tree_in_place-requires c =
     let y = some_records (flat given.props.now given.tok.now given.res.now) n (queue_lists given.queue_words.now given.queue_values.now given.queue_gains.now) given.counts.now given.node_room given.span_room in
     let rooms = c.rooms_of-rooms in
     let e = sym (answered given.s given.logs.now y rooms.result c.check_learn.result c.check_learn.ensures rooms.ensures.queue rooms.ensures.rest
-        (held-length given.words.now given.values.now given.costs.now given.node_room) (sym (length-replicate given.span_room no_span_record))) ∙ c.in-Pass.is in
+    (held-length given.words.now given.values.now given.costs.now given.node_room) (sym (length-replicate given.span_room no_span_record))) ∙ c.in-Pass.is in
     learnable given.s given.logs.now y (learn-passed given.s given.logs.now (lent_in y) c.in-Pass.rows e).1 n (arrays-room c.requires)
 
 pub finished-requires : goal.finished-requires

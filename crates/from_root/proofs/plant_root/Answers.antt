@@ -60,9 +60,12 @@ returns c = let given = c.args in
     let n : NodeLists = node_lists given.words.now given.values.now given.costs.now in
     let q : QueueLists = queue_lists given.queue_words.now given.queue_values.now given.queue_gains.now in
     let q' : QueueLists = queue_lists c.enqueue-waiting.new.words c.enqueue-waiting.new.values c.enqueue-waiting.new.gains in
-    let counts : List ℕ = c.make_leaf-root.new.counts in record { planted = subst
+    let counts : List ℕ = c.make_leaf-root.new.counts in record {
+      planted = subst
           (λ (m : NodeLists). Grows given.s given.logs.now counts y m q' (record { nodes = 1; waiting = c.enqueue-waiting.result; bits = c.as_total.result }) (given.s.max_leaves - 1) n
           (root_state (job_in given.s given.logs.now x) (held_in x)) no_seeds (held_in x))
           (sym c.put_leaf.ensures)
           (planted c.requires c.make_leaf-root.ensures.answer q' c.enqueue-waiting.result c.as_total.result c.enqueue-waiting.ensures.answer.1 (c.enqueue-waiting.ensures.queue [] (none-queued q))
-          c.enqueue-waiting.ensures.answer.0 c.as_total.ensures counts c.make_leaf-root.ensures.zeros); zeros = c.make_leaf-root.ensures.zeros }
+          c.enqueue-waiting.ensures.answer.0 c.as_total.ensures counts c.make_leaf-root.ensures.zeros);
+      zeros = c.make_leaf-root.ensures.zeros;
+    }

@@ -22,7 +22,7 @@ pub grow_and_finish-requires : goal.grow_and_finish-requires
 grow_and_finish-requires c =
     let after = c.plant_seed-planted.new in
     seed-growable {y = flat after.props after.tok after.res} {n' = node_lists after.words after.values after.costs}
-        {q' = queue_lists after.queue_words after.queue_values after.queue_gains}
+    {q' = queue_lists after.queue_words after.queue_values after.queue_gains}
     c.plant_seed-planted.ensures.planted c.leaves_left-more.ensures
 
 pub shape_of-props : goal.shape_of-props
@@ -68,11 +68,11 @@ returns c =
     let sown = c.plant_seed-planted.ensures.planted in
     record {
       finished = seed-finished {y = flat after.props after.tok after.res} {n' = node_lists after.words after.values after.costs}
-        {q' = queue_lists after.queue_words after.queue_values after.queue_gains}
+          {q' = queue_lists after.queue_words after.queue_values after.queue_gains}
           sown left {z = flat end.props end.tok end.res} {l = node_lists end.words end.values end.costs} c.requires.flat_bits_value
           (c.grow_and_finish.ensures.finished n (seed_state j seed (held_in x)) (splits_of seed) (held_in x)
           (seed-grows {y = flat after.props after.tok after.res} {n' = node_lists after.words after.values after.costs}
-        {q' = queue_lists after.queue_words after.queue_values after.queue_gains} sown left));
+          {q' = queue_lists after.queue_words after.queue_values after.queue_gains} sown left));
       zeros = c.grow_and_finish.ensures.zeros ∙ c.plant_seed-planted.ensures.zeros;
       queue = c.grow_and_finish.ensures.queue ∙ clear-same {p = queue_lists after.queue_words after.queue_values after.queue_gains} sown.queue;
     }
