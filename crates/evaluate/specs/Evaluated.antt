@@ -50,7 +50,7 @@ pub record Splittable (props : List ℤ) (tok : List ℕ) (first end : ℕ) (s :
   pub sides : length preds ≤ max s.side_preds 1
   pub windows : Windows hist s.alphabet preds firsts offs
 
--- "Scored if rows ≥ smallest node, depth < 26, cost > split cost": the model's `isScored`, by the number of rows
+-- "Scored if rows ≥ smallest node, depth < 26, cost > split cost": the model's `is_scored`, by the number of rows
 abbrev pub scored_at : model.Settings singles → ℕ → Float → ℕ → Bool
 scored_at t depth cost rows = (leb t.smallest rows && ltb depth model.max_depth) && singles.less t.split_cost cost
 

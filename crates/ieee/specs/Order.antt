@@ -1,5 +1,5 @@
 -- `lt` on finite values, as an order of fractions; -0 and +0 are level, neither is below the other. Among the finite values of a format that
--- are not -0 it is a strict total order of the values themselves, the order of Rust's `total_cmp` (`comparison`, `lt-atMost`). Assumes nothing.
+-- are not -0 it is a strict total order of the values themselves, the order of Rust's `total_cmp` (`comparison`, `lt_at_most`). Assumes nothing.
 use Rattle.std.specs.Prelude.{◌≡◌, refl, ℕ, ◌+◌, ◌-◌, ◌*◌, ◌/◌, ◌^◌, ◌≤◌, ◌<◌, Bool, true, false, not, ◌&&◌, cond, ℤ, T, ltb, eqb, Float}
 use Rattle.std.proofs.Common.{sym, ap, ◌∙◌, subst, inl, inr, le_refl, le_of_eq, le_of_lt, le_antisymm, not-le_of_lt, zero-mul, zero-add, add-zero, add_comm, mul_right_comm, add-mul, mul-le-mul_right, le_of_mul-le-mul_right, mul-pos, eq-zero-or-pos, arith, ltb→lt, nltb→le, eqb→eq, T_not, le-ltb}
 use Rattle.std.proofs.Math.Dec.{not_T}

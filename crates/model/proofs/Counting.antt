@@ -1,4 +1,4 @@
--- Laws of `countIf`. Assumes nothing.
+-- Laws of `count_if`. Assumes nothing.
 use mathlib.Core.Path.{◌≡◌, refl, sym, ap, ◌∙◌, fun_ext}
 use Prim.Native.Nat.{ℕ, zero, suc, ◌+◌, ◌≤◌, ◌<◌}
 use native.Mathlib.Nat.{zero-add, lt_irrefl}

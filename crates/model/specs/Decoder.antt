@@ -7,7 +7,7 @@ use Rattle.model.specs.Tree.{Node, split, leaf, Record, blank_record, nodes_of}
 use Rattle.model.specs.Lent.{Stored, tree_in}
 use Rattle.model.specs.Operations.{accepted, lookup}
 
--- node i, with all that hangs under it, is this tree: gt is the left child, le the right one; `leafAt` says what a leaf carries
+-- node i, with all that hangs under it, is this tree: gt is the left child, le the right one; `leaf_at` says what a leaf carries
 pub data Shows (nodes : List Node) (leaf_at : ℕ → MaLeaf) : ℕ → MaTree → Type 0 where
   shows-leaf : {i : ℕ} → get_or nodes i leaf ≡ leaf → Shows nodes leaf_at i (leaf_node (leaf_at i))
   shows-decision : {i k gt le : ℕ} {value : ℤ} {left right : MaTree} → get_or nodes i leaf ≡ split k value gt le

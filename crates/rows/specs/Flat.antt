@@ -23,7 +23,7 @@ row_count x = length x.props / props_per_row
 abbrev pub held_in : Flat → List Row
 held_in x = rows_held x.props x.toks x.res
 
--- lists that hold these rows, with residuals or without (as the model's `lentAfter` has them)
+-- lists that hold these rows, with residuals or without (as the model's `lent_after` has them)
 abbrev pub flat_of : Bool → List Row → Flat
 flat_of residuals rows = flat (props_of rows) (toks_of rows) (cond residuals (res_of rows) [])
 

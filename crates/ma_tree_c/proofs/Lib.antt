@@ -1,0 +1,2 @@
+-- `Tied`: what the exports' own contracts say.
+pub mod Tied
