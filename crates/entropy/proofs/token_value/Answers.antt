@@ -27,19 +27,16 @@ returns-then-extra-nbits c =
     sym (refuses_extra c.args.token c.args.extra c.if-token-gt127.false few)
 
 pub returns-then-token-lt16 : goal.returns-then-token-lt16
-returns-then-token-lt16 c =
-    let few = rw (limit c.args.token c.extra_count-nbits.result c.if-token-gt127.false c.extra_count-nbits.ensures) at c.if-extra-nbits.false in
+returns-then-token-lt16 c = let few = rw (limit c.args.token c.extra_count-nbits.result c.if-token-gt127.false c.extra_count-nbits.ensures) at c.if-extra-nbits.false in
     sym (reads c.args.token c.args.extra c.if-token-gt127.false few ∙ ap accepted (small-value c.args.token c.args.extra c.if-token-lt16.true))
 
 pub overflow_shl-result : goal.overflow_shl-result
 overflow_shl-result c = shift c.args.token c.extra_count-nbits.result c.if-token-gt127.false c.extra_count-nbits.ensures
 
 pub overflow_add-result-2 : goal.overflow_add-result-2
-overflow_add-result-2 c =
-    let few = rw (limit c.args.token c.extra_count-nbits.result c.if-token-gt127.false c.extra_count-nbits.ensures) at c.if-extra-nbits.false in
+overflow_add-result-2 c = let few = rw (limit c.args.token c.extra_count-nbits.result c.if-token-gt127.false c.extra_count-nbits.ensures) at c.if-extra-nbits.false in
     rw (c.extra_count-nbits.ensures, word_value c.args.token c.args.extra c.if-token-lt16.false c.if-token-gt127.false few) (record { fits = value-fits c.args.token c.args.extra c.if-token-gt127.false few })
 
 pub returns : goal.returns
-returns c =
-    let few = rw (limit c.args.token c.extra_count-nbits.result c.if-token-gt127.false c.extra_count-nbits.ensures) at c.if-extra-nbits.false in
+returns c = let few = rw (limit c.args.token c.extra_count-nbits.result c.if-token-gt127.false c.extra_count-nbits.ensures) at c.if-extra-nbits.false in
     rw (c.extra_count-nbits.ensures, word_value c.args.token c.args.extra c.if-token-lt16.false c.if-token-gt127.false few) (sym (reads c.args.token c.args.extra c.if-token-gt127.false few))
