@@ -62,7 +62,8 @@ fn gather<'a, 'b>(
     n: usize,
     count: usize,
 )
-    requires all_movable { AllMovable (node_lists words.now values.now costs.now) splits.now order.now places.now n count }
+    requires all_movable { AllMovable (node_lists words.now values.now costs.now)
+        splits.now order.now places.now n count }
     requires has_room { HasRoom n (node_lists new_words.old new_values.old new_costs.old) }
     ensures { node_lists new_words.new new_values.new new_costs.new
         ≡ holding (entries_from (node_lists words.now values.now costs.now)

@@ -127,7 +127,8 @@ pub fn grow_and_finish(
     more: usize,
     flat_bits: f64,
 ) -> Finished
-    requires { Growable s logs.now counts.old (flat props.old tok.old res.old) (node_lists words.old values.old costs.old)
+    requires { Growable s logs.now counts.old (flat props.old tok.old res.old)
+        (node_lists words.old values.old costs.old)
         (queue_lists queue_words.old queue_values.old queue_gains.old) tree more }
     ensures finished { (lent : NodeLists) (st : State singles) (seeds : ℕ → Bool) (given : List Row)
         → Grows s logs.now counts.old

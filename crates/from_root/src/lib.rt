@@ -45,7 +45,8 @@ fn plant_root(
     rows: usize,
 ) -> Tree
     requires { Plantable s logs.now counts.old (flat props.now tok.old res.now)
-        (node_lists words.old values.old costs.old) (queue_lists queue_words.old queue_values.old queue_gains.old) rows }
+        (node_lists words.old values.old costs.old)
+        (queue_lists queue_words.old queue_values.old queue_gains.old) rows }
     ensures planted { Grows s logs.now counts.new
         (flat props.now tok.new res.now)
         (node_lists words.new values.new costs.new)
@@ -97,8 +98,10 @@ pub fn grow_from_root(
     flat_bits: f64,
 ) -> Finished
     requires plantable { Plantable s logs.now counts.old (flat props.old tok.old res.old)
-        (node_lists words.old values.old costs.old) (queue_lists queue_words.old queue_values.old queue_gains.old) rows }
-    requires flat_bits_value { flat_bits ≡ flat_bits_of (settings_of s) logs.now (held_in (flat props.old tok.old res.old)) }
+        (node_lists words.old values.old costs.old)
+        (queue_lists queue_words.old queue_values.old queue_gains.old) rows }
+    requires flat_bits_value { flat_bits ≡ flat_bits_of (settings_of s) logs.now
+        (held_in (flat props.old tok.old res.old)) }
     ensures finished { FinishedTo
         (flat props.old tok.old res.old)
         (flat props.new tok.new res.new)

@@ -45,8 +45,10 @@ pub fn grow_from_seed(
     flat_bits: f64,
 ) -> Finished
     requires seedable { Seedable s logs.now counts.old (flat props.old tok.old res.old)
-        (node_lists words.old values.old costs.old) (queue_lists queue_words.old queue_values.old queue_gains.old) rows count }
-    requires flat_bits_value { flat_bits ≡ flat_bits_of (settings_of s) logs.now (held_in (flat props.old tok.old res.old)) }
+        (node_lists words.old values.old costs.old)
+        (queue_lists queue_words.old queue_values.old queue_gains.old) rows count }
+    requires flat_bits_value { flat_bits ≡ flat_bits_of (settings_of s) logs.now
+        (held_in (flat props.old tok.old res.old)) }
     ensures finished { FinishedTo (flat props.old tok.old res.old)
         (flat props.new tok.new res.new)
         (node_lists words.new values.new costs.new) result (node_lists words.old values.old costs.old)

@@ -76,7 +76,8 @@ fn split_nodes(
     le: NodeInfo,
 )
     requires has_room { HasRoom (count + 2) (node_lists words.old values.old costs.old) }
-    requires i_lt_count { (i < count) × (count + 2 ≤ max_nodes) × (first ≤ max_rows) × (at ≤ max_rows) × (end ≤ max_rows) }
+    requires i_lt_count { (i < count) × (count + 2 ≤ max_nodes) × (first ≤ max_rows) × (at ≤ max_rows)
+        × (end ≤ max_rows) }
     ensures { node_lists words.new values.new costs.new
         ≡ split_nodes i prop val count gt le first at end
         (node_lists words.old values.old costs.old) }
@@ -98,7 +99,8 @@ fn requeue(
     gt: Offer,
     le: Offer,
 ) -> usize
-    requires { (k < waiting) × (count + 2 ≤ max_nodes) × QueueRoom (waiting + 1) (queue_lists words.old values.old gains.old) }
+    requires { (k < waiting) × (count + 2 ≤ max_nodes) × QueueRoom (waiting + 1)
+        (queue_lists words.old values.old gains.old) }
     ensures queue { (leaves : List (Waiting singles))
         → Queued waiting (queue_lists words.old values.old gains.old) leaves
         → Queued result (queue_lists words.new values.new gains.new)
@@ -225,7 +227,8 @@ pub fn grow_tree(
     tree: Tree,
     more: usize,
 ) -> Tree
-    requires { Growable s logs.now counts.old (flat props.old tok.old res.old) (node_lists words.old values.old costs.old)
+    requires { Growable s logs.now counts.old (flat props.old tok.old res.old)
+        (node_lists words.old values.old costs.old)
         (queue_lists queue_words.old queue_values.old queue_gains.old) tree more }
     ensures grown { (lent : NodeLists) (st : State singles) (seeds : ℕ → Bool) (given : List Row)
         → Grows s logs.now counts.old

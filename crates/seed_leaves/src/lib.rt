@@ -98,7 +98,8 @@ fn plant_node(
     tree: Tree,
 ) -> Tree
     requires { NodeFits s logs.now counts.old (flat props.now tok.old res.now)
-        (node_lists words.old values.old costs.old) (queue_lists queue_words.old queue_values.old queue_gains.old) tree score_split }
+        (node_lists words.old values.old costs.old)
+        (queue_lists queue_words.old queue_values.old queue_gains.old) tree score_split }
     ensures { NodePlanted s logs.now counts.old counts.new
         (flat props.now tok.old res.now)
         (flat props.now tok.new res.now)
@@ -159,7 +160,8 @@ fn plant_nodes(
     score_split: bool,
 ) -> Tree
     requires { Sowable s logs.now counts.old (flat props.now tok.old res.now)
-        (node_lists words.old values.old costs.old) (queue_lists queue_words.old queue_values.old queue_gains.old) count score_split }
+        (node_lists words.old values.old costs.old)
+        (queue_lists queue_words.old queue_values.old queue_gains.old) count score_split }
     ensures { (given : List Row)
         → Plants s logs.now counts.old
         (flat props.now tok.old res.now)
@@ -224,7 +226,8 @@ pub fn plant_seed(
     count: usize,
 ) -> Tree
     requires { Seedable s logs.now counts.old (flat props.old tok.old res.old)
-        (node_lists words.old values.old costs.old) (queue_lists queue_words.old queue_values.old queue_gains.old) rows count }
+        (node_lists words.old values.old costs.old)
+        (queue_lists queue_words.old queue_values.old queue_gains.old) rows count }
     ensures planted { Seeded s logs.now counts.new
         (flat props.old tok.old res.old)
         (flat props.new tok.new res.new)
