@@ -1,15 +1,13 @@
 -- What an accepted operation says of the checks, and that a refusal leaves the lent lists as they were. Assumes nothing.
 use mathlib.Core.Path.{◌≡◌, refl, sym, ap, subst}
-use mathlib.Core.Logic.{◌⊎◌, inl, inr}
 use Prim.Native.Nat.{ℕ, zero, suc, ◌*◌, ◌≤◌, ◌<◌}
 use native.Mathlib.Omega.{arith}
-use mathlib.Core.Bool.{Bool, true, false, not, ◌&&◌}
+use mathlib.Core.Bool.{Bool, false}
 use mathlib.Core.List.{List, [], ◌∷◌, ◌++◌}
 use mathlib.Core.Option.{Option, none, some}
 use lib.ListN.{length, take, drop, replicate, take-append-drop, length-drop}
-use lib.Dec.{T, ltb, leb→le, lt→ltb, eqb→eq}
-use lib.IntN.{ℤ}
-use Rattle.model.specs.Lists.{all, is_empty, written_over}
+use lib.Dec.{T, ltb}
+use Rattle.model.specs.Lists.{all, written_over}
 use Rattle.model.specs.Meter.{Meter}
 use Rattle.model.specs.Settings.{Settings, toks_per_row}
 use Rattle.model.specs.Profile.{Profile, job_of}
@@ -18,37 +16,19 @@ use Rattle.model.specs.Deepen.{deepened}
 use Rattle.model.specs.Tree.{nodes_of, fault_of}
 use Rattle.model.specs.Contexts.{contexts_of}
 use Rattle.model.specs.Operations.{Outcome, refused, accepted, After, unless, Tree, tree_of, learn, deepen, ContextLists, leaf_contexts, sample}
-use Rattle.model.specs.Refuse.{Refusal, Besides, nothing_besides, seed_besides, is_outside, has_no_predictor, is_uneven, bad_row_from, is_short_alphabet, is_bad_logs, is_short_of_room, is_short_of_seed_room, refused_before, learn_refusal, deepen_refusal, contexts_refusal, sample_refusal}
+use Rattle.model.specs.Refuse.{Refusal, Besides, is_outside, has_no_predictor, is_uneven, bad_row_from, is_short_alphabet, is_bad_logs, is_short_of_room, is_short_of_seed_room, refused_before, learn_refusal, deepen_refusal, contexts_refusal, sample_refusal}
 use Rattle.model.specs.Lent.{Stored, Lent, row_count, rows_in, uses_modes, tree_in, lent_after}
 use Rattle.model.specs.Accepting.{InRange, Even, Rooms, SeedRooms, Passed}
-use Rattle.model.proofs.Tests.{and_both, or_either, neither, holds, not-below, passed, named, unasked, unnamed}
-use Rattle.model.proofs.Paths.{T→true}
+use Rattle.model.proofs.Tests.{and_both, neither, holds, not-below, passed, named, unasked, unnamed}
 
 -- ---- read off the checks
 pub in_range : (P : Profile) (t : Settings P.meter) → is_outside P t ≡ false → InRange P t
 unfolding is_outside
-in_range P t e =
-    let h = simp (holds, and_both) at e in
-    record {
-      alphabet = omega (arith, leb→le);
-      limit = omega (arith, leb→le);
-      split_cost_lem = search;
-      price = search;
-      smallest = omega (arith, leb→le);
-      sides = omega (arith, leb→le);
-      candidates = omega (arith, leb→le);
-    }
+in_range P t e = search arith
 
 even : {M : Meter} (x : Lent M) → is_uneven x ≡ false → Even x
 unfolding is_uneven
-even x e =
-    let h = simp (neither, holds, or_either, not-below) at e in
-    record {
-      props = omega (arith, eqb→eq);
-      rows = omega arith;
-      toks = omega (arith, eqb→eq);
-      res = elim h.1.1.1 [ inl t ↦ inl (eqb→eq _ _ t) | inr t ↦ inr (eqb→eq _ _ t) ];
-    }
+even x e = search arith
 
 all_append : {A : Type 0} (p : A → Bool) (xs ys : List A) → T (all p xs) → T (all p ys) → T (all p (xs ++ ys))
 all_append p [] ys s t = t
@@ -67,14 +47,7 @@ tokens-below alphabet (suc n) i toks h e =
 -- 5: where residuals are given there is a row
 wide_enough : {M : Meter} (t : Settings M) (x : Lent M) → Even x → T (uses_modes t x) → is_short_alphabet t x ≡ false → 128 ≤ t.alphabet
 unfolding is_short_alphabet
-wide_enough t x lists u e = go t.modal x.res u e lists.res
-  where
-    go : (modal : Bool) (rs : List ℤ) → T (modal && not (is_empty rs)) → (modal && (not (is_empty rs) && (ltb 0 (row_count x) && ltb t.alphabet 128))) ≡ false
-        → (length rs ≡ 0) ⊎ (length rs ≡ row_count x) → 128 ≤ t.alphabet
-    go true (r ∷ rs) u e (inl q) = absurd (omega arith)
-    go true (r ∷ rs) u e (inr q) = (not-below t.alphabet 128).0 (rw (T→true (ltb 0 (row_count x)) (lt→ltb 0 (row_count x) (omega arith))) at e)
-    go true [] u e q = absurd u
-    go false rs u e q = absurd u
+wide_enough t x lists u e = search arith
 
 -- 6
 logs_in : (P : Profile) (logs : List P.meter.Cost) (x : Lent P.meter) → is_bad_logs P logs x ≡ false → (row_count x < length logs) × T (P.logs_fit (take (row_count x) (drop 1 logs)))
@@ -139,10 +112,7 @@ module _ (P : Profile) (t : Settings P.meter) (logs : List P.meter.Cost) (x y : 
   pub learn-accepted : (a : Tree P.meter) → learn P t logs x ≡ record { outcome = accepted a; lent = y }
       → Passed P t logs x × (a ≡ tree_of (learned_from P t logs x)) × (y ≡ lent_after (learned_from P t logs x) x)
   unfolding learn learn_refusal
-  learn-accepted a e =
-      let r = learned_from P t logs x in
-      let h = accepted-by x (tree_of r) (lent_after r x) y (learn_refusal P t logs x) a e in
-      ((passed-all P t logs x nothing_besides h.0).0, h.1, h.2)
+  learn-accepted a e = search (arith, passed-all)
 
   -- a refusal is the first condition that holds, and each list reads as before
   pub learn-refused : (r : Refusal) → learn P t logs x ≡ record { outcome = refused r; lent = y } → (learn_refusal P t logs x ≡ some r) × (y ≡ x)
@@ -152,11 +122,7 @@ module _ (P : Profile) (t : Settings P.meter) (logs : List P.meter.Cost) (x y : 
   pub deepen-accepted : (count : ℕ) (a : Tree P.meter) → deepen P t logs count x ≡ record { outcome = accepted a; lent = y }
       → Passed P t logs x × SeedRooms count x × (fault_of (tree_in count x.nodes) ≡ none) × (a ≡ tree_of (deepened_from P t logs count x)) × (y ≡ lent_after (deepened_from P t logs count x) x)
   unfolding deepen deepen_refusal
-  deepen-accepted count a e =
-      let r = deepened_from P t logs count x in
-      let h = accepted-by x (tree_of r) (lent_after r x) y (deepen_refusal P t logs count x) a e in
-      let p = passed-all P t logs x (seed_besides count x) h.0 in
-      (p.0, seed_rooms_in count x p.2, ((named (fault_of (tree_in count x.nodes)) 8 none).0 p.3).0, h.1, h.2)
+  deepen-accepted count a e = search (arith, passed-all, seed_rooms_in)
 
   pub deepen-refused : (count : ℕ) (r : Refusal) → deepen P t logs count x ≡ record { outcome = refused r; lent = y } → (deepen_refusal P t logs count x ≡ some r) × (y ≡ x)
   unfolding deepen
@@ -174,10 +140,7 @@ pub contexts-passed : {M : Meter} (nodes : List (Stored M)) (count : ℕ) (x y :
     → (count ≤ length nodes) × (fault_of (tree_in count nodes) ≡ none) × (count ≤ length x.contexts) × (leaves ≡ leaf_count (nodes_of (tree_in count nodes)))
     × (y ≡ record { contexts = written_over (contexts_of (nodes_of (tree_in count nodes))) x.contexts; queue = replicate (length x.queue) 0 })
 unfolding leaf_contexts contexts_refusal
-contexts-passed nodes count x y leaves e =
-    let h = accepted-by x _ _ y (contexts_refusal nodes count x.contexts x.queue) leaves e in
-    let c = simp (passed, named, neither, not-below) at h.0 in
-    (c.0, c.1.0, c.1.1.0.0, h.1, h.2)
+contexts-passed nodes count x y leaves e = search arith
 
 pub sample-refused : (rows target : ℕ) (out y : List ℕ) (r : Refusal)
     → sample rows target out ≡ record { outcome = refused r; lent = y } → (sample_refusal rows target out ≡ some r) × (y ≡ out)

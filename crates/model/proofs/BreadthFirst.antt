@@ -138,11 +138,7 @@ module _ (nodes : List Node) where
   -- two for each split
   length-children : (l : List ℕ) → length (children_in l) + 2 * count_if (leaf_at nodes) l ≡ 2 * length l
   length-children [] = refl
-  length-children (i ∷ is) = go (get_or nodes i leaf) (length-children is)
-    where
-      go : (m : Node) → length (children_in is) + 2 * count_if (leaf_at nodes) is ≡ 2 * length is → length (children_of m ++ children_in is) + 2 * (cond (is_leaf m) 1 0 + count_if (leaf_at nodes) is) ≡ 2 * suc (length is)
-      go leaf ih = omega arith
-      go (split p v g l) ih = omega arith
+  length-children (i ∷ is) = search (arith, length-children is)
 
   pub parent_in : (l : List ℕ) (c : ℕ) → Memᴰ c (children_in l) → (a : ℕ) × Memᴰ a l × Child nodes a c
   parent_in [] c m = absurd (Memᴰ.not-nil m)
@@ -180,10 +176,7 @@ module _ (nodes : List Node) where
 module _ (nodes : List Node) (t : Rooted nodes) (rooted : 0 < length nodes) where
   module _ (done queue : List ℕ) (w : Breadth nodes done queue) where
     pub inside : (x : ℕ) → Memᴰ x (done ++ queue) → x < length nodes
-    inside x m = elim (Memᴰ.cases_cons (subst (λ (l : List ℕ). Memᴰ x l) w.listed m)) [
-      | inl e ↦ rw e rooted
-      | inr k ↦ (let p = parent_in nodes done x k in (child-forward nodes t.family.forward p.0 x p.2).1)
-    ]
+    inside x m = search (arith, parent_in, child-forward)
 
     pub few : length done + length queue ≤ length nodes
     few = omega (arith, short (length nodes) (done ++ queue) w.no_repeat inside, length-append done queue)
@@ -200,12 +193,7 @@ module _ (nodes : List Node) (t : Rooted nodes) (rooted : 0 < length nodes) wher
     regrouped = sym (append_assoc (done ++ (i ∷ [])) queue children) ∙ ap (λ (l : List ℕ). l ++ children) (append_snoc done i queue)
 
     apart : (x : ℕ) → Memᴰ x (done ++ (i ∷ queue)) → Memᴰ x children → ⊥
-    apart x k c =
-        let own : Child nodes i x = child-of (get_or nodes i leaf) x c in
-        elim (Memᴰ.cases_cons (subst (λ (l : List ℕ). Memᴰ x l) w.listed k)) [
-          | inl e ↦ (let f = child-forward nodes t.family.forward i x own in lt_irrefl 0 (omega arith))
-          | inr k ↦ (let p = parent_in nodes done x k in not_yet (subst (λ (a : ℕ). Memᴰ a done) (t.family.one_parent p.0 i x p.2 own) p.1))
-        ]
+    apart x k c = search (arith, child-of, child-forward, parent_in, not_yet)
 
     turned : done ++ breadth_from (length nodes - length done) nodes (i ∷ queue) ≡ (done ++ (i ∷ [])) ++ breadth_from (length nodes - length (done ++ (i ∷ []))) nodes (queue ++ children)
     unfolding breadth_from
@@ -214,11 +202,7 @@ module _ (nodes : List Node) (t : Rooted nodes) (rooted : 0 < length nodes) wher
         ap (λ (f : ℕ). done ++ breadth_from f nodes (i ∷ queue)) fuel ∙ sym (append_snoc done i (breadth_from (length nodes - length (done ++ (i ∷ []))) nodes (queue ++ children)))
 
     pub visit : Breadth nodes (done ++ (i ∷ [])) (queue ++ children)
-    visit = record {
-      listed = regrouped ∙ ap (λ (l : List ℕ). l ++ children) w.listed ∙ ap (λ (l : List ℕ). 0 ∷ l) (sym (children-last nodes done i));
-      no_repeat = subst NoRepeat (sym regrouped) (no_repeat_append (done ++ (i ∷ queue)) children w.no_repeat (two-apart (get_or nodes i leaf) (t.family.two_children i)) apart);
-      ahead = sym turned ∙ w.ahead;
-    }
+    visit = search (arith, regrouped, children-last, no_repeat_append, two-apart, apart, turned)
 
   -- ---- nothing waits: each node was visited
   module _ (done : List ℕ) (w : Breadth nodes done []) where

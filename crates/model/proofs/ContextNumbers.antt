@@ -33,12 +33,7 @@ keep-mem p x (y ∷ ys) m = go (p y) refl m (keep-mem p x ys)
 
 keep-last : (p : ℕ → Bool) (l : List ℕ) (i : ℕ) → keep p (l ++ (i ∷ [])) ≡ keep p l ++ cond (p i) (i ∷ []) []
 keep-last p [] i = refl
-keep-last p (x ∷ xs) i = go (p x) (keep-last p xs i)
-  where
-    go : (b : Bool) → keep p (xs ++ (i ∷ [])) ≡ keep p xs ++ cond (p i) (i ∷ []) []
-        → cond b (x ∷ keep p (xs ++ (i ∷ []))) (keep p (xs ++ (i ∷ []))) ≡ cond b (x ∷ keep p xs) (keep p xs) ++ cond (p i) (i ∷ []) []
-    go true ih = ap (λ (l : List ℕ). x ∷ l) ih
-    go false ih = ih
+keep-last p (x ∷ xs) i = search (arith, keep-last p xs i)
 
 -- ---- what is promised
 pub record Numbers (nodes : List Node) (contexts : List ℕ) : Type 0 where
@@ -148,13 +143,7 @@ module _ (nodes : List Node) (t : Rooted nodes) (rooted : 0 < length nodes) wher
       go leaf here ih = ih queue (suc next) (set contexts i next) (visit_leaf w here) (omega (arith, length-append done (i ∷ [])))
 
   pub start : Walk [] (0 ∷ []) 0 (replicate (length nodes) no_context)
-  start = record {
-    order = begun nodes;
-    number = refl;
-    sized = length-replicate (length nodes) no_context;
-    plain = λ i h s. get_or-replicate (length nodes) i no_context 0 h;
-    placed = λ c h. absurd (omega arith);
-  }
+  start = search (arith, begun, length-replicate, get_or-replicate)
 
   pub contexts-number : Numbers nodes (contexts_of nodes)
   unfolding contexts_of

@@ -2,26 +2,16 @@
 use mathlib.Core.Path.{◌≡◌, refl, sym, ap, ◌∙◌, fun_ext}
 use Prim.Native.Nat.{ℕ, zero, suc, ◌+◌, ◌≤◌, ◌<◌}
 use native.Mathlib.Nat.{zero-add, lt_irrefl}
-use native.Mathlib.Decide.{dec_lt}
 use native.Mathlib.Omega.{arith}
 use mathlib.Core.Bool.{Bool, true, false, cond, not, ◌&&◌}
 use mathlib.Core.List.{List, [], ◌∷◌, ◌++◌, map}
 use lib.ListN.{length, get_or, set}
-use lib.Dec.{T, ltb, lt→ltb, ltb→lt, eqb, eqb→eq, eqb_refl}
+use lib.Dec.{ltb, eqb}
 use Rattle.model.specs.Lists.{count_if, keep}
 use Rattle.model.specs.Partition.{second, last_first}
 
 below_or_at : (m i : ℕ) → cond (ltb m (suc i)) 1 0 ≡ cond (ltb m i) 1 0 + cond (eqb m i) 1 0
-below_or_at m i = go (ltb m (suc i)) (ltb m i) (eqb m i) (ltb→lt m (suc i)) (lt→ltb m (suc i)) (ltb→lt m i) (lt→ltb m i) (eqb→eq m i) (λ (e : m ≡ i). rw e (eqb_refl i))
-  where
-    go : (a b c : Bool) → (T a → m < suc i) → (m < suc i → T a) → (T b → m < i) → (m < i → T b) → (T c → m ≡ i) → (m ≡ i → T c) → cond a 1 0 ≡ cond b 1 0 + cond c 1 0
-    go true true true a a' b b' c c' = absurd (lt_irrefl i (let x = b tt in let y = c tt in omega arith))
-    go true true false a a' b b' c c' = refl
-    go true false true a a' b b' c c' = refl
-    go true false false a a' b b' c c' = let x = a tt in absurd (elim (dec_lt m i) [ yes h ↦ b' h | no h ↦ c' (omega arith) ])
-    go false true c a a' b b' c1 c' = absurd (a' (let x = b tt in omega arith))
-    go false false true a a' b b' c c' = absurd (a' (let x = c tt in omega arith))
-    go false false false a a' b b' c c' = refl
+below_or_at m i = search arith
 
 module _ {ℓ} {A : Type ℓ} where
   pub count_ext : {p q : A → Bool} (xs : List A) → ((x : A) → p x ≡ q x) → count_if p xs ≡ count_if q xs
@@ -49,27 +39,15 @@ module _ {ℓ} {A : Type ℓ} where
 
   pub count-keep : (p q : A → Bool) (xs : List A) → count_if p (keep q xs) ≡ count_if (λ (x : A). q x && p x) xs
   count-keep p q [] = refl
-  count-keep p q (x ∷ xs) = go (q x) (count-keep p q xs)
-    where
-      go : (b : Bool) → count_if p (keep q xs) ≡ count_if (λ (x : A). q x && p x) xs → count_if p (cond b (x ∷ keep q xs) (keep q xs)) ≡ cond (b && p x) 1 0 + count_if (λ (x : A). q x && p x) xs
-      go true ih = ap (λ (n : ℕ). cond (p x) 1 0 + n) ih
-      go false ih = ih ∙ sym (zero-add (count_if (λ (x : A). q x && p x) xs))
+  count-keep p q (x ∷ xs) = search (arith, count-keep p q xs)
 
   pub length-keep : (p : A → Bool) (xs : List A) → length (keep p xs) ≡ count_if p xs
   length-keep p [] = refl
-  length-keep p (x ∷ xs) = go (p x) (length-keep p xs)
-    where
-      go : (b : Bool) → length (keep p xs) ≡ count_if p xs → length (cond b (x ∷ keep p xs) (keep p xs)) ≡ cond b 1 0 + count_if p xs
-      go true ih = omega arith
-      go false ih = omega arith
+  length-keep p (x ∷ xs) = search (arith, length-keep p xs)
 
   pub count_at_most : (p : A → Bool) (xs : List A) → count_if p xs ≤ length xs
   count_at_most p [] = omega arith
-  count_at_most p (x ∷ xs) = go (p x) (count_at_most p xs)
-    where
-      go : (b : Bool) → count_if p xs ≤ length xs → cond b 1 0 + count_if p xs ≤ suc (length xs)
-      go true ih = omega arith
-      go false ih = omega arith
+  count_at_most p (x ∷ xs) = search (arith, count_at_most p xs)
 
   pub count_none : (p : A → Bool) (xs : List A) → ((x : A) → p x ≡ false) → count_if p xs ≡ 0
   count_none p [] h = refl
@@ -93,12 +71,7 @@ module _ {ℓ} {A : Type ℓ} where
   -- a test splits a count in two
   pub count-split : (q p : A → Bool) (xs : List A) → count_if (λ (x : A). q x && p x) xs + count_if (λ (x : A). not (q x) && p x) xs ≡ count_if p xs
   count-split q p [] = refl
-  count-split q p (x ∷ xs) = go (q x) (count-split q p xs)
-    where
-      go : (b : Bool) → count_if (λ (x : A). q x && p x) xs + count_if (λ (x : A). not (q x) && p x) xs ≡ count_if p xs
-          → cond (b && p x) 1 0 + count_if (λ (x : A). q x && p x) xs + (cond (not b && p x) 1 0 + count_if (λ (x : A). not (q x) && p x) xs) ≡ cond (p x) 1 0 + count_if p xs
-      go true ih = omega arith
-      go false ih = omega arith
+  count-split q p (x ∷ xs) = search (arith, count-split q p xs)
 
 module _ {ℓ κ} {A : Type ℓ} {B : Type κ} where
   pub count_map : (p : B → Bool) (f : A → B) (xs : List A) → count_if p (map f xs) ≡ count_if (λ (x : A). p (f x)) xs

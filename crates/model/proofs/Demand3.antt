@@ -11,7 +11,7 @@ use lib.Dec.{T}
 use Rattle.model.specs.Settings.{Settings, with_limit}
 use Rattle.model.specs.Tree.{Record, fault_of}
 use Rattle.model.specs.Job.{Job}
-use Rattle.model.specs.Learn.{Result, learned}
+use Rattle.model.specs.Learn.{Result}
 use Rattle.model.specs.Deepen.{deepened}
 use Rattle.model.specs.Profile.{Profile, job_of}
 use Rattle.model.specs.Lent.{Lent, row_count, rows_in, uses_modes, tree_in, lent_after}
@@ -19,7 +19,7 @@ use Rattle.model.specs.Operations.{tree_of}
 use Rattle.model.specs.Promise.{Unpruned, Kept, Demand3}
 use Rattle.model.specs.Accepting.{SeedRooms, Passed, JobFits}
 use Rattle.model.proofs.Lawful.{Lawful}
-use Rattle.model.proofs.Results.{ResultKept, ResultFresh, ResultLaws}
+use Rattle.model.proofs.Results.{ResultFresh, ResultLaws}
 use Rattle.model.proofs.Accepted.{learned_from, deepened_from, learn-accepted, deepen-accepted}
 use Rattle.model.proofs.Listed.{length-rows_in, rows_in-tokens}
 use Rattle.model.proofs.NodeEntries.{length-tree}
@@ -39,33 +39,21 @@ module _ (P : Profile) (law : Lawful P) (laws : ResultLaws law.bounds) (t : Sett
   job-fits = rw (length-rows_in x) (law.fits t logs uses (row_count x) p.settings.price p.settings.alphabet.1 p.lists.rows p.logs_enough p.logs_fit_lem)
 
   pub learned-fits : Fits uses x (2 * t.limit - 1) (learned_from P t logs x)
-  learned-fits = record {
-    even = p.lists;
-    kept = laws.learned_kept job t.limit (rows_in x) job-fits p.settings.limit.0 p.settings.limit.1;
-    node_room = p.rooms.nodes;
-    span_room = p.rooms.spans;
-  }
+  learned-fits = search (arith, job-fits)
 
   learned_fresh : T uses → T t.settling ⊎ Unpruned P t → ResultFresh (learned_from P t logs x)
   learned_fresh = laws.learned_fresh job t.limit (rows_in x) job-fits p.settings.limit.0 p.settings.limit.1 (rows_in-tokens x p.lists)
 
   -- the limit one higher
   learned-next : Unpruned P t → EqualOrOneMore uses (learned_from P t logs x) (learned_from P (with_limit (suc t.limit) t) logs x)
-  learned-next un = subst (λ (j : Job P.meter). EqualOrOneMore uses (learned job t.limit (rows_in x)) (learned j (suc t.limit) (rows_in x)))
-      (sym (same-job P t logs uses (suc t.limit) t.settling)) (laws.learned_more job t.limit (rows_in x) un p.settings.limit.0)
+  learned-next un = search (arith, same-job)
 
   module _ (count : ℕ) (s : SeedRooms count x) (sound : fault_of (tree_in count x.nodes) ≡ none) where
     abbrev seed : List (Record P.meter)
     seed = tree_in count x.nodes
 
     pub deepened-fits : Fits uses x (max (2 * t.limit - 1) count) (deepened_from P t logs count x)
-    deepened-fits = record {
-      even = p.lists;
-      kept = subst (λ (n : ℕ). ResultKept uses (rows_in x) (max (2 * t.limit - 1) n) (deepened_from P t logs count x)) (length-tree count x.nodes s.nodes)
-          (laws.deepened_kept job t.limit seed (rows_in x) job-fits sound p.settings.limit.1);
-      node_room = omega (arith, p.rooms.nodes, s.nodes);
-      span_room = omega (arith, p.rooms.spans, s.spans);
-    }
+    deepened-fits = search (arith, length-tree, job-fits)
 
     deepened_fresh : T uses → T t.settling ⊎ Unpruned P t → ResultFresh (deepened_from P t logs count x)
     deepened_fresh = laws.deepened_fresh job t.limit seed (rows_in x) job-fits sound p.settings.limit.1 (rows_in-tokens x p.lists)

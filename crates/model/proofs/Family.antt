@@ -1,17 +1,16 @@
 -- Parents and children in a node list, and the preorder of a tree. Assumes nothing.
-use mathlib.Core.Path.{◌≡◌, refl, sym, ap, ◌∙◌, subst}
+use mathlib.Core.Path.{◌≡◌, refl, ap, ◌∙◌, subst}
 use mathlib.Core.Logic.{◌≢◌, ◌⊎◌, inl, inr}
 use Prim.Native.Nat.{ℕ, suc, ◌≤◌, ◌<◌}
 use native.Mathlib.Nat.{lt_irrefl}
 use native.Mathlib.Omega.{arith}
 use native.Mathlib.Decide.{ℕ_discrete, dec_lt}
-use mathlib.Core.Bool.{Bool, true, false, cond}
 use mathlib.Core.List.{List}
 use lib.ListN.{length, get_or, get_or-eq_default}
-use lib.IntN.{ℤ, pos}
+use lib.IntN.{ℤ}
 use lib.Dec.{T}
 use Rattle.model.specs.Tree.{Node, split, leaf, is_leaf, towards}
-use Rattle.model.specs.Family.{Forward, AllForward, ChildOf, Child, Twins, Family, Anc, parent, under}
+use Rattle.model.specs.Family.{AllForward, ChildOf, Child, Twins, Family, Anc, parent, under}
 use Rattle.model.proofs.Paths.{grown}
 use Rattle.model.proofs.Extended.{extended-at, extended-old, extended-gt, extended-le, length-extended}
 
@@ -25,22 +24,10 @@ anc_no_leaf {nodes} {a} t (parent {c} h) = leaf_no_child (get_or nodes a leaf) c
 anc_no_leaf {nodes} {a} t (under up h) = anc_no_leaf t up
 
 pub child-forward : (nodes : List Node) → AllForward nodes → (a c : ℕ) → Child nodes a c → (a < c) × (c < length nodes)
-child-forward nodes fw a c h = elim (dec_lt a (length nodes)) [ yes i ↦ go (get_or nodes a leaf) (fw a i) h | no i ↦ absurd (out (omega arith)) ]
-  where
-    go : (m : Node) → Forward (length nodes) a m → ChildOf m c → (a < c) × (c < length nodes)
-    go leaf f h = absurd h
-    go (split p v g l) f (inl e) = rw e (f.0, f.2)
-    go (split p v g l) f (inr e) = rw e (f.1, f.3)
-
-    out : length nodes ≤ a → ⊥
-    out q = subst (λ (m : Node). ChildOf m c) (get_or-eq_default nodes leaf q) h
+child-forward nodes fw a c h = search (arith, get_or-eq_default)
 
 pub towards-child : (ps : List ℤ) (prop : ℕ) (val : ℤ) (gt le : ℕ) → ChildOf (split prop val gt le) (towards ps prop val gt le)
-towards-child ps prop val gt le = go (lib.Signed.lt_z val (get_or ps prop (pos 0)))
-  where
-    go : (b : Bool) → (cond b gt le ≡ gt) ⊎ (cond b gt le ≡ le)
-    go true = inl refl
-    go false = inr refl
+towards-child ps prop val gt le = grind arith
 
 -- ---- the family of a tree with leaf j split
 module _ (nodes : List Node) (fam : Family nodes) (j : ℕ) (inside : j < length nodes) (was : T (is_leaf (get_or nodes j leaf))) (prop : ℕ) (val : ℤ) where
@@ -51,9 +38,7 @@ module _ (nodes : List Node) (fam : Family nodes) (j : ℕ) (inside : j < length
   sp = split prop val (length nodes) (suc (length nodes))
 
   pub child-kept : (a c : ℕ) → Child nodes a c → Child new a c
-  child-kept a c h =
-      let b = child-forward nodes fam.forward a c h in
-      subst (λ (m : Node). ChildOf m c) (sym (extended-old nodes j sp leaf leaf leaf a (omega arith) (λ (e : a ≡ j). leaf_no_child (get_or nodes a leaf) c (rw e was) h))) h
+  child-kept a c h = search (arith, child-forward, extended-old)
 
   pub anc_kept : {a x : ℕ} → Anc nodes a x → Anc new a x
   anc_kept {a} (parent {c} h) = parent (child-kept a c h)
@@ -98,16 +83,7 @@ module _ (nodes : List Node) (fam : Family nodes) (j : ℕ) (inside : j < length
       ]
 
   grown_one_parent : (a b c : ℕ) → Child new a c → Child new b c → a ≡ b
-  grown_one_parent a b c h k = join (child-from a c h) (child-from b c k)
-    where
-      old_below : (x : ℕ) → Child nodes x c → length nodes ≤ c → ⊥
-      old_below x q z = let f = child-forward nodes fam.forward x c q in omega arith
-
-      join : ((a ≡ j) × (length nodes ≤ c)) ⊎ Child nodes a c → ((b ≡ j) × (length nodes ≤ c)) ⊎ Child nodes b c → a ≡ b
-      join (inl p) (inl q) = p.0 ∙ sym q.0
-      join (inl p) (inr q) = absurd (old_below b q p.1)
-      join (inr p) (inl q) = absurd (old_below a p q.1)
-      join (inr p) (inr q) = fam.one_parent a b c p q
+  grown_one_parent a b c h k = search (arith, child-from, child-forward)
 
   grown_two_children : (a : ℕ) → Twins (get_or new a leaf)
   grown_two_children a = elim (ℕ_discrete a j) [

@@ -4,7 +4,7 @@ use mathlib.Core.Logic.{◌⊎◌, inl, inr}
 use Prim.Native.Nat.{ℕ, zero, suc, ◌+◌, ◌-◌, ◌≤◌, ◌<◌}
 use native.Mathlib.Nat.{lt_irrefl}
 use native.Mathlib.Omega.{arith}
-use mathlib.Core.Bool.{Bool, true, false, cond, true≢false}
+use mathlib.Core.Bool.{Bool, true, false}
 use mathlib.Core.List.{List, [], ◌∷◌, ◌++◌, map, map-map, map-append}
 use mathlib.Core.Option.{none}
 use lib.ListN.{length, get_or, take, replicate, length-map, length-append, length-replicate, get_or-map, get_or-append}
@@ -20,7 +20,6 @@ use Rattle.model.specs.Tree.{Node, split, leaf, is_leaf, Record, blank_record, n
 use Rattle.model.specs.Job.{Job, prunes}
 use Rattle.model.specs.Grow.{Entry, State, no_entry, tree_nodes, record_of}
 use Rattle.model.specs.Prune.{renumbered, pruned_nodes, pruned_tree, pruned_bits, moved}
-use Rattle.model.specs.Settle.{settled}
 use Rattle.model.specs.Learn.{Result, result_of, pruned, settled_state}
 use Rattle.model.specs.Promise.{no_row}
 use Rattle.model.specs.Kept.{FieldsFit, entry_at, Invariant, Covered, Healthy}
@@ -156,19 +155,11 @@ module _ {M : Meter} where
 
     pub pruned_done : Done j.uses given (length tree) (pruned j s)
     unfolding pruned
-    pruned_done = go (prunes j)
-      where
-        go : (b : Bool) → Done j.uses given (length tree) (cond b cut s)
-        go true = cut_done
-        go false = grown_done
+    pruned_done = search (arith, cut_done, grown_done)
 
     settled_done : (f : State M) → Done j.uses given (length tree) f → Done j.uses given (length tree) (settled_state j f)
     unfolding settled_state
-    settled_done f d = go j.settling
-      where
-        go : (b : Bool) → Done j.uses given (length tree) (cond b (record { rows = settled j.uses f.tree f.rows; tree = f.tree; bits = f.bits }) f)
-        go true = record { counted = settled-length j.uses f.tree f.rows d.placed.bounds ∙ d.counted; placed = settled-placed j.uses given f.rows f.tree d.placed; sound = d.sound; rooted = d.rooted; shorter = d.shorter }
-        go false = d
+    settled_done f d = search (arith, settled-length, settled-placed)
 
     pub finished_done : Done j.uses given (length tree) (settled_state j (pruned j s))
     finished_done = settled_done (pruned j s) pruned_done
@@ -177,19 +168,7 @@ module _ {M : Meter} where
     pub finished_fresh : T j.settling ⊎ (prunes j ≡ false) → (k : ℕ) → k < length (settled_state j (pruned j s)).tree → T (is_leaf (entry_at (settled_state j (pruned j s)).tree k).node)
         → fresh j.uses (within (entry_at (settled_state j (pruned j s)).tree k).span (settled_state j (pruned j s)).rows) ≡ within (entry_at (settled_state j (pruned j s)).tree k).span (settled_state j (pruned j s)).rows
     unfolding settled_state pruned
-    finished_fresh h = go j.settling (prunes j) pruned_done h
-      where
-        after : State M → State M
-        after f = record { rows = settled j.uses f.tree f.rows; tree = f.tree; bits = f.bits }
-
-        AllFresh : State M → Type 0
-        AllFresh f = (k : ℕ) → k < length f.tree → T (is_leaf (entry_at f.tree k).node) → fresh j.uses (within (entry_at f.tree k).span f.rows) ≡ within (entry_at f.tree k).span f.rows
-
-        go : (c b : Bool) → Done j.uses given (length tree) (cond b cut s) → T c ⊎ (b ≡ false) → AllFresh (cond c (after (cond b cut s)) (cond b cut s))
-        go true b d h = settled-fresh j.uses given (cond b cut s).rows (cond b cut s).tree d.placed
-        go false true d (inl h) = absurd h
-        go false true d (inr h) = absurd (true≢false h)
-        go false false d h = inv.fresh_tokens
+    finished_fresh h = search (arith, pruned_done, settled-fresh)
 
     -- ---- the result
     abbrev done : State M

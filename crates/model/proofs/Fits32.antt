@@ -2,8 +2,8 @@
 -- of some row. Assumes nothing.
 use mathlib.Core.Path.{◌≡◌, refl, sym, subst}
 use mathlib.Core.Logic.{◌⊎◌, inl, inr}
-use Prim.Native.Nat.{ℕ, zero, suc, ◌+◌, ◌-◌, ◌*◌, ◌/◌, ◌^◌, ◌≤◌, ◌<◌, min}
-use native.Mathlib.Nat.{div-lt_iff_lt-mul, mul-le-mul_right, mul_comm, suc-mul, le_of_lt, not-suc-le-zero}
+use Prim.Native.Nat.{ℕ, zero, suc, ◌+◌, ◌-◌, ◌*◌, ◌/◌, ◌^◌, ◌≤◌, ◌<◌}
+use native.Mathlib.Nat.{not-suc-le-zero}
 use native.Mathlib.Omega.{arith}
 use mathlib.Core.Bool.{Bool, true, false, cond}
 use mathlib.Core.List.Memᴰ
@@ -12,14 +12,13 @@ use mathlib.Core.Option.{some}
 use lib.ListN.{length, get_or}
 use lib.IntN.{ℤ, pos, suc_ℤ}
 use lib.Signed.{lt_z, mag}
-use lib.Dec.{T, eqb, ltb, ltb→lt, lit<}
+use lib.Dec.{T, ltb, ltb→lt, lit<}
 use Rattle.model.specs.Lists.{range, count_if, eq_z}
 use Rattle.model.specs.Meter.{Meter}
 use Rattle.model.specs.Settings.{Settings}
 use Rattle.model.specs.Rows.{Row, prop_of, res_of}
 use Rattle.model.specs.Mode.{lowest, oftenest, width, mode, span_mode}
-use Rattle.model.specs.Candidates.{stride, every, insert, distinct, quantiles, candidates_of}
-use Rattle.model.specs.Cost.{best_predictor}
+use Rattle.model.specs.Candidates.{every, insert, distinct, quantiles, candidates_of}
 use Rattle.model.specs.Evaluate.{plan_of, info_of, offered}
 use Rattle.model.specs.Job.{Offer}
 use Rattle.model.proofs.InRange.{IsOffer, offered-is}
@@ -62,14 +61,7 @@ oftenest-is rs (suc width) v best most m =
 pub mode-is : (rs : List ℤ) → (mode rs ≡ pos 0) ⊎ Memᴰ (mode rs) rs
 unfolding mode
 mode-is [] = inl refl
-mode-is (r ∷ rs) = go (ltb 4096 (width r rs))
-  where
-    at : Bool → ℤ
-    at b = elim b [ true ↦ pos 0 | false ↦ oftenest (r ∷ rs) (width r rs) (lowest r rs) (lowest r rs) 0 ]
-
-    go : (b : Bool) → (at b ≡ pos 0) ⊎ Memᴰ (at b) (r ∷ rs)
-    go true = inl refl
-    go false = inr (oftenest-is (r ∷ rs) (width r rs) (lowest r rs) (lowest r rs) 0 (lowest-is r rs))
+mode-is (r ∷ rs) = search (arith, oftenest-is, lowest-is)
 
 -- ---- candidates
 every-is : {v : ℤ} (step skip : ℕ) (xs : List ℤ) → Memᴰ v (every step skip xs) → Memᴰ v xs
@@ -106,11 +98,7 @@ range-below first zero m = absurd (Memᴰ.not-nil m)
 range-below first (suc count) m = elim (Memᴰ.cases_cons m) [ inl e ↦ omega arith | inr k ↦ omega (arith, range-below (suc first) count k) ]
 
 quantile-lt : (k d n : ℕ) → k < n → k * d / n < suc d
-quantile-lt k d n h =
-    let p : 0 < n = omega arith in
-    let c : k * d ≤ n * d = mul-le-mul_right d (le_of_lt h) in
-    let l : k * d < suc d * n = omega (arith, mul_comm n d, suc-mul d n) in
-    (div-lt_iff_lt-mul p).1 l
+quantile-lt k d n h = search arith
 
 quantiles_are : {v : ℤ} (d n : ℕ) (vs : List ℤ) → n ≤ d → d ≡ length vs - 1 → Memᴰ v (quantiles d n vs) → Memᴰ v vs
 unfolding quantiles
@@ -123,22 +111,14 @@ quantiles_are d n vs h e m =
 
 pub candidate-is : {v : ℤ} (most : ℕ) (column : List ℤ) → Memᴰ v (candidates_of most column) → Memᴰ v column
 unfolding candidates_of
-candidate-is most column m =
-    let vs = distinct (every (stride (length column)) 0 column) in
-    let d = length vs - 1 in
-    every-is (stride (length column)) 0 column (distinct-is (every (stride (length column)) 0 column) (quantiles_are d (min d (min most 32)) vs (omega arith) refl m))
+candidate-is most column m = search (arith, every-is, distinct-is, quantiles_are)
 
 -- ---- what stands beside a node, and what it offers
 module _ {M : Meter} (t : Settings M) (logs : List M.Cost) where
   -- a leaf over the rows, whose mode is that of the rows `given`
   pub offset-is : (uses : Bool) (given rows : List Row) → ((info_of t logs (span_mode uses given) rows).offset ≡ pos 0) ⊎ Memᴰ (info_of t logs (span_mode uses given) rows).offset (res_of given)
   unfolding info_of span_mode
-  offset-is uses given rows = go (eqb (best_predictor t logs rows) 0) uses
-    where
-      go : (zero uses : Bool) → let o = cond zero (cond uses (mode (res_of given)) (pos 0)) (pos 0) in (o ≡ pos 0) ⊎ Memᴰ o (res_of given)
-      go true true = mode-is (res_of given)
-      go true false = inl refl
-      go false uses = inl refl
+  offset-is uses given rows = search (arith, mode-is)
 
   pub offset-fits : (uses : Bool) (given rows : List Row) → ((r : Row) → Memᴰ r given → Fits32 r.res) → Fits32 (info_of t logs (span_mode uses given) rows).offset
   offset-fits uses given rows fit = elim (offset-is uses given rows) [

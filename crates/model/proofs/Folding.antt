@@ -1,7 +1,7 @@
 -- Pruning keeps a node as it is or makes it a leaf, and never folds a seed's split: what its two sides come to is small, and its own cost is endless.
 -- Assumes nothing.
 use mathlib.Core.Path.{◌≡◌, refl, sym, ap, ◌∙◌, subst}
-use mathlib.Core.Logic.{◌⊎◌, inl, inr}
+use mathlib.Core.Logic.{◌⊎◌, inl}
 use Prim.Native.Nat.{ℕ, zero, suc, ◌+◌, ◌-◌, ◌≤◌, ◌<◌}
 use native.Mathlib.Nat.{lt_irrefl, zero-add}
 use native.Mathlib.Omega.{arith}
@@ -33,17 +33,7 @@ module _ {M : Meter} where
 
   decided-folds : (price : M.Cost) (i : ℕ) (e : Entry M) (n : Node) (after : List (Priced M)) → Folded n (priced_before price i e n after).node
   decided-folds price i e leaf after = inl refl
-  decided-folds price i e (split prop val gt le) after = go (M.at_most (M.total e.info.cost) (kept_price price g l))
-    where
-      g : Priced M
-      g = get_or after (gt - suc i) no_priced
-
-      l : Priced M
-      l = get_or after (le - suc i) no_priced
-
-      go : (b : Bool) → Folded (split prop val gt le) (cond b (as_leaf e) (record { node = split prop val gt le; bits = M.add g.bits l.bits; priced = kept_price price g l })).node
-      go true = inr tt
-      go false = inl refl
+  decided-folds price i e (split prop val gt le) after = grind arith
 
   folds-from : (price : M.Cost) (i : ℕ) (es : List (Entry M)) (k : ℕ) → Folded (get_or (tree_nodes es) k leaf) (get_or (becomes (priced_from price i es)) k leaf)
   unfolding priced_from

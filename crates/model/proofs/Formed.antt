@@ -1,39 +1,33 @@
 -- Rows are only moved, and only their zero tokens change: a test that does not look at the zero token, and that all rows handed in pass, all rows pass
 -- ever after. Assumes nothing.
 use mathlib.Core.Path.{◌≡◌, refl, sym, ap, ◌∙◌}
-use mathlib.Core.Logic.{◌⊎◌, inl, inr}
 use Prim.Native.Nat.{ℕ, zero, suc, ◌+◌, ◌-◌, ◌≤◌}
 use native.Mathlib.Omega.{arith}
 use mathlib.Core.Bool.{Bool, true, false, cond, not, ◌&&◌}
 use mathlib.Core.List.{List, [], ◌∷◌, ◌++◌}
 use lib.ListN.{get_or, take, drop, take-append-drop}
 use lib.IntN.{ℤ}
-use lib.Dec.{T, eqb}
-use lib.Ieee.Fits.{and_l, and_r}
+use lib.Dec.{T}
+use lib.Ieee.Fits.{and_r}
 use Rattle.model.specs.Lists.{count_if, all}
 use Rattle.model.specs.Meter.{Meter}
 use Rattle.model.specs.Rows.{Row, with_zero, Span, within, is_above}
 use Rattle.model.specs.Mode.{zero_token, span_mode, rebased, fresh}
 use Rattle.model.specs.Partition.{above_rows, other_rows}
-use Rattle.model.specs.Tree.{Node, split, leaf, is_leaf, Record, nodes_of, leaf_reached}
-use Rattle.model.specs.Job.{Offer, Job, prunes}
-use Rattle.model.specs.Grow.{Entry, State, no_entry, gt_rows, le_rows, split_rows, split_at, step, steps}
-use Rattle.model.specs.Prune.{pruned_tree, pruned_bits}
+use Rattle.model.specs.Tree.{Node, split, leaf, is_leaf, Record, nodes_of}
+use Rattle.model.specs.Job.{Offer, Job}
+use Rattle.model.specs.Grow.{Entry, State, no_entry, gt_rows, le_rows, split_rows, split_at, steps}
 use Rattle.model.specs.Settle.{settled}
 use Rattle.model.specs.Learn.{result_of, pruned, settled_state, finished, root_state, learned}
 use Rattle.model.specs.Deepen.{rows_at, with_seed_node, seed_from, seed_state, depths_of, deepened}
 use Rattle.model.proofs.Counting.{count_append, count-keep, count-split}
 use Rattle.model.proofs.Parts.{count-above, count-others}
-use Rattle.model.proofs.Steps.{OneSplit, step_is}
+use Rattle.model.proofs.Steps.{step_is}
 
 -- ---- all pass, said by counting those that fail
 count_failing : (p : Row → Bool) (xs : List Row) → T (all p xs) → count_if (λ (r : Row). not (p r)) xs ≡ 0
 count_failing p [] t = refl
-count_failing p (x ∷ xs) t = go (p x) (and_l (p x) (all p xs) t) (count_failing p xs (and_r (p x) (all p xs) t))
-  where
-    go : (b : Bool) → T b → count_if (λ (r : Row). not (p r)) xs ≡ 0 → cond (not b) 1 0 + count_if (λ (r : Row). not (p r)) xs ≡ 0
-    go true u ih = omega arith
-    go false u ih = absurd u
+count_failing p (x ∷ xs) t = search (arith, count_failing p xs (and_r (p x) (all p xs) t))
 
 none_failing : (p : Row → Bool) (xs : List Row) → count_if (λ (r : Row). not (p r)) xs ≡ 0 → T (all p xs)
 none_failing p [] e = tt
@@ -94,18 +88,12 @@ module _ (q : Row → Bool) (blind : (z : ℕ) (r : Row) → q (with_zero z r) �
     count-steps : (n : ℕ) (s : State M) → count_if q s.rows ≡ 0 → count_if q (steps j n s).rows ≡ 0
     unfolding steps
     count-steps zero s h = h
-    count-steps (suc n) s h = go (step_is j (steps j n s)) (count-steps n s h)
-      where
-        go : (step j (steps j n s) ≡ steps j n s) ⊎ OneSplit j (steps j n s) (step j (steps j n s)) → count_if q (steps j n s).rows ≡ 0 → count_if q (step j (steps j n s)).rows ≡ 0
-        go (inl e) h = rw e h
-        go (inr one) h = rw one.result (count_split_at (steps j n s) one.number one.offer h)
+    count-steps (suc n) s h = search (arith, step_is, count_split_at, count-steps n s h)
 
     -- the seed's rows
     count_rows_at : (nodes : List Node) (i : ℕ) (rows : List Row) → count_if q (rows_at nodes i rows) ≤ count_if q rows
     unfolding rows_at
-    count_rows_at nodes i rows =
-        let reached : Row → Bool = λ (r : Row). eqb (leaf_reached nodes r.props) i in
-        omega (arith, count-keep q reached rows, count-both reached q rows)
+    count_rows_at nodes i rows = search (arith, count-keep, count-both)
 
     count-seed : (nodes : List Node) (depths : List ℕ) (rows : List Row) (i : ℕ) (rs : List (Record M)) (s : State M) → count_if q rows ≡ 0 → count_if q s.rows ≡ 0 → count_if q (seed_from j nodes depths rows i rs s).rows ≡ 0
     unfolding seed_from
@@ -134,19 +122,11 @@ module _ (q : Row → Bool) (blind : (z : ℕ) (r : Row) → q (with_zero z r) �
 
     pruned-rows : (s : State M) → (pruned j s).rows ≡ s.rows
     unfolding pruned
-    pruned-rows s = go (prunes j)
-      where
-        go : (b : Bool) → (cond b (record { rows = s.rows; tree = pruned_tree j.price s.tree; bits = pruned_bits j.price s.tree }) s).rows ≡ s.rows
-        go true = refl
-        go false = refl
+    pruned-rows s = grind arith
 
     count_settled_state : (s : State M) → count_if q s.rows ≡ 0 → count_if q (settled_state j s).rows ≡ 0
     unfolding settled_state
-    count_settled_state s h = go j.settling
-      where
-        go : (b : Bool) → count_if q (cond b (record { rows = settled j.uses s.tree s.rows; tree = s.tree; bits = s.bits }) s).rows ≡ 0
-        go true = count-settled s.tree s.rows h
-        go false = h
+    count_settled_state s h = search (arith, count-settled)
 
     count-finished : (s : State M) (flat : M.Total) → count_if q s.rows ≡ 0 → count_if q (finished j s flat).rows ≡ 0
     unfolding finished result_of

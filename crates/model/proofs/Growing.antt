@@ -6,19 +6,17 @@ use native.Mathlib.Nat.{le_refl}
 use native.Mathlib.Omega.{arith}
 use mathlib.Core.Bool.{Bool, true, false, cond}
 use mathlib.Core.List.{List, [], ◌∷◌, ◌++◌, map}
-use lib.ListN.{length, get_or, take, drop, set, replicate, length-append, length-take, length-drop, get_or-map}
+use lib.ListN.{length, get_or, take, set, replicate, length-append, length-take, length-drop, get_or-map}
 use lib.IntN.{ℤ}
 use lib.Dec.{eqb}
 use Rattle.model.specs.Lists.{range, count_if, Each}
 use Rattle.model.specs.Meter.{Meter}
-use Rattle.model.specs.Rows.{Row, is_above, Span, within}
+use Rattle.model.specs.Rows.{Row, Span, within}
 use Rattle.model.specs.Mode.{span_mode, fresh}
-use Rattle.model.specs.Partition.{above_rows, other_rows}
 use Rattle.model.specs.Tree.{Node, split, leaf, Info, Record, blank_record, nodes_of, leaf_reached}
 use Rattle.model.specs.Job.{Offer, Job, prunes}
 use Rattle.model.specs.Grow.{Entry, State, Choice, no_choice, chosen, no_entry, record_of, leaf_over, choice_from, gt_rows, le_rows, gt_span, le_span, gt_leaf, le_leaf, split_rows, become_split, split_at, step_to, step, steps}
 use Rattle.model.specs.Prune.{preorder, moved, pruned_nodes, pruned_tree, pruned_bits}
-use Rattle.model.specs.Settle.{settled}
 use Rattle.model.specs.Learn.{leaf_count, pruned, settled_state, result_of, finished, root_state, learned}
 use Rattle.model.specs.Deepen.{depths_of, rows_at, seed_split, empty_leaf, seed_leaf, with_seed_node, seed_from, seed_state, deepened}
 use Rattle.model.specs.Kept.{Fine, Sized}
@@ -35,19 +33,11 @@ module _ {M : Meter} where
   module _ (j : Job M) (rows : List Row) (e : Entry M) (o : Offer M) where
     pub length-sides : length (gt_rows j rows e o) + length (le_rows j rows e o) ≡ length (within e.span rows)
     unfolding gt_rows le_rows
-    length-sides =
-        let mine = within e.span rows in
-        let above = is_above o.prop o.val in
-        omega (arith, length-fresh j.uses (above_rows above mine), length-fresh j.uses (other_rows above mine), length-parts above mine)
+    length-sides = search (arith, length-fresh, length-parts)
 
     length-split : e.span.first ≤ e.span.end → length (split_rows j rows e o) ≡ length rows
     unfolding split_rows
-    length-split h =
-        let a = e.span.first in
-        let b = e.span.end in
-        let gt = gt_rows j rows e o in
-        let le = le_rows j rows e o in
-        omega (arith, length-append (take a rows ++ gt ++ le) (drop b rows), length-append (take a rows ++ gt) le, length-append (take a rows) gt, length-take a rows, length-drop b rows, length-sides, length-within e.span rows)
+    length-split h = search (arith, length-append, length-take, length-drop, length-sides)
 
   module _ (Q : M.Cost → Type 0) (n : ℕ) (j : Job M) (nought : Q M.nought) (evaluated : (mode : ℤ) (rows : List Row) → length rows ≤ n → Q (j.info mode rows).cost) where
     split-sized : (s : State M) (i : ℕ) (o : Offer M) → Sized Q n s → Sized Q n (split_at j s i o)
@@ -85,9 +75,7 @@ module _ {M : Meter} where
 
     pub root-sized : (rows : List Row) → length rows ≤ n → Sized Q n (root_state j rows)
     unfolding root_state leaf_over
-    root-sized rows h =
-        let l = length-fresh j.uses rows in
-        record { rows = omega arith; entries = ((omega arith, evaluated (span_mode j.uses rows) (fresh j.uses rows) (omega arith)), tt) }
+    root-sized rows h = search (arith, length-fresh)
 
     -- ---- a seed: each row reaches one node
     node-sized : Q M.endless → (node : Node) (i : Info M) (depth : ℕ) (mine : List Row) (s : State M) → length s.rows + length mine ≤ n → Each (Fine Q) s.tree
@@ -139,11 +127,7 @@ module _ {M : Meter} where
 
     settled-fine : (s : State M) → Each (Fine Q) s.tree → Each (Fine Q) (settled_state j s).tree
     unfolding settled_state
-    settled-fine s e = go j.settling
-      where
-        go : (b : Bool) → Each (Fine Q) (cond b (record { rows = settled j.uses s.tree s.rows; tree = s.tree; bits = s.bits }) s).tree
-        go true = e
-        go false = e
+    settled-fine s e = grind arith
 
     finished-fine : (s : State M) (flat : M.Total) → Each (Fine Q) s.tree → (k : ℕ) → Q (get_or (finished j s flat).records k blank_record).info.cost
     unfolding finished result_of

@@ -3,24 +3,22 @@
 use mathlib.Core.Path.{◌≡◌, refl, ap, ◌∙◌, subst}
 use mathlib.Core.Logic.{◌≢◌, ◌⊎◌, inl, inr}
 use Prim.Native.Nat.{ℕ, zero, suc, ◌+◌, ◌*◌, ◌≤◌, ◌<◌}
-use native.Mathlib.Nat.{lt_irrefl}
 use native.Mathlib.Omega.{arith}
 use native.Mathlib.Decide.{ℕ_discrete, dec_lt}
 use mathlib.Core.Bool.{Bool, false}
 use mathlib.Core.List.{List}
-use mathlib.Core.Option.{Option, none, some}
 use lib.ListN.{length, length-map}
 use lib.IntN.{ℤ}
 use lib.Dec.{T, ltb}
 use Rattle.model.specs.Meter.{Meter}
 use Rattle.model.specs.Settings.{props_per_row}
 use Rattle.model.specs.Rows.{Row, Span}
-use Rattle.model.specs.Mode.{fresh, span_mode}
+use Rattle.model.specs.Mode.{span_mode}
 use Rattle.model.specs.Tree.{is_leaf}
 use Rattle.model.specs.Job.{Offer, Job}
 use Rattle.model.specs.Grow.{Entry, State, tree_nodes, leaf_over, gt_rows, le_rows, gt_span, le_span, gt_leaf, le_leaf, become_split, split_at, step, steps}
 use Rattle.model.specs.Learn.{root_state}
-use Rattle.model.specs.Accepting.{OfferFits, JobFits}
+use Rattle.model.specs.Accepting.{JobFits}
 use Rattle.model.specs.Family.{Child}
 use Rattle.model.specs.Kept.{entry_at, Invariant, OfferInRange, EntryFits, Covered, Nested, Healthy}
 use Rattle.model.proofs.Lawful.{Bounds}
@@ -31,17 +29,9 @@ use Rattle.model.proofs.Invariant.{SplitOf, split_of, few_parted}
 use Rattle.model.proofs.Steps.{OneSplit, step_is, step_keeps, steps-keep}
 
 module _ {M : Meter} where
-  offer-range : (rows : List Row) (x : Option (Offer M)) → OfferFits rows x → OfferInRange x
-  offer-range rows none t = tt
-  offer-range rows (some o) t = t.0
-
   pub leaf_over-fits : (B : Bounds M) (j : Job M) (most : ℕ) → JobFits B.Small j most → (rows : List Row) (mode : ℤ) (s : Span) (depth : ℕ) → EntryFits (leaf_over j rows mode s depth)
   unfolding leaf_over
-  leaf_over-fits B j most fit rows mode s depth = record {
-    node_fits = fit.pred_fits mode rows;
-    pred_fits = fit.pred_fits mode rows;
-    offer_fits = offer-range rows (j.offered depth (j.info mode rows).cost rows) (fit.offer_fits depth (j.info mode rows).cost rows);
-  }
+  leaf_over-fits B j most fit rows mode s depth = search arith
 
   pub leaf_over-small : (B : Bounds M) (j : Job M) (most : ℕ) → JobFits B.Small j most → (rows : List Row) (mode : ℤ) (s : Span) (depth : ℕ) → length rows ≤ most → B.Small 1 (M.total (leaf_over j rows mode s depth).info.cost)
   unfolding leaf_over
@@ -193,18 +183,4 @@ module _ {M : Meter} where
     -- one leaf over all rows
     pub root-healthy : Healthy B.Small seeds given (root_state j given)
     unfolding root_state leaf_over
-    root-healthy = record {
-      entries = elim [ zero ↦ λ h. leaf_over-fits B j (length given) fit fr (span_mode j.uses given) whole 0 | suc k ↦ λ h. absurd (lt_irrefl 0 (omega arith)) ];
-      costs = elim [ zero ↦ λ h q. leaf_over-small B j (length given) fit fr (span_mode j.uses given) whole 0 (omega (arith, length-fresh j.uses given)) | suc k ↦ λ h. absurd (lt_irrefl 0 (omega arith)) ];
-      parents = λ k pos h. absurd (lt_irrefl 0 (omega arith));
-      counted = length-fresh j.uses given;
-      covered = λ p h. (0, omega arith, tt, omega arith, omega (arith, length-fresh j.uses given));
-      nested = elim [ zero ↦ λ c h. absurd h | suc a ↦ λ c h. absurd h ];
-      own_below = elim [ zero ↦ λ c h. absurd h | suc a ↦ λ c h. absurd h ];
-    }
-      where
-        fr : List Row
-        fr = fresh j.uses given
-
-        whole : Span
-        whole = record { first = 0; end = length given }
+    root-healthy = search (arith, length-fresh)

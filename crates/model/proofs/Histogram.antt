@@ -1,12 +1,12 @@
 -- A histogram's counts add up to at most the rows, and its extra bits are at most 61 a row. Assumes nothing.
 use mathlib.Core.Path.{◌≡◌, refl}
-use Prim.Native.Nat.{ℕ, zero, suc, ◌+◌, ◌-◌, ◌*◌, ◌/◌, ◌≤◌, ◌<◌}
+use Prim.Native.Nat.{ℕ, zero, suc, ◌+◌, ◌*◌, ◌≤◌, ◌<◌}
 use native.Mathlib.Nat.{mul-le-mul_left}
 use native.Mathlib.Omega.{arith}
-use mathlib.Core.Bool.{Bool, true, false, cond}
+use mathlib.Core.Bool.{cond}
 use mathlib.Core.List.{List, [], ◌∷◌, map}
 use lib.ListN.{length}
-use lib.Dec.{T, ltb, eqb, eqb→eq}
+use lib.Dec.{eqb}
 use Rattle.model.specs.Lists.{range, count_if}
 use Rattle.model.specs.Rows.{Row, tok_of}
 use Rattle.model.specs.Token.{extra_count}
@@ -36,19 +36,11 @@ hits x ts = sum_of (map (λ (t : ℕ). cond (eqb x t) 1 0) ts)
 
 pub hits-before : (x first count : ℕ) → x < first → hits x (range first count) ≡ 0
 hits-before x first zero h = refl
-hits-before x first (suc count) h = go (eqb x first) (eqb→eq x first) (hits-before x (suc first) count (omega arith))
-  where
-    go : (b : Bool) → (T b → x ≡ first) → hits x (range (suc first) count) ≡ 0 → cond b 1 0 + hits x (range (suc first) count) ≡ 0
-    go true e ih = let q = e tt in omega arith
-    go false e ih = omega arith
+hits-before x first (suc count) h = search (arith, hits-before x (suc first) count (omega arith))
 
 hits-once : (x first count : ℕ) → hits x (range first count) ≤ 1
 hits-once x first zero = omega arith
-hits-once x first (suc count) = go (eqb x first) (eqb→eq x first) (hits-once x (suc first) count)
-  where
-    go : (b : Bool) → (T b → x ≡ first) → hits x (range (suc first) count) ≤ 1 → cond b 1 0 + hits x (range (suc first) count) ≤ 1
-    go true e ih = let q = e tt in omega (arith, hits-before x (suc first) count (omega arith))
-    go false e ih = omega arith
+hits-once x first (suc count) = search (arith, hits-before, hits-once x (suc first) count)
 
 -- what has one key is counted at most once
 pub keyed-sum : {A : Type 0} (key : A → ℕ) (first count : ℕ) (xs : List A) → sum_of (map (λ (t : ℕ). count_if (λ (x : A). eqb (key x) t) xs) (range first count)) ≤ length xs
@@ -65,21 +57,12 @@ histogram-sum alphabet p rows = keyed-sum (λ (r : Row). tok_of r p) 0 alphabet 
 -- ---- the extra bits
 extra_count-le : (t : ℕ) → t < 256 → extra_count t ≤ 61
 unfolding extra_count
-extra_count-le t h = go (ltb t 16)
-  where
-    go : (b : Bool) → cond b 0 (t / 4 - 2) ≤ 61
-    go true = omega arith
-    go false = omega arith
+extra_count-le t h = search arith
 
 pub extra_from-le : (t : ℕ) (cs : List ℕ) → t + length cs ≤ 256 → extra_from t cs ≤ 61 * sum_of cs
 unfolding extra_from
 extra_from-le t [] h = omega arith
-extra_from-le t (c ∷ cs) h =
-    let a : c * extra_count t ≤ c * 61 = mul-le-mul_left c (extra_count-le t (omega arith)) in
-    let b : extra_from (suc t) cs ≤ 61 * sum_of cs = extra_from-le (suc t) cs (omega arith) in
-    omega arith
+extra_from-le t (c ∷ cs) h = search (arith, mul-le-mul_left, extra_count-le, extra_from-le (suc t) cs (omega arith))
 
 pub histogram-extra : (alphabet p : ℕ) (rows : List Row) → alphabet ≤ 256 → extra_from 0 (histogram alphabet p rows) ≤ 61 * length rows
-histogram-extra alphabet p rows h =
-    let n = length-histogram alphabet p rows in
-    omega (arith, extra_from-le 0 (histogram alphabet p rows) (omega arith), histogram-sum alphabet p rows)
+histogram-extra alphabet p rows h = search (arith, length-histogram, extra_from-le, histogram-sum)

@@ -16,7 +16,7 @@ use Rattle.model.specs.Settings.{Settings, props_per_row, toks_per_row}
 use Rattle.model.specs.Rows.{Row, is_above}
 use Rattle.model.specs.Cost.{cheapest, first_cheapest, cost_of, is_usable, usable, best_predictor, side_predictors}
 use Rattle.model.specs.Score.{Score, nothing, threshold, lower, side_cost, score_sides, score_at, score_from, score_of}
-use Rattle.model.specs.Evaluate.{Best, nowhere, at, better, property_order, plan_of, is_repeated, best_from, best_split, offer_of, is_scored, info_of, offered}
+use Rattle.model.specs.Evaluate.{Best, nowhere, at, better, property_order, plan_of, is_repeated, best_from, best_split, offer_of, info_of, offered}
 use Rattle.model.specs.Job.{Offer}
 use Rattle.model.specs.Accepting.{OfferFits}
 use Rattle.model.proofs.Counting.{length-keep}
@@ -104,11 +104,7 @@ module _ {M : Meter} (t : Settings M) (logs : List M.Cost) (rows : List Row) whe
   lower-is : (q : ℕ) (s u : Score M) → IsScore q s → IsScore q u → IsScore q (lower s u)
   lower-is q nothing u f g = g
   lower-is q (threshold v c) nothing f g = f
-  lower-is q (threshold v c) (threshold w d) f g = go (M.less d c)
-    where
-      go : (b : Bool) → IsScore q (cond b (threshold w d) (threshold v c))
-      go true = g
-      go false = f
+  lower-is q (threshold v c) (threshold w d) f g = grind arith
 
   score_from_is : (q : ℕ) (score : ℤ → Score M) (best : Score M) (cs : List ℤ) → ((v : ℤ) → Memᴰ v cs → IsScore q (score v)) → IsScore q best → IsScore q (score_from score best cs)
   unfolding score_from
@@ -126,11 +122,7 @@ module _ {M : Meter} (t : Settings M) (logs : List M.Cost) (rows : List Row) whe
   better-is : (b : Best M) (q : ℕ) (s : Score M) → T (is_property q) → IsScore q s → IsBest b → IsBest (better b q s)
   better-is b q nothing i f g = g
   better-is nowhere q (threshold v c) i f g = (i, f)
-  better-is (at p w d) q (threshold v c) i f g = go (M.less c d)
-    where
-      go : (b : Bool) → IsBest (cond b (at q v c) (at p w d))
-      go true = (i, f)
-      go false = g
+  better-is (at p w d) q (threshold v c) i f g = grind arith
 
   best_from_is : (best : Best M) (qs : List ℕ) → T (all is_property qs) → IsBest best → IsBest (best_from t logs (side_predictors t logs rows) rows best qs)
   unfolding best_from
@@ -161,26 +153,11 @@ module _ {M : Meter} (t : Settings M) (logs : List M.Cost) (rows : List Row) whe
   offer_of_is : (cost : M.Cost) (b : Best M) → IsBest b → IsOffer cost (offer_of t cost b)
   unfolding offer_of
   offer_of_is cost nowhere f = tt
-  offer_of_is cost (at q v c) f = go (M.less M.nought g) refl
-    where
-      g : M.Cost
-      g = M.minus (M.minus cost c) t.split_cost
-
-      go : (b : Bool) → M.less M.nought g ≡ b → IsOffer cost (cond b (some (record { prop = q; val = v; gain = g })) none)
-      go true e = record { property = f.0; bits = c; scored = f.1; gain = refl; gains = rw e tt }
-      go false e = tt
+  offer_of_is cost (at q v c) f = grind arith
 
   pub offered-is : (depth : ℕ) (cost : M.Cost) → IsOffer cost (offered t logs depth cost rows)
   unfolding offered
-  offered-is depth cost = go (is_scored t depth cost rows)
-    where
-      go : (b : Bool) → IsOffer cost (cond b (offer_of t cost (best_split t logs rows)) none)
-      go true = offer_of_is cost (best_split t logs rows) best-is
-      go false = tt
+  offered-is depth cost = search (arith, offer_of_is, best-is)
 
   pub offered-fits : (depth : ℕ) (cost : M.Cost) → OfferFits rows (offered t logs depth cost rows)
-  offered-fits depth cost = go (offered t logs depth cost rows) (offered-is depth cost)
-    where
-      go : (o : Option (Offer M)) → IsOffer cost o → OfferFits rows o
-      go none p = tt
-      go (some o) p = (p.property, p.scored.some_above, p.scored.not_all_above)
+  offered-fits depth cost = search (arith, offered-is)

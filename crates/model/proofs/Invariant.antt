@@ -4,9 +4,9 @@ use mathlib.Core.Logic.{◌≢◌, ◌⊎◌, inl, inr}
 use Prim.Native.Nat.{ℕ, suc, ◌+◌, ◌-◌, ◌≤◌, ◌<◌}
 use native.Mathlib.Omega.{arith}
 use native.Mathlib.Decide.{ℕ_discrete, dec_lt}
-use mathlib.Core.Bool.{Bool, true, false, cond, not, ◌&&◌, and_assoc, true≢false}
+use mathlib.Core.Bool.{Bool, true, false, cond, not, ◌&&◌, and_assoc}
 use mathlib.Core.List.{List, map}
-use mathlib.Core.Option.{Option, none, some}
+use mathlib.Core.Option.{none, some}
 use lib.ListN.{length, get_or, length-map, get_or-map, get_or-eq_default}
 use lib.Seq.{slice, length-slice}
 use lib.Dec.{T, eqb}
@@ -40,11 +40,7 @@ T-not-both true t f = f
 T-not-both false t f = t
 
 pub none_is_no_some : {A : Type 0} (x : A) → none ≡ some x → ⊥
-none_is_no_some {A} x p = subst D p tt
-  where
-    D : Option A → Type 0
-    D none = Unit {0}
-    D (some y) = ⊥
+none_is_no_some {A} x p = grind arith
 
 child-gt : (b : Bool) (m : ℕ) → eqb (cond b m (suc m)) m ≡ b
 child-gt true m = eqb_same m
@@ -354,29 +350,13 @@ module _ {M : Meter} where
         (λ lf. subst IsFresh (sym (ap (λ (x : Entry M). x.span) tree_le ∙ le_e_span)) fresh_le)
 
     split_offers : (k : ℕ) → k < suc (suc n) → (p : Offer M) → (entry_at tree' k).offer ≡ some p → T (is_leaf (entry_at tree' k).node)
-    split_offers = new-cases {P = λ (k : ℕ). (p : Offer M) → (entry_at tree' k).offer ≡ some p → T (is_leaf (entry_at tree' k).node)} n i
-        (λ k h ne. rw (tree_old k h ne) (inv.offers k h))
-        (rw tree_at (λ p q. absurd (no_offer p q)))
-        (rw tree_gt (λ p q. gt_e_leaf))
-        (rw tree_le (λ p q. le_e_leaf))
+    split_offers = search (arith, tree_old, tree_at, no_offer, tree_gt, gt_e_leaf, tree_le, le_e_leaf)
 
     split_own : (k : ℕ) → T (is_leaf (entry_at tree' k).node) → seeds k ≡ false
-    split_own k = elim (dec_lt k n) [ yes h ↦ elim (ℕ_discrete k i) [ yes q ↦ at_i q | no ne ↦ rw (tree_old k h ne) (inv.own k) ] | no h ↦ λ t. inv.own k (beyond (omega arith)) ]
-      where
-        at_i : k ≡ i → T (is_leaf (entry_at tree' k).node) → seeds k ≡ false
-        at_i q = rw (q, tree_at) (λ t. absurd (not_leaf t))
-
-        beyond : n ≤ k → T (is_leaf (entry_at s.tree k).node)
-        beyond h = rw (get_or-eq_default s.tree no_entry h) tt
+    split_own k = search (arith, tree_old, get_or-eq_default)
 
     split_endless : (k : ℕ) → seeds k ≡ true → (entry_at tree' k).info.cost ≡ M.endless
-    split_endless k q = elim (dec_lt k n) [ yes h ↦ elim (ℕ_discrete k i) [ yes z ↦ absurd (at_i z) | no ne ↦ rw (tree_old k h ne) (inv.endless k q) ] | no h ↦ absurd (beyond (omega arith)) ]
-      where
-        at_i : k ≡ i → ⊥
-        at_i z = true≢false (sym q ∙ ap seeds z ∙ inv.own i was)
-
-        beyond : n ≤ k → ⊥
-        beyond h = true≢false (sym q ∙ inv.own k (rw (get_or-eq_default s.tree no_entry h) tt))
+    split_endless k q = search (arith, tree_old, get_or-eq_default)
 
     -- ---- how the spans lie
     split_family : Family (tree_nodes tree')
@@ -417,10 +397,7 @@ module _ {M : Meter} where
     span_of' k = (entry_at tree' k).span
 
     span_old : (k : ℕ) → k < n → span_of' k ≡ (entry_at s.tree k).span
-    span_old k h = elim (ℕ_discrete k i) [
-      | yes q ↦ ap (λ (m : ℕ). (entry_at tree' m).span) q ∙ ap (λ (x : Entry M). x.span) tree_at ∙ same_span ∙ ap (λ (m : ℕ). (entry_at s.tree m).span) (sym q)
-      | no ne ↦ ap (λ (x : Entry M). x.span) (tree_old k h ne)
-    ]
+    span_old k h = search (arith, tree_at, same_span, tree_old)
 
     span_gt : span_of' n ≡ gt_e.span
     span_gt = ap (λ (x : Entry M). x.span) tree_gt
@@ -457,17 +434,7 @@ module _ {M : Meter} where
 
     pub split_keeps : Invariant j.uses seeds given (split_at j s i o)
     unfolding split_at
-    split_keeps = record {
-      family = split_family;
-      rooted = rw length_tree' (omega arith);
-      bounds = λ k h. split_bounds k (rw length_tree' at h);
-      own = split_own;
-      endless = split_endless;
-      laid = λ x k hx hk. split_laid x k (rw length_tree' at hx) (rw length_tree' at hk);
-      holds = λ k h. split_holds k (rw length_tree' at h);
-      fresh_tokens = λ k h. split_fresh k (rw length_tree' at h);
-      offers = λ k h. split_offers k (rw length_tree' at h);
-    }
+    split_keeps = search (arith, split_family, length_tree', split_bounds, split_own, split_endless, split_laid, split_holds, split_fresh, split_offers)
 
     children_of_lem : (x c : ℕ) → Child (tree_nodes tree') x c → ((x ≡ i) × ((c ≡ n) ⊎ (c ≡ suc n))) ⊎ Child old x c
     children_of_lem x c h = go (child-from old inv.family i inside_old was_old o.prop o.val x c (rw new_is at h))

@@ -2,11 +2,11 @@
 use mathlib.Core.Path.{◌≡◌, refl}
 use Prim.Native.Nat.{ℕ, zero, suc, ◌+◌, ◌≤◌, ◌<◌}
 use native.Mathlib.Omega.{arith}
-use mathlib.Core.Bool.{Bool, true, false, cond, not}
+use mathlib.Core.Bool.{Bool, not}
 use mathlib.Core.List.{List, [], ◌∷◌}
 use lib.ListN.{length, get_or}
 use lib.Dec.{T}
-use lib.Ieee.Fits.{and_i, and_l, and_r}
+use lib.Ieee.Fits.{and_l, and_r}
 use Rattle.model.specs.Lists.{count_if, keep, all}
 use Rattle.model.proofs.Counting.{length-keep, count_at_most}
 
@@ -14,12 +14,7 @@ module _ {ℓ} {A : Type ℓ} where
   -- an element passes a test or its opposite
   pub count-not : (p : A → Bool) (xs : List A) → count_if p xs + count_if (λ (x : A). not (p x)) xs ≡ length xs
   count-not p [] = refl
-  count-not p (x ∷ xs) = go (p x) (count-not p xs)
-    where
-      go : (b : Bool) → count_if p xs + count_if (λ (x : A). not (p x)) xs ≡ length xs
-          → cond b 1 0 + count_if p xs + (cond (not b) 1 0 + count_if (λ (x : A). not (p x)) xs) ≡ suc (length xs)
-      go true ih = omega arith
-      go false ih = omega arith
+  count-not p (x ∷ xs) = search (arith, count-not p xs)
 
   pub length_keep_le : (p : A → Bool) (xs : List A) → length (keep p xs) ≤ length xs
   length_keep_le p xs = omega (arith, length-keep p xs, count_at_most p xs)
@@ -33,17 +28,9 @@ module _ {ℓ} {A : Type ℓ} where
   -- what every element passes, the kept ones pass
   pub all_keep : (p q : A → Bool) (xs : List A) → T (all p xs) → T (all p (keep q xs))
   all_keep p q [] t = tt
-  all_keep p q (x ∷ xs) t = go (q x) (all_keep p q xs (and_r (p x) (all p xs) t))
-    where
-      go : (b : Bool) → T (all p (keep q xs)) → T (all p (cond b (x ∷ keep q xs) (keep q xs)))
-      go true u = and_i (p x) (all p (keep q xs)) (and_l (p x) (all p xs) t) u
-      go false u = u
+  all_keep p q (x ∷ xs) t = search (arith, all_keep p q xs (and_r (p x) (all p xs) t))
 
   -- the kept ones pass the test
   pub all-kept : (p : A → Bool) (xs : List A) → T (all p (keep p xs))
   all-kept p [] = tt
-  all-kept p (x ∷ xs) = go (p x) refl (all-kept p xs)
-    where
-      go : (b : Bool) → p x ≡ b → T (all p (keep p xs)) → T (all p (cond b (x ∷ keep p xs) (keep p xs)))
-      go true e u = and_i (p x) (all p (keep p xs)) (rw e tt) u
-      go false e u = u
+  all-kept p (x ∷ xs) = search (arith, all-kept p xs)

@@ -85,10 +85,7 @@ module _ {M : Meter} (B : Bounds M) where
 
     -- nodes + 1 = 2 × leaves
     seed-count : length seed + 1 ≡ 2 * leaf_count (nodes_of seed)
-    seed-count =
-        let n = length-map seed (λ (r : Record M). r.node) in
-        let c = tree-count (nodes_of seed) (sound seed faultless).rooted (omega (arith, n, (sound-count seed faultless).0)) in
-        omega arith
+    seed-count = search (arith, length-map, tree-count, sound, sound-count)
 
     deeper-few : length deeper.tree ≤ max (2 * limit - 1) (length seed)
     deeper-few = omega (arith, deeper-healthy.1, seed-length B j seed rows fit faultless, seed-count)
@@ -129,11 +126,4 @@ module _ {M : Meter} (B : Bounds M) where
           rw e (steps-more j unpruned (seed_splits B j seed rows fit faultless) rows (seed_state j seed rows) (j.flat rows) (seed_keeps B j seed rows fit faultless) (k - leaves))
 
   pub result-laws : ResultLaws B
-  result-laws = record {
-    learned_kept = λ j limit rows fit low high. learned_kept j limit rows fit low high;
-    learned_fresh = λ j limit rows fit low high. learned_fresh j limit rows fit low high;
-    learned_more = learned_more;
-    deepened_kept = λ j limit seed rows fit faultless high. deepened_kept j limit seed rows fit faultless high;
-    deepened_fresh = λ j limit seed rows fit faultless high. deepened_fresh j limit seed rows fit faultless high;
-    deepened_more = deepened_more;
-  }
+  result-laws = search (arith, learned_kept, learned_fresh, learned_more, deepened_kept, deepened_fresh, deepened_more)

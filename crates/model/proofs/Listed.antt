@@ -1,16 +1,15 @@
 -- Rows in the lent flat lists: what the lists at exit hold is the result's rows. Assumes nothing.
 use mathlib.Core.Path.{◌≡◌, refl, sym, ap, ◌∙◌}
-use mathlib.Core.Logic.{◌⊎◌, inl, inr}
 use Prim.Native.Nat.{ℕ, zero, suc, ◌*◌, ◌/◌, ◌≤◌}
 use native.Mathlib.Omega.{arith}
-use mathlib.Core.Bool.{Bool, true, false, not, cond, true≢false}
+use mathlib.Core.Bool.{Bool, true, false, cond}
 use mathlib.Core.List.{List, [], ◌∷◌}
 use lib.ListN.{length, get_or, drop, length-append, length-drop, length-set, length-map}
 use lib.Seq.{take_at, drop_at, length-take-le}
 use lib.IntN.{ℤ, pos}
-use lib.Dec.{T, eqb, ltb, eqb→eq, lt→ltb}
+use lib.Dec.{T, eqb, eqb→eq}
 use lib.Ieee.Fits.{and_i, and_l, and_r}
-use Rattle.model.specs.Lists.{all, is_empty, eq_z}
+use Rattle.model.specs.Lists.{all, eq_z}
 use Rattle.model.specs.Meter.{Meter}
 use Rattle.model.specs.Settings.{props_per_row, toks_per_row}
 use Rattle.model.specs.Rows.{Row, rows_of, joined, props_of, toks_of, res_of}
@@ -39,10 +38,7 @@ all_more p q (x ∷ xs) h t = and_i (q x) (all q xs) (h x (and_l (p x) (all p xs
 -- the parts of rows end to end are as long as the parts together
 length-joined : {A : Type 0} (part : Row → List A) (w : ℕ) (rows : List Row) → T (all (λ (r : Row). eqb (length (part r)) w) rows) → length (joined part rows) ≡ w * length rows
 length-joined part w [] t = omega arith
-length-joined part w (r ∷ rs) t =
-    let here = eqb→eq (length (part r)) w (and_l (eqb (length (part r)) w) _ t) in
-    let further = length-joined part w rs (and_r (eqb (length (part r)) w) _ t) in
-    omega (arith, length-append (part r) (joined part rs))
+length-joined part w (r ∷ rs) t = search (arith, length-append, length-joined part w rs (and_r (eqb (length (part r)) w) _ t))
 
 -- rows that are written and read back; the residuals are written if `given`, and else each is 0
 listed : (given : Bool) (rows : List Row) → T (all has_props rows) → T (all has_toks rows) → (given ≡ false → T (all has_no_res rows))
@@ -97,17 +93,10 @@ module _ {M : Meter} (x : Lent M) (even : Even x) where
   rows_in-toks = wide.1
 
   pub rows_in-tokens : T (all has_tokens (rows_in x))
-  rows_in-tokens = all_more has_toks has_tokens (rows_in x) (λ w t. some-token (length w.toks) t) rows_in-toks
-    where
-      some-token : (n : ℕ) → T (eqb n toks_per_row) → T (ltb 0 n)
-      some-token n t = let e = eqb→eq n toks_per_row t in lt→ltb 0 n (omega arith)
+  rows_in-tokens = search (arith, all_more, rows_in-toks)
 
   rows_in-bare : has_residuals x ≡ false → T (all has_no_res (rows_in x))
-  rows_in-bare e = go x.res e
-    where
-      go : (rs : List ℤ) → not (is_empty rs) ≡ false → T (all has_no_res (rows_of (row_count x) x.props x.toks rs))
-      go [] e = rows-bare (row_count x) x.props x.toks
-      go (r ∷ rs) e = absurd (true≢false e)
+  rows_in-bare e = search (arith, rows-bare)
 
   -- ---- the lists at exit, if the result kept the rows
   module _ (uses : Bool) (most : ℕ) (r : Result M) (kept : ResultKept uses (rows_in x) most r) where
@@ -140,9 +129,4 @@ module _ {M : Meter} (x : Lent M) (even : Even x) where
 
     pub exit_res : length (lent_after r x).res ≡ length x.res
     unfolding lent_after
-    exit_res = go x.res even.res
-      where
-        go : (rs : List ℤ) → (length rs ≡ 0) ⊎ (length rs ≡ row_count x) → length (cond (not (is_empty rs)) (res_of r.rows) []) ≡ length rs
-        go [] e = refl
-        go (v ∷ rs) (inl e) = absurd (omega arith)
-        go (v ∷ rs) (inr e) = length-map r.rows (λ (w : Row). w.res) ∙ as_many ∙ sym e
+    exit_res = search (arith, length-map, as_many)

@@ -1,24 +1,23 @@
 -- The answer depends only on the logarithms 1 to the number of rows: entry 0 and the entries past the rows are never read, whatever the meter.
 -- Assumes nothing.
 use mathlib.Core.Path.{◌≡◌, refl, sym, ap, ◌∙◌, fun_ext}
-use Prim.Native.Nat.{ℕ, zero, suc, ◌+◌, ◌-◌, ◌≤◌, ◌<◌, max}
-use native.Mathlib.Nat.{le_trans}
+use Prim.Native.Nat.{ℕ, zero, suc, ◌-◌, ◌≤◌, ◌<◌, max}
 use native.Mathlib.Omega.{arith}
-use mathlib.Core.Bool.{cond, not}
+use mathlib.Core.Bool.{cond}
 use mathlib.Core.List.{List, [], ◌∷◌}
 use mathlib.Core.Option.{none}
 use lib.ListN.{length, get_or, take, drop}
-use lib.Seq.{get_or-take, get_or-drop}
+use lib.Seq.{get_or-take}
 use lib.IntN.{ℤ, pos}
 use lib.Dec.{eqb}
-use Rattle.model.specs.Lists.{range, keep}
+use Rattle.model.specs.Lists.{range}
 use Rattle.model.specs.Meter.{Meter}
 use Rattle.model.specs.Settings.{Settings}
-use Rattle.model.specs.Rows.{Row, is_above, prop_of}
+use Rattle.model.specs.Rows.{Row}
 use Rattle.model.specs.Cost.{histogram, extra_from, log_of, with_count, entropy_from, histogram_cost, first_cheapest, by_cost, cost_of, usable, best_predictor, side_predictors}
 use Rattle.model.specs.Score.{Score, nothing, lowest_cost, side_cost, score_sides, score_at, score_from, score_of}
-use Rattle.model.specs.Evaluate.{Best, nowhere, better, property_order, plan_of, is_repeated, best_from, best_split, offer_of, is_scored, info_of, offered}
-use Rattle.model.specs.Flat.{clamped, group_of, with_group, flat_from, flat_bits}
+use Rattle.model.specs.Evaluate.{Best, best_from, best_split, offer_of, is_scored, info_of, offered}
+use Rattle.model.specs.Flat.{with_group, flat_from, flat_bits}
 use Rattle.model.proofs.Histogram.{sum_of, histogram-sum}
 use Rattle.model.proofs.Keeping.{length_keep_le}
 
@@ -29,9 +28,7 @@ Alike M n logs logs' = (c : ℕ) → 0 < c → c ≤ n → log_of M logs c ≡ l
 -- what a check reads of them
 pub log_read : (M : Meter) (n : ℕ) (logs : List M.Cost) (c : ℕ) → 0 < c → c ≤ n → get_or (take n (drop 1 logs)) (c - 1) M.nought ≡ log_of M logs c
 unfolding log_of
-log_read M n logs c p k =
-    let there : 1 + (c - 1) ≡ c = omega arith in
-    get_or-take n (drop 1 logs) (c - 1) M.nought (omega arith) ∙ get_or-drop 1 logs (c - 1) M.nought ∙ ap (λ (i : ℕ). get_or logs i M.nought) there
+log_read M n logs c p k = search (arith, get_or-take)
 
 pub read_alike : (M : Meter) (n : ℕ) (logs logs' : List M.Cost) → take n (drop 1 logs) ≡ take n (drop 1 logs') → Alike M n logs logs'
 read_alike M n logs logs' e c p k = sym (log_read M n logs c p k) ∙ ap (λ (l : List M.Cost). get_or l (c - 1) M.nought) e ∙ log_read M n logs' c p k
@@ -83,8 +80,7 @@ module _ (M : Meter) (n : ℕ) (logs logs' : List M.Cost) (alike : Alike M n log
 
     score_at_alike : (ps : List ℕ) (q : ℕ) (rows : List Row) → length rows ≤ n → score_at t logs ps q rows ≡ score_at t logs' ps q rows
     unfolding score_at
-    score_at_alike ps q rows h = fun_ext (λ v. score_sides_alike ps v (keep (λ (r : Row). not (is_above q v r)) rows) (keep (is_above q v) rows)
-        (le_trans (length_keep_le (λ (r : Row). not (is_above q v r)) rows) h) (le_trans (length_keep_le (is_above q v) rows) h))
+    score_at_alike ps q rows h = search (arith, score_sides_alike, length_keep_le)
 
     pub score_alike : (ps : List ℕ) (q : ℕ) (rows : List Row) (cs : List ℤ) → length rows ≤ n → score_of t logs ps q rows cs ≡ score_of t logs' ps q rows cs
     unfolding score_of
@@ -94,15 +90,11 @@ module _ (M : Meter) (n : ℕ) (logs logs' : List M.Cost) (alike : Alike M n log
     best_from_alike : (ps : List ℕ) (rows : List Row) → length rows ≤ n → (best : Best M) (qs : List ℕ) → best_from t logs ps rows best qs ≡ best_from t logs' ps rows best qs
     unfolding best_from
     best_from_alike ps rows h best [] = refl
-    best_from_alike ps rows h best (q ∷ qs) =
-        ap (λ (s : Score M). best_from t logs ps rows (cond (is_repeated t rows q) best (better best q s)) qs) (score_alike ps q rows (plan_of t rows q) h)
-        ∙ best_from_alike ps rows h (cond (is_repeated t rows q) best (better best q (score_of t logs' ps q rows (plan_of t rows q)))) qs
+    best_from_alike ps rows h best (q ∷ qs) = search (arith, score_alike)
 
     best-alike : (rows : List Row) → length rows ≤ n → best_split t logs rows ≡ best_split t logs' rows
     unfolding best_split
-    best-alike rows h =
-        ap (λ (ps : List ℕ). best_from t logs ps rows nowhere (property_order t.weighted)) (side_predictors_alike rows h)
-        ∙ best_from_alike (side_predictors t logs' rows) rows h nowhere (property_order t.weighted)
+    best-alike rows h = search (arith, side_predictors_alike, best_from_alike)
 
     pub offered-alike : (depth : ℕ) (cost : M.Cost) (rows : List Row) → length rows ≤ n → offered t logs depth cost rows ≡ offered t logs' depth cost rows
     unfolding offered
@@ -116,9 +108,7 @@ module _ (M : Meter) (n : ℕ) (logs logs' : List M.Cost) (alike : Alike M n log
     flat_from_alike : (rows : List Row) → length rows ≤ n → (bits : M.Total) (cs : List ℕ) → flat_from t logs rows bits cs ≡ flat_from t logs' rows bits cs
     unfolding flat_from
     flat_from_alike rows h bits [] = refl
-    flat_from_alike rows h bits (c ∷ cs) =
-        ap (λ (b : M.Total). flat_from t logs rows b cs) (group-alike bits (group_of c rows) (le_trans (length_keep_le (λ (r : Row). eqb (clamped (prop_of r 0)) c) rows) h))
-        ∙ flat_from_alike rows h (with_group t logs' bits (group_of c rows)) cs
+    flat_from_alike rows h bits (c ∷ cs) = search (arith, group-alike, length_keep_le)
 
     pub flat-alike : (rows : List Row) → length rows ≤ n → flat_bits t logs rows ≡ flat_bits t logs' rows
     unfolding flat_bits

@@ -1,11 +1,11 @@
 -- Lookup of 24 properties in a sound tree refuses nothing, and what an accepted lookup answers is a leaf of the list. Assumes nothing.
-use mathlib.Core.Path.{◌≡◌, refl, sym, ◌∙◌}
+use mathlib.Core.Path.{◌≡◌, refl, sym}
 use Prim.Native.Nat.{ℕ, zero, suc, ◌+◌, ◌≤◌, ◌<◌}
 use native.Mathlib.Nat.{lt_irrefl}
 use native.Mathlib.Omega.{arith}
 use mathlib.Core.Bool.{true, cond}
 use mathlib.Core.List.{List}
-use mathlib.Core.Option.{Option, none, some}
+use mathlib.Core.Option.{none, some}
 use lib.ListN.{length, get_or}
 use lib.IntN.{ℤ}
 use lib.Dec.{T, ltb, ltb→lt}
@@ -13,12 +13,12 @@ use Rattle.model.specs.Meter.{Meter}
 use Rattle.model.specs.Settings.{props_per_row, toks_per_row}
 use Rattle.model.specs.Tree.{Node, split, leaf, is_leaf, Record, blank_record, nodes_of, towards, follow, reach, leaf_reached, is_orderly, fault_of, fault_on_way}
 use Rattle.model.specs.Lent.{Stored, tree_in}
-use Rattle.model.specs.Refuse.{Refusal, lookup_refusal}
-use Rattle.model.specs.Operations.{accepted, outcome_of, Found, lookup}
+use Rattle.model.specs.Refuse.{lookup_refusal}
+use Rattle.model.specs.Operations.{accepted, Found, lookup}
 use Rattle.model.specs.Family.{Forward}
-use Rattle.model.proofs.Paths.{T→true, eqb-other, towards_in}
+use Rattle.model.proofs.Paths.{T→true, towards_in}
 use Rattle.model.proofs.Invariant.{none_is_no_some}
-use Rattle.model.proofs.Tests.{and_both, neither, unequal, not-below, passed, named, unnamed}
+use Rattle.model.proofs.Tests.{and_both, unnamed}
 use Rattle.model.proofs.NodeEntries.{length-tree}
 use Rattle.model.proofs.Sound.{same_length, node_at, sound, sound-count, orderly}
 
@@ -74,10 +74,6 @@ pub record FoundIn {M : Meter} (nodes : List (Stored M)) (count : ℕ) (ps : Lis
   pub pred : f.pred ≡ (get_or (tree_in count nodes) f.leaf blank_record).info.pred
   pub in_range : f.pred < toks_per_row
 
-found-by : (o : Option Refusal) (answer f : Found) → outcome_of o answer ≡ accepted f → (o ≡ none) × (f ≡ answer)
-found-by none answer f e = (refl, (cc))
-found-by (some r) answer f e = let z : ◌≡◌ {A = ℕ} 0 1 = cc in absurd (omega arith)
-
 module _ {M : Meter} (nodes : List (Stored M)) (count : ℕ) (ps : List ℤ) where
   abbrev tree : List (Record M)
   tree = tree_in count nodes
@@ -87,18 +83,9 @@ module _ {M : Meter} (nodes : List (Stored M)) (count : ℕ) (ps : List ℤ) whe
 
   pub lookup-accepted : (f : Found) → lookup nodes count ps ≡ accepted f → FoundIn nodes count ps f
   unfolding lookup lookup_refusal leaf_reached
-  lookup-accepted f e =
-      let h = found-by (lookup_refusal nodes count ps) answer f e in
-      let c = simp (passed, named, neither, unequal, not-below) at h.0 in
-      let n = length-tree count nodes c.1.0.1 in
-      let whole : length (nodes_of tree) ≡ count = same_length tree ∙ n in
-      let end : IsEnd tree ps (leaf_reached (nodes_of tree) ps) = rw whole (orderly-way tree ps count 0 (omega (arith, n)) c.1.1.0) in
-      rw h.1 (record { reached = refl; inside = omega (arith, n); is_leaf = end.1; pred = refl; in_range = end.2 })
+  lookup-accepted f e = search (arith, length-tree, same_length, orderly-way)
 
   -- in a sound tree at the front of the list no lookup of 24 properties is refused
   pub looked_up : count ≤ length nodes → fault_of tree ≡ none → length ps ≡ props_per_row → lookup nodes count ps ≡ accepted answer
   unfolding lookup lookup_refusal
-  looked_up inside faultless w =
-      let n = length-tree count nodes inside in
-      let some-node = (sound-count tree faultless).0 in
-      rw (w, eqb-other count 0 (λ (e : count ≡ 0). lt_irrefl 0 (omega arith)), (not-below (length nodes) count).1 inside, way-clear tree faultless ps count 0 some-node (omega arith))
+  looked_up inside faultless w = search (arith, length-tree, sound-count, way-clear)

@@ -25,11 +25,7 @@ Ascending (p ∷ ps) = Each (λ (q : ℕ). p < q) ps × Ascending ps
 
 keep-above : (test : ℕ → Bool) (p first count : ℕ) → p < first → Each (λ (q : ℕ). p < q) (keep test (range first count))
 keep-above test p first zero h = tt
-keep-above test p first (suc count) h = go (test first) (keep-above test p (suc first) count (omega arith))
-  where
-    go : (b : Bool) → Each (λ (q : ℕ). p < q) (keep test (range (suc first) count)) → Each (λ (q : ℕ). p < q) (cond b (first ∷ keep test (range (suc first) count)) (keep test (range (suc first) count)))
-    go true e = (h, e)
-    go false e = e
+keep-above test p first (suc count) h = search (arith, keep-above test p (suc first) count (omega arith))
 
 keep-ascends : (test : ℕ → Bool) (first count : ℕ) → Ascending (keep test (range first count))
 keep-ascends test first zero = tt

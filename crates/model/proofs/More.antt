@@ -15,7 +15,6 @@ use Rattle.model.specs.Mode.{fresh}
 use Rattle.model.specs.Tree.{leaf, is_leaf, Record, blank_record}
 use Rattle.model.specs.Job.{Offer, Job, prunes}
 use Rattle.model.specs.Grow.{Entry, State, no_entry, tree_nodes, record_of, leaf_over, gt_leaf, le_leaf, become_split, grown_bits, split_at, step, steps}
-use Rattle.model.specs.Prune.{pruned_tree, pruned_bits}
 use Rattle.model.specs.Settle.{settled}
 use Rattle.model.specs.Learn.{Result, result_of, leaf_count, pruned, settled_state, finished}
 use Rattle.model.specs.Kept.{entry_at, Invariant}
@@ -58,19 +57,7 @@ module _ {M : Meter} where
   pub finished-plain : (j : Job M) → prunes j ≡ false → (seeds : ℕ → Bool) (given : List Row) (s : State M) (flat : M.Total) → Invariant j.uses seeds given s
       → finished j s flat ≡ plain s flat
   unfolding finished settled_state pruned plain
-  finished-plain j unpruned seeds given s flat inv =
-      ap (λ (b : Bool). result_of (cond j.settling (after (cond b cut s)) (cond b cut s)) (length s.tree) flat) unpruned
-      ∙ ap (λ (f : State M). result_of f (length s.tree) flat) (either j.settling)
-    where
-      cut : State M
-      cut = record { rows = s.rows; tree = pruned_tree j.price s.tree; bits = pruned_bits j.price s.tree }
-
-      after : State M → State M
-      after f = record { rows = settled j.uses f.tree f.rows; tree = f.tree; bits = f.bits }
-
-      either : (b : Bool) → cond b (after s) s ≡ s
-      either true = ap (λ (l : List Row). record { rows = l; tree = s.tree; bits = s.bits }) (settled_same j.uses s.tree s.rows (λ k h. ((inv.bounds k h).0, inv.fresh_tokens k h)))
-      either false = refl
+  finished-plain j unpruned seeds given s flat inv = search (arith, settled_same)
 
   -- nothing is vacated
   all-entries : (s : State M) → s.tree ++ replicate (length s.tree - length s.tree) no_entry ≡ s.tree
@@ -127,8 +114,7 @@ module _ {M : Meter} where
     same_span = refl
 
     spans-more : (plain t flat).spans ≡ (plain s flat).spans ++ (gt.span ∷ le.span ∷ [])
-    spans-more = spans-plain t flat ∙ ap (map (λ (x : Entry M). x.span)) tree_is ∙ map-append (λ (x : Entry M). x.span) (set s.tree i (become_split e o (length s.tree))) (gt ∷ le ∷ [])
-        ∙ ap (λ (l : List Span). l ++ (gt.span ∷ le.span ∷ [])) (set_same (λ (x : Entry M). x.span) s.tree i (become_split e o (length s.tree)) no_entry same_span ∙ sym (spans-plain s flat))
+    spans-more = search (arith, spans-plain, tree_is, map-append, set_same, same_span)
 
     no_leaf : is_leaf (become_split e o (length s.tree)).node ≡ false
     unfolding become_split

@@ -1,6 +1,6 @@
 -- Costs in single precision are finite and never -0, and so are the costs of thresholds and the gains that are offered: ordinary comparison orders them
 -- as Rust's `total_cmp` does. Assumes nothing.
-use mathlib.Core.Path.{◌≡◌, refl, subst}
+use mathlib.Core.Path.{◌≡◌, refl}
 use mathlib.Core.Logic.{◌⊎◌, inl, inr}
 use Prim.Native.Nat.{ℕ, zero, suc, ◌*◌, ◌^◌, ◌≤◌}
 use native.Mathlib.Nat.{le_trans}
@@ -9,7 +9,7 @@ use mathlib.Core.Bool.{Bool, true, false, not, cond}
 use mathlib.Core.List.{List, [], ◌∷◌}
 use mathlib.Core.Option.{some}
 use lib.ListN.{length, get_or}
-use lib.IntN.{ℤ, pos}
+use lib.IntN.{ℤ}
 use lib.Dec.{T, lit≤, lit<}
 use lib.Ieee.{Float, nan, inf, fin, binary32, add, sub, mul, neg, lt, fits}
 use lib.Ieee.Fits.{add-fits, sub-fits, mul-fits, of_int-fits}
@@ -20,7 +20,7 @@ use Rattle.ieee.specs.Order.{Comparison, comparison, below_infinity}
 use Rattle.model.specs.Settings.{Settings, max_rows}
 use Rattle.model.specs.Lists.{keep}
 use Rattle.model.specs.Rows.{Row, is_above}
-use Rattle.model.specs.Cost.{histogram, extra_from, log_of, with_count, entropy_from, histogram_cost, cost_of, best_predictor, side_predictors}
+use Rattle.model.specs.Cost.{log_of, with_count, entropy_from, histogram_cost, cost_of, best_predictor, side_predictors}
 use Rattle.model.specs.Score.{lowest_cost, side_cost}
 use Rattle.model.specs.Evaluate.{info_of, offered}
 use Rattle.model.specs.Tree.{Record, blank_record}
@@ -31,7 +31,7 @@ use Rattle.model.specs.Single.{singles, single_of}
 use Rattle.model.specs.Profile.{job_of, single}
 use Rattle.model.specs.Accepting.{LogsWithin}
 use Rattle.model.proofs.Keeping.{length_keep_le}
-use Rattle.model.proofs.InRange.{Offers, IsOffer, offered-is}
+use Rattle.model.proofs.InRange.{Offers, offered-is}
 use Rattle.model.proofs.Growing.{learned-costs, deepened-costs}
 use Rattle.model.proofs.Bounded.{held, cost-within, price-within}
 
@@ -67,10 +67,7 @@ entropy_plus logs top bits (suc c ∷ cs) h =
 
 cost-plus : (t : Settings singles) (logs : List Float) (rows : List Row) (p : ℕ) → Plus (cost_of t logs rows p)
 unfolding cost_of histogram_cost
-cost-plus t logs rows p =
-    let h = histogram t.alphabet p rows in
-    let top = log_of singles logs (length rows) in
-    plus-add (entropy_from singles logs top singles.nought h) (single_of (extra_from 0 h)) (entropy_plus logs top singles.nought h plus-nought) (of_int-fits binary32 (pos (extra_from 0 h)))
+cost-plus t logs rows p = search (arith, plus-add, entropy_plus, plus-nought, of_int-fits)
 
 nought-ordinary : Ordinary singles.nought
 nought-ordinary = record { is_finite = tt; is_single = plus-nought.0; not_minus_zero = plus-nought.1 }
@@ -185,6 +182,4 @@ module _ (t : Settings singles) (logs : List Float) (n : ℕ) (small : t.alphabe
 
     pub gain-ordinary : (depth : ℕ) (mode : ℤ) (rows : List Row) (o : Offer singles) → length rows ≤ n → offered t logs depth (info_of t logs mode rows).cost rows ≡ some o → Ordinary o.gain
     unfolding info_of
-    gain-ordinary depth mode rows o h e =
-        let cost = cost_of t logs rows (best_predictor t logs rows) in
-        offer-ordinary rows cost o h (cost_bounded rows (best_predictor t logs rows) h).0 (subst (IsOffer t logs rows cost) e (offered-is t logs rows depth cost))
+    gain-ordinary depth mode rows o h e = search (arith, offer-ordinary, cost_bounded, offered-is)

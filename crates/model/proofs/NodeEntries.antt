@@ -1,28 +1,20 @@
 -- Entries of the lent node list: a record that is written is read back, and so is a tree. Assumes nothing.
-use mathlib.Core.Path.{◌≡◌, refl, ap, ap₂, ◌∙◌}
-use Prim.Native.Nat.{ℕ, zero, suc, ◌≤◌, ◌<◌}
+use mathlib.Core.Path.{◌≡◌, refl, sym, ap, ap₂, ◌∙◌}
+use Prim.Native.Nat.{ℕ, ◌≤◌, ◌<◌}
 use native.Mathlib.Omega.{arith}
 use mathlib.Core.List.{List, [], ◌∷◌, map}
 use lib.ListN.{length, get_or, take, length-map, get_or-map}
 use lib.Seq.{length-take-le, get_or-take}
+use Rattle.std.proofs.lemmas.List.{take-map}
 use Rattle.model.specs.Lists.{written_over}
 use Rattle.model.specs.Meter.{Meter}
-use Rattle.model.specs.Tree.{Node, split, leaf, Record, blank_record}
-use Rattle.model.specs.Lent.{Stored, record_in, stored_node, stored, tree_in}
+use Rattle.model.specs.Tree.{Record, blank_record}
+use Rattle.model.specs.Lent.{Stored, record_in, stored, tree_in}
 use Rattle.model.proofs.Written.{take-written, get_d_written}
-
-map-take : {A B : Type 0} (f : A → B) (n : ℕ) (l : List A) → map f (take n l) ≡ take n (map f l)
-map-take f zero l = refl
-map-take f (suc n) [] = refl
-map-take {B = B} f (suc n) (x ∷ xs) = ap (λ (l : List B). f x ∷ l) (map-take f n xs)
 
 module _ {M : Meter} where
   read-stored : (r : Record M) → record_in (stored r) ≡ r
-  read-stored r = go r.node
-    where
-      go : (n : Node) → record_in (stored_node n r.info) ≡ record { node = n; info = r.info }
-      go leaf = refl
-      go (split prop val gt le) = refl
+  read-stored r = grind arith
 
   read_all : (rs : List (Record M)) → map record_in (map stored rs) ≡ rs
   read_all [] = refl
@@ -40,7 +32,7 @@ module _ {M : Meter} where
     pub tree-written : (n : ℕ) → n ≤ length rs → tree_in n (written_over (map stored rs) nodes) ≡ take n rs
     tree-written n h =
         let m = length-map rs stored in
-        ap (map record_in) (take-written (map stored rs) nodes n (omega arith)) ∙ map-take record_in n (map stored rs) ∙ ap (take n) (read_all rs)
+        ap (map record_in) (take-written (map stored rs) nodes n (omega arith)) ∙ sym (take-map record_in n (map stored rs)) ∙ ap (take n) (read_all rs)
 
     pub entry-written : (k : ℕ) → k < length rs → get_or (written_over (map stored rs) nodes) k (stored blank_record) ≡ stored (get_or rs k blank_record)
     entry-written k h = let m = length-map rs stored in get_d_written (map stored rs) nodes (stored blank_record) k (omega arith) ∙ get_or-map stored rs k blank_record

@@ -4,16 +4,15 @@ use mathlib.Core.Logic.{◌⊎◌, inl, inr}
 use Prim.Native.Nat.{ℕ, suc, ◌<◌}
 use native.Mathlib.Omega.{arith}
 use mathlib.Core.Bool.{Bool}
-use mathlib.Core.List.{map}
 use lib.ListN.{length, set, length-map}
 use Rattle.model.specs.Meter.{Meter}
 use Rattle.model.specs.Tree.{split, leaf, Record, blank_record}
 use Rattle.model.specs.Learn.{Result}
-use Rattle.model.specs.Lent.{stored_node, stored, Lent, lent_after}
+use Rattle.model.specs.Lent.{stored_node, Lent, lent_after}
 use Rattle.model.specs.Operations.{tree_of}
 use Rattle.model.specs.Promise.{span_at, record_at, OneMore}
 use Rattle.model.proofs.Extended.{length-extended, map-extended}
-use Rattle.model.proofs.Results.{leaf_record, record_of_result, span_of_result, ResultOneMore}
+use Rattle.model.proofs.Results.{record_of_result, span_of_result, ResultOneMore}
 use Rattle.model.proofs.Written.{written-more, written-split}
 use Rattle.model.proofs.AtExit.{Fits, rows_at, record_at_lem, span_at_lem, as_long, leaf_from}
 
@@ -37,10 +36,7 @@ module _ {M : Meter} {uses : Bool} {x : Lent M} {most more : ℕ} {a b : Result 
   nodes-after : (lent_after b x).nodes ≡ set (set (set (lent_after a x).nodes one.number
       (stored_node (split one.prop one.val a.count (suc a.count)) (record_of_result a one.number).info)) a.count (stored_node leaf one.gt)) (suc a.count) (stored_node leaf one.le)
   unfolding lent_after
-  nodes-after =
-      let same = length-map a.records stored in
-      rw (one.records, map-extended stored a.records one.number (record { node = split one.prop one.val a.count (suc a.count); info = (record_of_result a one.number).info }) (leaf_record one.gt) (leaf_record one.le))
-      (written-split (map stored a.records) x.nodes a.count one.number _ _ _ (one.whole.0 ∙ sym same) one.was_leaf.0 node_room)
+  nodes-after = search (arith, length-map, map-extended, written-split)
 
   spans-after : (lent_after b x).spans ≡ set (set (lent_after a x).spans a.count (record { first = (span_of_result a one.number).first; end = one.middle }))
       (suc a.count) (record { first = one.middle; end = (span_of_result a one.number).end })

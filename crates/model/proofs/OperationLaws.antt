@@ -1,12 +1,10 @@
 -- Small laws of the operations: what holds of each accepted answer and its lent lists. Assumes nothing.
 use mathlib.Core.Path.{◌≡◌, refl, sym, ap, ◌∙◌}
 use Prim.Native.Nat.{ℕ, suc, ◌+◌, ◌*◌, ◌/◌, ◌-◌, ◌≤◌, ◌<◌, min, max}
-use native.Mathlib.Nat.{le-div_iff_mul-le, div-lt_iff_lt-mul, div-mul-le_self, mul-le-mul_right}
 use native.Mathlib.Omega.{arith}
 use mathlib.Core.List.{List, map}
 use lib.ListN.{length, get_or, take, drop, replicate, length-map}
 use lib.Seq.{length-take-le, take_at}
-use Rattle.model.specs.Lists.{written_over}
 use Rattle.model.specs.Meter.{Meter}
 use Rattle.model.specs.Settings.{Settings}
 use Rattle.model.specs.Rows.{no_span}
@@ -22,8 +20,7 @@ use Rattle.model.specs.Promise.{span_at, record_at, Unpruned}
 use Rattle.model.proofs.Lawful.{Lawful}
 use Rattle.model.proofs.Places.{length-each, each_at}
 use Rattle.model.proofs.Results.{ResultLaws}
-use Rattle.model.proofs.Tests.{passed, not-below}
-use Rattle.model.proofs.Accepted.{accepted-by, learn-accepted, deepen-accepted, contexts-passed}
+use Rattle.model.proofs.Accepted.{learn-accepted, deepen-accepted, contexts-passed}
 use Rattle.model.proofs.Written.{length-written, get_d_written, get_d_unwritten}
 use Rattle.model.proofs.NodeEntries.{length-tree, entry-written, record_written}
 use Rattle.model.proofs.AtExit.{AsLong, Fits, tree_at, as_long}
@@ -131,27 +128,6 @@ module _ (rows target : ℕ) where
   unfolding even_sample
   even_at i h = each_at (λ (k : ℕ). k * rows / min rows target) (min rows target) i 0 h
 
--- of n rows picked from at least as many
-module _ (rows n : ℕ) (enough : n ≤ rows) where
-  spread_below : (i : ℕ) → i < n → i * rows / n < rows
-  spread_below i h = (div-lt_iff_lt-mul {k = n} {x = i * rows} {y = rows} (omega arith)).1 (omega (arith, mul-le-mul_right rows h))
-
-  spread_ascends : (i : ℕ) → i < n → i * rows / n < suc i * rows / n
-  spread_ascends i h = (le-div_iff_mul-le {k = n} {x = suc (i * rows / n)} {y = suc i * rows} (omega arith)).1 (omega (arith, div-mul-le_self (i * rows) n))
-
 pub sample-accepted : (rows target : ℕ) (out y : List ℕ) (picked : ℕ) → sample rows target out ≡ record { outcome = accepted picked; lent = y } → Sampled rows target out picked y
 unfolding sample sample_refusal
-sample-accepted rows target out y picked e =
-    let h = accepted-by out (length (even_sample rows target)) (written_over (even_sample rows target) out) y (sample_refusal rows target out) picked e in
-    let room = simp (passed, not-below) at h.0 in
-    let number : picked ≡ min rows target = h.1 ∙ length_even rows target in
-    let at : (i : ℕ) → i < min rows target → get_or y i 0 ≡ i * rows / min rows target =
-    λ i l. ap (λ (l : List ℕ). get_or l i 0) h.2 ∙ get_d_written (even_sample rows target) out 0 i (omega (arith, length_even rows target)) ∙ even_at rows target i l in
-    rw number (record {
-      number = refl;
-      each = at;
-      below = λ i l. rw (at i l) (spread_below rows (min rows target) (omega arith) i l);
-      ascending = λ i l. rw (at i (omega arith), at (suc i) l) (spread_ascends rows (min rows target) (omega arith) i (omega arith));
-      past = λ i l. rw h.2 (get_d_unwritten (even_sample rows target) out 0 i (omega (arith, length_even rows target)));
-      as_long = rw h.2 (length-written (even_sample rows target) out (omega (arith, length_even rows target)));
-    })
+sample-accepted rows target out y picked e = search (arith, length_even, get_d_written, even_at, get_d_unwritten, length-written)

@@ -1,11 +1,9 @@
 -- 01's packing is the inverse of the standard's UnpackSigned, and its form on 32-bit patterns gives the same number. Assumes nothing.
-use mathlib.Core.Path.{◌≡◌, refl, ap}
-use mathlib.Core.Bool.{Bool, true, false, cond}
-use Prim.Native.Nat.{ℕ, suc, ◌+◌, ◌-◌, ◌*◌, ◌/◌, ◌%◌, ◌^◌, ◌<◌}
+use mathlib.Core.Path.{◌≡◌, ap}
+use Prim.Native.Nat.{ℕ, suc, ◌-◌, ◌*◌, ◌%◌, ◌^◌, ◌<◌}
 use native.Mathlib.Omega.{arith}
-use borrow.Author.Tests.{lt-ltb, le-ltb, eq-eqb, ne_eqb, eqb-true, eqb-false}
-use lib.Dec.{eqb}
-use lib.IntN.{ℤ, pos, negsuc, neg_ℤ}
+use borrow.Author.Tests.{lt-ltb, le-ltb, eq-eqb}
+use lib.IntN.{ℤ, pos, negsuc}
 use lib.Signed.{mag}
 use Rattle.model.specs.Pack.{packed, pattern, packed_pattern}
 use Rattle.model.specs.Standard.{unpack_signed}
@@ -13,20 +11,11 @@ use Rattle.model.specs.Standard.{unpack_signed}
 pub unpack_packed : (v : ℤ) → unpack_signed (packed v) ≡ v
 unfolding packed unpack_signed
 unpack_packed (pos n) = rw (eq-eqb (2 * n % 2) 0 (omega arith)) (ap pos (omega arith))
-unpack_packed (negsuc n) =
-    let half : (2 * n + 1 + 1) / 2 ≡ suc n = omega arith in
-    rw (ne_eqb ((2 * n + 1) % 2) 0 (λ e. omega arith), half)
+unpack_packed (negsuc n) = search arith
 
 pub packed_unpack : (u : ℕ) → packed (unpack_signed u) ≡ u
 unfolding packed unpack_signed
-packed_unpack u = go (eqb (u % 2) 0) refl
-  where
-    go : (b : Bool) → eqb (u % 2) 0 ≡ b → packed (cond b (pos (u / 2)) (neg_ℤ (pos ((u + 1) / 2)))) ≡ u
-    go true e = let even = eqb-true (u % 2) 0 e in omega arith
-    go false e =
-        let odd = eqb-false (u % 2) 0 e in
-        let half : (u + 1) / 2 ≡ suc (u / 2) = omega arith in
-        rw half (omega arith)
+packed_unpack u = search arith
 
 -- of the numbers that 32 bits hold
 pub packed_lt : (v : ℤ) → mag v < 2 ^ 31 → packed v < 2 ^ 32

@@ -5,15 +5,14 @@ use Prim.Native.Nat.{ℕ, zero, suc, ◌+◌, ◌≤◌, ◌<◌}
 use native.Mathlib.Nat.{lt_irrefl}
 use native.Mathlib.Omega.{arith}
 use native.Mathlib.Decide.{ℕ_discrete}
-use mathlib.Core.Bool.{Bool, true, false, cond, ◌&&◌, ◌||◌, or-false}
+use mathlib.Core.Bool.{Bool, true, false, ◌&&◌, ◌||◌}
 use mathlib.Core.List.{List}
 use lib.ListN.{length, get_or}
-use lib.IntN.{ℤ, pos}
-use lib.Signed.{lt_z}
-use lib.Dec.{T, eqb, eqb_refl, eqb→eq}
+use lib.IntN.{ℤ}
+use lib.Dec.{T, eqb, eqb_refl}
 use Rattle.model.specs.Tree.{Node, split, leaf, is_leaf, towards, follow, reach, leaf_reached}
 use Rattle.model.specs.Family.{Forward, AllForward, meets}
-use Rattle.model.proofs.Extended.{extended, length-extended, extended-at, extended-old, extended-gt, extended-le, new-cases}
+use Rattle.model.proofs.Extended.{extended, length-extended, extended-at, extended-old, extended-gt, extended-le}
 
 pub T→true : (b : Bool) → T b → b ≡ true
 T→true true t = refl
@@ -23,18 +22,10 @@ pub eqb_same : (n : ℕ) → eqb n n ≡ true
 eqb_same n = T→true (eqb n n) (eqb_refl n)
 
 pub eqb-other : (m n : ℕ) → m ≢ n → eqb m n ≡ false
-eqb-other m n h = go (eqb m n) (eqb→eq m n)
-  where
-    go : (b : Bool) → (T b → m ≡ n) → b ≡ false
-    go true e = absurd (h (e tt))
-    go false e = refl
+eqb-other m n h = search arith
 
 pub towards_in : (ps : List ℤ) (n i prop : ℕ) (val : ℤ) (gt le : ℕ) → Forward n i (split prop val gt le) → (i < towards ps prop val gt le) × (towards ps prop val gt le < n)
-towards_in ps n i prop val gt le f = go (lt_z val (get_or ps prop (pos 0)))
-  where
-    go : (b : Bool) → (i < cond b gt le) × (cond b gt le < n)
-    go true = (f.0, f.2)
-    go false = (f.1, f.3)
+towards_in ps n i prop val gt le f = search arith
 
 -- a tree with leaf j split: gt and le appended
 abbrev pub grown : List Node → ℕ → ℕ → ℤ → Node → Node → List Node
@@ -90,10 +81,6 @@ meets-leaf nodes ps k lf (suc fuel) i = elim (ℕ_discrete i k) [ yes e ↦ here
     there ne leaf ih = rw (eqb-other i k ne)
     there ne (split prop val gt le) ih = rw (eqb-other i k ne) (ih (towards ps prop val gt le))
 
-forward-more : (n i : ℕ) (m : Node) → Forward n i m → Forward (suc (suc n)) i m
-forward-more n i leaf f = tt
-forward-more n i (split prop val gt le) f = omega arith
-
 -- ---- leaf j of a tree is split
 module _ (nodes : List Node) (fw : AllForward nodes) (j : ℕ) (inside : j < length nodes) (was : T (is_leaf (get_or nodes j leaf))) (prop : ℕ) (val : ℤ) where
   abbrev new : List Node
@@ -118,38 +105,18 @@ module _ (nodes : List Node) (fw : AllForward nodes) (j : ℕ) (inside : j < len
   length-grown = length-extended nodes j (split prop val (length nodes) (suc (length nodes))) leaf leaf leaf
 
   pub grown-forward : AllForward new
-  grown-forward = rw length-grown (new-cases {P = λ (i : ℕ). Forward (suc (suc (length nodes))) i (get_or new i leaf)} (length nodes) j
-      (λ i h ne. rw (grown-old i h ne) (forward-more (length nodes) i (get_or nodes i leaf) (fw i h)))
-      (rw grown-at (omega arith))
-      (rw grown-gt tt)
-      (rw grown-le tt))
+  grown-forward = search (arith, length-grown, grown-old, grown-at, grown-gt, grown-le)
 
   -- at a new leaf the way ends
   meets-child : (ps : List ℤ) (k fuel : ℕ) → meets (suc fuel) new ps k (child ps) ≡ eqb (child ps) k
   unfolding meets
-  meets-child ps k fuel = at (lt_z val (get_or ps prop (pos 0)))
-    where
-      ends : (c : ℕ) (m : Node) → T (is_leaf m) → get_or new c leaf ≡ m → (eqb c k || follow ps false (λ (d : ℕ). meets fuel new ps k d) (get_or new c leaf)) ≡ eqb c k
-      ends c leaf t e = rw (e, or-false)
-      ends c (split p v gt le) t e = absurd t
-
-      at : (b : Bool) → (eqb (cond b (length nodes) (suc (length nodes))) k || follow ps false (λ (d : ℕ). meets fuel new ps k d) (get_or new (cond b (length nodes) (suc (length nodes))) leaf)) ≡ eqb (cond b (length nodes) (suc (length nodes))) k
-      at true = ends (length nodes) leaf tt (grown-gt)
-      at false = ends (suc (length nodes)) leaf tt (grown-le)
+  meets-child ps k fuel = search (arith, grown-gt, grown-le)
 
   child_new : (ps : List ℤ) → length nodes ≤ child ps
-  child_new ps = at (lt_z val (get_or ps prop (pos 0)))
-    where
-      at : (b : Bool) → length nodes ≤ cond b (length nodes) (suc (length nodes))
-      at true = omega arith
-      at false = omega arith
+  child_new ps = search arith
 
   leaf-ends : {A : Type 0} (ps : List ℤ) (here : A) (f : ℕ → A) → follow ps here f (get_or nodes j leaf) ≡ here
-  leaf-ends ps here f = at (get_or nodes j leaf) was
-    where
-      at : (m : Node) → T (is_leaf m) → follow ps here f m ≡ here
-      at leaf t = refl
-      at (split p v gt le) t = absurd t
+  leaf-ends ps here f = grind arith
 
   -- an old node is met as before
   meets_old_from : (ps : List ℤ) (k : ℕ) → k < length nodes → (fuel i : ℕ) → i < length nodes → length nodes ≤ i + fuel → meets (suc fuel) new ps k i ≡ meets fuel nodes ps k i
@@ -188,11 +155,7 @@ module _ (nodes : List Node) (fw : AllForward nodes) (j : ℕ) (inside : j < len
 
   -- ---- from the root
   pub passes-old : (ps : List ℤ) (k : ℕ) → k < length nodes → meets (length new) new ps k 0 ≡ meets (length nodes) nodes ps k 0
-  passes-old ps k hk = ap (λ (n : ℕ). meets n new ps k 0) (length-grown)
-      ∙ meets_old_from ps k hk (suc (length nodes)) 0 (omega arith) (omega arith)
-      ∙ meets-more nodes fw ps k (length nodes) 0 (omega arith) (omega arith)
+  passes-old ps k hk = search (arith, length-grown, meets_old_from, meets-more)
 
   pub passes-new : (ps : List ℤ) (k : ℕ) → length nodes ≤ k → meets (length new) new ps k 0 ≡ (meets (length nodes) nodes ps j 0 && eqb (child ps) k)
-  passes-new ps k hk = ap (λ (n : ℕ). meets n new ps k 0) (length-grown)
-      ∙ meets_new_from ps k hk (suc (length nodes)) 0 (omega arith) (omega arith)
-      ∙ ap (λ (r : Bool). r && eqb (child ps) k) (meets-more nodes fw ps j (length nodes) 0 (omega arith) (omega arith))
+  passes-new ps k hk = search (arith, length-grown, meets_new_from, meets-more)

@@ -5,7 +5,7 @@ use mathlib.Core.Logic.{◌≢◌, ◌⊎◌, inl, inr}
 use Prim.Native.Nat.{ℕ, zero, suc, ◌≤◌, ◌<◌}
 use native.Mathlib.Omega.{arith}
 use native.Mathlib.Decide.{ℕ_discrete}
-use mathlib.Core.Bool.{Bool, false, ◌&&◌}
+use mathlib.Core.Bool.{Bool, false}
 use mathlib.Core.List.Memᴰ
 use mathlib.Core.List.{List, [], ◌∷◌, map, Memᴰ}
 use lib.ListN.{length, get_or}
@@ -21,7 +21,7 @@ use Rattle.model.specs.Promise.{SameRows, key}
 use Rattle.model.specs.Family.{ChildOf, Child, Anc, parent, under, passes}
 use Rattle.model.specs.Kept.{entry_at, Invariant, Covered, Nested, Healthy}
 use Rattle.model.proofs.Lawful.{Bounds}
-use Rattle.model.proofs.Counting.{count_map, count-keep, count_ext}
+use Rattle.model.proofs.Counting.{count_ext}
 use Rattle.model.proofs.Paths.{meets-leaf}
 use Rattle.model.proofs.Family.{child-forward}
 use Rattle.model.proofs.Preorder.{place_at}
@@ -51,10 +51,7 @@ module _ {M : Meter} where
     -- a node's span, by any test that says where its rows' ways lead
     holds_by : (k : ℕ) → k < length s.tree → seeds k ≡ false → (q : Row → Bool) → ((r : Row) → passes (tree_nodes s.tree) k r ≡ q r)
         → (p : Row → Bool) → count_if p (map (key uses) (within (entry_at s.tree k).span s.rows)) ≡ count_if p (map (key uses) (keep q given))
-    holds_by k h own q same p = inv.holds k h own p
-        ∙ count_map p (key uses) (keep (passes (tree_nodes s.tree) k) given) ∙ count-keep (λ (r : Row). p (key uses r)) (passes (tree_nodes s.tree) k) given
-        ∙ count_ext given (λ r. ap (λ (b : Bool). b && p (key uses r)) (same r))
-        ∙ sym (count_map p (key uses) (keep q given) ∙ count-keep (λ (r : Row). p (key uses r)) q given)
+    holds_by k h own q same p = search (arith, count_ext)
 
     pub grown-placed : Placed uses given s.rows s.tree
     unfolding leaf_reached

@@ -8,6 +8,7 @@ use mathlib.Core.List.{List, [], ◌∷◌, ◌++◌, map, map-append}
 use lib.ListN.{length, get_or, take, drop, set}
 use lib.Seq.{drop-cons, drop-drop, set_at, append_snoc, get_or-take, get_or-drop}
 use lib.IntN.{ℤ, pos}
+use Rattle.std.proofs.lemmas.List.{get_or_default}
 use Rattle.model.specs.Lists.{range}
 use Rattle.model.specs.Settings.{props_per_row, toks_per_row}
 use Rattle.model.specs.Rows.{Row, prop_of, tok_of, rows_of}
@@ -15,9 +16,7 @@ use Rattle.model.specs.Promise.{no_row}
 
 -- inside a list the default is never read
 pub get_d_any : {A : Type 0} (l : List A) (i : ℕ) (d e : A) → i < length l → get_or l i d ≡ get_or l i e
-get_d_any [] i d e h = absurd (omega arith)
-get_d_any (x ∷ xs) zero d e h = refl
-get_d_any (x ∷ xs) (suc i) d e h = get_d_any xs i d e (omega arith)
+get_d_any l i d e h = get_or_default l i d e h
 
 -- a store behind the first elements
 pub set_append_right : {A : Type 0} (xs ys : List A) (i : ℕ) (v : A) → set (xs ++ ys) (length xs + i) v ≡ xs ++ set ys i v

@@ -5,12 +5,11 @@ use Prim.Native.Nat.{ℕ, zero, suc, ◌+◌, ◌-◌, ◌≤◌, ◌<◌}
 use native.Mathlib.Nat.{lt_irrefl, zero-add}
 use native.Mathlib.Omega.{arith}
 use native.Mathlib.Decide.{ℕ_discrete, dec_lt}
-use mathlib.Core.Bool.{Bool, true, false, cond, ◌||◌}
+use mathlib.Core.Bool.{Bool, true, false, ◌||◌}
 use mathlib.Core.List.Memᴰ
 use mathlib.Core.List.{List, map, map-map, Memᴰ}
 use lib.ListN.{length, get_or, length-map, get_or-map, get_or-eq_default}
-use lib.IntN.{ℤ, pos}
-use lib.Signed.{lt_z}
+use lib.IntN.{ℤ}
 use lib.Dec.{T, eqb, eqb→eq}
 use Rattle.model.specs.Meter.{Meter}
 use Rattle.model.specs.Tree.{Node, split, leaf, is_leaf, towards, follow, reach, leaf_reached}
@@ -66,21 +65,7 @@ module _ {M : Meter} where
     child-old a c h = folded-child (get_or old a leaf) (get_or pn a leaf) c (folds price tree a) h
 
     pn-family : Family pn
-    pn-family = record {
-      forward = λ i h. rw length-pn (forwards i (rw length-pn at h) (get_or pn i leaf) (folds price tree i));
-      one_parent = λ a b c h k. fam.one_parent a b c (child-old a c h) (child-old b c k);
-      two_children = λ a. twins a (get_or pn a leaf) (folds price tree a);
-    }
-      where
-        forwards : (i : ℕ) → i < length old → (m : Node) → Folded (get_or old i leaf) m → Forward (length old) i m
-        forwards i h m (inl e) = rw e (fam.forward i h)
-        forwards i h leaf (inr t) = tt
-        forwards i h (split p v g l) (inr t) = absurd t
-
-        twins : (a : ℕ) (m : Node) → Folded (get_or old a leaf) m → Twins m
-        twins a m (inl e) = rw e (fam.two_children a)
-        twins a leaf (inr t) = tt
-        twins a (split p v g l) (inr t) = absurd t
+    pn-family = search (arith, length-pn, folds)
 
     abbrev n : ℕ
     n = length pn
@@ -99,14 +84,7 @@ module _ {M : Meter} where
 
     -- a kept node's old parent is kept, with it as a child
     up : (x a : ℕ) → Memᴰ x order → Child old a x → Memᴰ a order × Child pn a x
-    up x a m h = go (pre-parent pn pn-family n 0 x m)
-      where
-        w : (a < x) × (x < length old)
-        w = child-forward old fam.forward a x h
-
-        go : (x ≡ 0) ⊎ ((p : ℕ) × Memᴰ p order × Child pn p x) → Memᴰ a order × Child pn a x
-        go (inl e) = absurd (lt_irrefl x (omega (arith, w.0)))
-        go (inr k) = let e = fam.one_parent a k.0 x h (child-old k.0 x k.2) in (Memᴰ.cast e k.1, subst (λ (p : ℕ). Child pn p x) (sym e) k.2)
+    up x a m h = search (arith, pre-parent, pn-family, child-forward, child-old)
 
     -- no pruned leaf lies above a kept node
     pub anc_kept_split : (a x : ℕ) → Memᴰ x order → T (is_leaf (get_or pn a leaf)) → Anc old a x → ⊥
@@ -184,11 +162,7 @@ module _ {M : Meter} where
     new-place c m = let p = place_at c order m in new-at (place_of c order) p.0 ∙ ap as_new p.1
 
     towards-place : (ps : List ℤ) (prop : ℕ) (val : ℤ) (g l : ℕ) → towards ps prop val (place_of g order) (place_of l order) ≡ place_of (towards ps prop val g l) order
-    towards-place ps prop val g l = go (lt_z val (get_or ps prop (pos 0)))
-      where
-        go : (b : Bool) → cond b (place_of g order) (place_of l order) ≡ place_of (cond b g l) order
-        go true = refl
-        go false = refl
+    towards-place ps prop val g l = search arith
 
     reach_in : (ps : List ℤ) (fuel c : ℕ) → Memᴰ c order → Memᴰ (reach fuel pn ps c) order
     unfolding reach
@@ -282,19 +256,11 @@ module _ {M : Meter} where
 
     pub leaf-kept : (q : ℕ) → q < length order → T (is_leaf (entry_at kept q).node) → T (is_leaf (get_or pn (get_or order q 0) leaf))
     unfolding moved
-    leaf-kept q h t = go (get_or pn (get_or order q 0) leaf) (subst (λ (e : Entry M). T (is_leaf e.node)) (entry_kept q h) t)
-      where
-        go : (m : Node) → T (is_leaf (renumbered order m)) → T (is_leaf m)
-        go leaf u = tt
-        go (split p v g l) u = u
+    leaf-kept q h t = search (arith, entry_kept)
 
     pub leaf-again : (q : ℕ) → q < length order → T (is_leaf (get_or pn (get_or order q 0) leaf)) → T (is_leaf (entry_at kept q).node)
     unfolding moved
-    leaf-again q h t = subst (λ (e : Entry M). T (is_leaf e.node)) (sym (entry_kept q h)) (go (get_or pn (get_or order q 0) leaf) t)
-      where
-        go : (m : Node) → T (is_leaf m) → T (is_leaf (renumbered order m))
-        go leaf u = tt
-        go (split p v g l) u = u
+    leaf-again q h t = search (arith, entry_kept)
 
     pub old-number : (q : ℕ) → q < length order → get_or order q 0 < length tree
     old-number q h = let r = pre-range pn pn-family n 0 (get_or order q 0) in_n (mem_get_d order q h) in omega (arith, length-pn, length-map tree (λ (e : Entry M). e.node))

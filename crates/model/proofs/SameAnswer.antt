@@ -1,31 +1,30 @@
 -- Two jobs that evaluate alike as many rows as are handed in learn and deepen alike. So neither operation depends on logarithm 0, nor on those past the
 -- rows. Assumes nothing.
-use mathlib.Core.Path.{◌≡◌, refl, sym, ap, ◌∙◌}
-use Prim.Native.Nat.{ℕ, zero, suc, ◌+◌, ◌-◌, ◌≤◌, ◌<◌}
+use mathlib.Core.Path.{◌≡◌, refl, ap, ◌∙◌}
+use Prim.Native.Nat.{ℕ, zero, suc, ◌-◌, ◌≤◌, ◌<◌}
 use native.Mathlib.Nat.{le_refl, le_trans}
 use native.Mathlib.Omega.{arith}
-use mathlib.Core.Bool.{Bool, false, not, ◌||◌}
+use mathlib.Core.Bool.{Bool}
 use mathlib.Core.List.{List, [], ◌∷◌, ◌++◌}
 use mathlib.Core.Option.{Option, none, some}
 use lib.ListN.{length, get_or, take, drop, set}
 use lib.IntN.{ℤ}
-use lib.Dec.{eqb, ltb}
-use borrow.Author.Tests.{le-ltb}
+use lib.Dec.{eqb}
 use Rattle.model.specs.Meter.{Meter}
 use Rattle.model.specs.Rows.{Row, Span}
-use Rattle.model.specs.Mode.{span_mode, fresh}
+use Rattle.model.specs.Mode.{span_mode}
 use Rattle.model.specs.Tree.{Node, split, leaf, Info, Record, nodes_of, leaf_reached}
 use Rattle.model.specs.Job.{Offer, Job}
 use Rattle.model.specs.Grow.{Entry, State, Choice, no_choice, chosen, grown_bits, no_entry, leaf_over, greater, choice_from, gt_rows, le_rows, gt_span, le_span, gt_leaf, le_leaf, split_rows, become_split, split_at, step_to, step, steps}
 use Rattle.model.specs.Learn.{leaf_count, pruned, settled_state, finished, root_state, learned}
-use Rattle.model.specs.Deepen.{depths_of, rows_at, seed_leaf, with_leaf_cost, with_seed_node, seed_from, seed_state, deepened}
+use Rattle.model.specs.Deepen.{rows_at, seed_leaf, with_seed_node, seed_from, seed_state, deepened}
 use Rattle.model.specs.Settings.{Settings}
 use Rattle.model.specs.Evaluate.{info_of, offered}
 use Rattle.model.specs.Flat.{flat_bits}
 use Rattle.model.specs.Profile.{Profile, job_of}
-use Rattle.model.specs.Lent.{Lent, row_count, rows_in, uses_modes, tree_in, lent_after}
-use Rattle.model.specs.Refuse.{is_bad_logs, Besides, nothing_besides, refused_before, learn_refusal, seed_besides, deepen_refusal}
-use Rattle.model.specs.Operations.{unless, tree_of, learn, deepen}
+use Rattle.model.specs.Lent.{Lent, row_count, rows_in}
+use Rattle.model.specs.Refuse.{is_bad_logs, Besides, refused_before, learn_refusal, deepen_refusal}
+use Rattle.model.specs.Operations.{learn, deepen}
 use Rattle.model.specs.Kept.{Sized}
 use Rattle.model.proofs.LogZero.{Alike, read_alike, info-alike, offered-alike, flat-alike}
 use Rattle.model.proofs.Places.{length_rows_of}
@@ -47,13 +46,7 @@ module _ {M : Meter} where
 
     leaf-same : (rows : List Row) (mode : ℤ) (s : Span) (depth : ℕ) → length rows ≤ n → leaf_over j rows mode s depth ≡ leaf_over other rows mode s depth
     unfolding leaf_over
-    leaf-same rows mode s depth h = λ i. record {
-      node = leaf;
-      info = same-info mode rows h i;
-      span = s;
-      depth = depth;
-      offer = (ap (λ (c : Info M). j.offered depth c.cost rows) (same-info mode rows h) ∙ same-offer depth (info mode rows).cost rows h) i;
-    }
+    leaf-same rows mode s depth h = grind arith
 
     greater-same : (c : Choice M) (i : ℕ) (o : Option (Offer M)) → greater j c i o ≡ greater other c i o
     greater-same c i none = refl
@@ -81,11 +74,7 @@ module _ {M : Meter} where
 
     step_same : (s : State M) → length s.rows ≤ n → step j s ≡ step other s
     unfolding step step_to
-    step_same s h = ap (step_to j s) (choice_same no_choice 0 s.tree) ∙ go (choice_from other no_choice 0 s.tree)
-      where
-        go : (c : Choice M) → step_to j s c ≡ step_to other s c
-        go no_choice = refl
-        go (chosen i o) = split-same s i o h
+    step_same s h = search (arith, choice_same, split-same)
 
     -- nothing is asked of costs
     abbrev AnyCost : M.Cost → Type 0
@@ -98,26 +87,18 @@ module _ {M : Meter} where
 
     root-same : (rows : List Row) → length rows ≤ n → root_state j rows ≡ root_state other rows
     unfolding root_state
-    root-same rows h =
-        let fr = fresh j.uses rows in
-        let l = length-fresh j.uses rows in
-        let root = leaf-same fr (span_mode j.uses rows) (record { first = 0; end = length rows }) 0 (omega arith) in
-        λ k. record { rows = fr; tree = root k ∷ []; bits = M.total (root k).info.cost }
+    root-same rows h = search (arith, length-fresh, leaf-same)
 
     pub grown-same : (k : ℕ) (rows : List Row) → length rows ≤ n → steps j k (root_state j rows) ≡ steps other k (root_state other rows)
     grown-same k rows h = ap (steps j k) (root-same rows h) ∙ steps-same k (root_state other rows) (root-sized AnyCost n other tt (λ mode rs k. tt) rows h)
 
     seed_leaf_same : (i : Info M) (depth first : ℕ) (mine : List Row) → length mine ≤ n → seed_leaf j i depth first mine ≡ seed_leaf other i depth first mine
     seed_leaf_same i depth first [] h = refl
-    seed_leaf_same i depth first (r ∷ rs) h =
-        let l = length-fresh j.uses (r ∷ rs) in
-        leaf-same (fresh j.uses (r ∷ rs)) (span_mode j.uses (r ∷ rs)) (record { first = first; end = first + length (r ∷ rs) }) depth (omega arith)
+    seed_leaf_same i depth first (r ∷ rs) h = search (arith, length-fresh, leaf-same)
 
     node-same : (node : Node) (i : Info M) (depth : ℕ) (mine : List Row) (s : State M) → length mine ≤ n → with_seed_node j node i depth mine s ≡ with_seed_node other node i depth mine s
     node-same (split prop val gt le) i depth mine s h = refl
-    node-same leaf i depth mine s h =
-        let e = seed_leaf_same i depth (length s.rows) mine h in
-        λ k. record { rows = s.rows ++ fresh j.uses mine; tree = s.tree ++ (e k ∷ []); bits = with_leaf_cost s.bits (e k) mine }
+    node-same leaf i depth mine s h = search (arith, seed_leaf_same)
 
     seed_from_same : (nodes : List Node) (depths : List ℕ) (rows : List Row) → length rows ≤ n → (i : ℕ) (rs : List (Record M)) (s : State M) → seed_from j nodes depths rows i rs s ≡ seed_from other nodes depths rows i rs s
     unfolding seed_from rows_at
@@ -130,10 +111,7 @@ module _ {M : Meter} where
 
     pub deeper-same : (k : ℕ) (seed : List (Record M)) (rows : List Row) → length rows ≤ n → steps j k (seed_state j seed rows) ≡ steps other k (seed_state other seed rows)
     unfolding seed_state
-    deeper-same k seed rows h =
-        let start : State M = record { rows = []; tree = []; bits = M.no_total } in
-        ap (steps j k) (seed_from_same (nodes_of seed) (depths_of (nodes_of seed)) rows h 0 seed start)
-        ∙ steps-same k (seed_state other seed rows) (seed-sized AnyCost n other tt (λ mode rs k. tt) tt seed rows h)
+    deeper-same k seed rows h = search (arith, seed_from_same, steps-same, seed-sized)
 
 -- ---- the operations
 module _ (P : Profile) (t : Settings P.meter) (logs logs' : List P.meter.Cost) (uses : Bool) where
@@ -161,11 +139,7 @@ module _ (P : Profile) (t : Settings P.meter) (logs logs' : List P.meter.Cost) (
     (reach : row_count x < length logs) (reach' : row_count x < length logs') (same : take (row_count x) (drop 1 logs) ≡ take (row_count x) (drop 1 logs')) where
   logs-same : is_bad_logs P logs x ≡ is_bad_logs P logs' x
   unfolding is_bad_logs
-  logs-same =
-      let n = row_count x in
-      let a : ltb (length logs) (n + 1) ≡ false = le-ltb (length logs) (n + 1) (omega arith) in
-      let b : ltb (length logs') (n + 1) ≡ false = le-ltb (length logs') (n + 1) (omega arith) in
-      λ i. (a ∙ sym b) i || not (P.logs_fit (same i))
+  logs-same = search arith
 
   refusal-same : (b : Besides) → refused_before P t logs x b ≡ refused_before P t logs' x b
   unfolding refused_before
@@ -176,13 +150,8 @@ module _ (P : Profile) (t : Settings P.meter) (logs logs' : List P.meter.Cost) (
 
   pub learn-alike : learn P t logs x ≡ learn P t logs' x
   unfolding learn learn_refusal
-  learn-alike =
-      let r = learned-alike P t logs logs' (uses_modes t x) t.limit (rows_in x) alike in
-      λ i. unless (refusal-same nothing_besides i) x (tree_of (r i)) (lent_after (r i) x)
+  learn-alike = search (arith, learned-alike, alike, refusal-same)
 
   pub deepen-alike : (count : ℕ) → deepen P t logs count x ≡ deepen P t logs' count x
   unfolding deepen deepen_refusal
-  deepen-alike count =
-      let seed = tree_in count x.nodes in
-      let r = deepened-alike P t logs logs' (uses_modes t x) t.limit seed (rows_in x) alike in
-      λ i. unless (refusal-same (seed_besides count x) i) x (tree_of (r i)) (lent_after (r i) x)
+  deepen-alike count = search (arith, deepened-alike, alike, refusal-same)

@@ -1,11 +1,12 @@
 -- The leaf limit is no part of a job, and settling no part of its evaluation: a node and the flat total do not look at them. Assumes nothing.
+use native.Mathlib.Omega.{arith}
 use mathlib.Core.Path.{◌≡◌, refl, ap, fun_ext}
 use Prim.Native.Nat.{ℕ}
 use mathlib.Core.Bool.{Bool, cond, not}
 use mathlib.Core.List.{List, [], ◌∷◌}
 use mathlib.Core.Option.{Option, none, some}
 use lib.IntN.{ℤ}
-use Rattle.model.specs.Lists.{range, keep}
+use Rattle.model.specs.Lists.{keep}
 use Rattle.model.specs.Meter.{Meter}
 use Rattle.model.specs.Settings.{Settings, with_limit, with_settling}
 use Rattle.model.specs.Rows.{Row, is_above}
@@ -67,12 +68,4 @@ module _ {M : Meter} (t : Settings M) (k : ℕ) (b : Bool) (logs : List M.Cost) 
 pub same-job : (P : Profile) (t : Settings P.meter) (logs : List P.meter.Cost) (uses : Bool) (k : ℕ) (b : Bool)
     → job_of P (with_settling b (with_limit k t)) logs uses ≡ settling_as b (job_of P t logs uses)
 unfolding info_of best_predictor usable cost_of flat_bits
-same-job P t logs uses k b = λ i. record {
-  uses = uses;
-  info = info_of t logs;
-  offered = λ depth cost rows. same-offered t k b logs depth cost rows i;
-  ahead = P.ahead;
-  flat = λ rows. same-flat t k b logs rows P.meter.no_total (range 0 4) i;
-  price = t.price;
-  settling = b;
-}
+same-job P t logs uses k b = search (arith, same-offered, same-flat)

@@ -3,8 +3,7 @@ use mathlib.Core.Path.{◌≡◌, refl, sym, ap, ◌∙◌}
 use mathlib.Core.Logic.{◌≢◌, inl, inr}
 use Prim.Native.Nat.{ℕ, zero, suc, ◌-◌, ◌≤◌, ◌<◌}
 use native.Mathlib.Omega.{arith}
-use native.Mathlib.Decide.{dec_lt}
-use mathlib.Core.Bool.{Bool, true, false, cond, not, true≢false}
+use mathlib.Core.Bool.{Bool, true, false, cond, true≢false}
 use mathlib.Core.List.{List, Memᴰ}
 use mathlib.Core.Option.{none}
 use lib.ListN.{length, get_or, length-map, get_or-eq_default}
@@ -15,7 +14,7 @@ use Rattle.model.specs.Settings.{max_nodes, max_leaves}
 use Rattle.model.specs.Rows.{Row, Span, no_span}
 use Rattle.model.specs.Tree.{Node, split, leaf, is_leaf, Record, nodes_of, fault_of}
 use Rattle.model.specs.Job.{Job, prunes}
-use Rattle.model.specs.Grow.{Entry, State, no_entry, tree_nodes, record_of, step, steps}
+use Rattle.model.specs.Grow.{Entry, State, tree_nodes, record_of, step, steps}
 use Rattle.model.specs.Prune.{place_of, renumbered, moved, pruned_nodes, pruned_tree, pruned_bits}
 use Rattle.model.specs.Learn.{leaf_count, pruned, settled_state, finished}
 use Rattle.model.specs.Deepen.{seed_state, deepened}
@@ -23,7 +22,7 @@ use Rattle.model.specs.Profile.{Profile, job_of}
 use Rattle.model.specs.Lent.{rows_in, uses_modes, tree_in}
 use Rattle.model.specs.SeedKept.{SeedsKept}
 use Rattle.model.specs.Accepting.{JobFits}
-use Rattle.model.specs.Family.{ChildOf, Child}
+use Rattle.model.specs.Family.{Child}
 use Rattle.model.specs.Kept.{entry_at, Invariant, Healthy}
 use Rattle.model.proofs.Lawful.{Bounds, Lawful}
 use Rattle.model.proofs.Results.{record_of_result, span_of_result}
@@ -49,10 +48,7 @@ module _ {M : Meter} (j : Job M) (seeds : ℕ → Bool) (given : List Row) where
   no_leaf s inv k i q t e = true≢false (sym q ∙ ap seeds e ∙ inv.own i t)
 
   in_tree : (s : State M) → Invariant j.uses seeds given s → (k : ℕ) → seeds k ≡ true → k < length s.tree
-  in_tree s inv k q = elim (dec_lt k (length s.tree)) [ yes h ↦ h | no h ↦ absurd (beyond (omega arith)) ]
-    where
-      beyond : length s.tree ≤ k → ⊥
-      beyond h = no_leaf s inv k k q (rw (get_or-eq_default s.tree no_entry h) tt) refl
+  in_tree s inv k q = search (arith, get_or-eq_default)
 
   step_same : (s : State M) → Invariant j.uses seeds given s → (k : ℕ) → seeds k ≡ true → entry_at (step j s).tree k ≡ entry_at s.tree k
   step_same s inv k q = elim (step_is j s) [
@@ -126,11 +122,7 @@ module _ {M : Meter} (B : Bounds M) (j : Job M) (limit : ℕ) (seed : List (Reco
       ∙ sym (node_at s₀.tree k) ∙ ap (λ (l : List Node). get_or l k leaf) (seed-nodes B j seed rows fit faultless)
 
   child-seeds : (a c : ℕ) → Child nodes a c → seeds a ≡ true
-  child-seeds a c h = go (get_or nodes a leaf) h
-    where
-      go : (m : Node) → ChildOf m c → not (is_leaf m) ≡ true
-      go leaf h = absurd h
-      go (split p v g l) h = refl
+  child-seeds a c h = search arith
 
   same-child : (a c : ℕ) → Child nodes a c → Child (tree_nodes tree) a c
   same-child a c h = rw (same-node a (child-seeds a c h)) h

@@ -11,7 +11,7 @@ use mathlib.Core.Option.{none, some}
 use lib.ListN.{length, get_or, drop, length-append, length-map, get_or-append, get_or-eq_default, get_or-map}
 use lib.Seq.{take-append-le, take_all, drop_at, get_or-append_seam, ext_get_or}
 use lib.IntN.{ℤ, pos}
-use lib.Dec.{T, eqb, eqb→eq, ltb, ltb→lt, lt→ltb}
+use lib.Dec.{T, eqb, ltb, lt→ltb}
 use Rattle.model.specs.Lists.{count_if, keep}
 use Rattle.model.specs.Meter.{Meter}
 use Rattle.model.specs.Rows.{Row, Span, no_span, within}
@@ -157,11 +157,7 @@ module _ {M : Meter} (B : Bounds M) (j : Job M) (seed : List (Record M)) (rows :
 
   -- ---- all nodes
   none-reach : (i : ℕ) → seed_splits i ≡ true → (r : Row) → eqb (reached r) i ≡ false
-  none-reach i q r = go (eqb (reached r) i) (eqb→eq (reached r) i)
-    where
-      go : (b : Bool) → (T b → reached r ≡ i) → b ≡ false
-      go false e = refl
-      go true e = absurd (true≢false (sym q ∙ T→not-false (is_leaf (get_or nodes i leaf)) (rw (e tt) at (is_leaf_lem r.props))))
+  none-reach i q r = search (arith, is_leaf_lem)
 
   seed-node : (i : ℕ) (s : State M) → Seeding i s → i < length seed → (m : Node) → get_or nodes i leaf ≡ m → FieldsFit m (get_or seed i blank_record).info.pred → (depth : ℕ)
       → Seeding (suc i) (with_seed_node j m (get_or seed i blank_record).info depth (rows_at nodes i rows) s)
@@ -250,29 +246,7 @@ module _ {M : Meter} (B : Bounds M) (j : Job M) (seed : List (Record M)) (rows :
       here = let z : i + 0 ≡ i = omega arith in rw z at (same 0 (omega arith))
 
   nothing_yet : Seeding 0 (record { rows = []; tree = []; bits = M.no_total })
-  nothing_yet = record {
-    counted = refl;
-    same = λ k h. absurd (below k h);
-    bounds = λ k h. absurd (below k h);
-    leaf_rows = λ k h. absurd (below k h);
-    apart = λ x k h. absurd (below x h);
-    beside = λ k h. absurd (below k h);
-    offers = λ k h. absurd (below k h);
-    fits = λ k h. absurd (below k h);
-    small = λ k h. absurd (below k h);
-    covered = λ p h. absurd (below p h);
-    total = sym (count_none (λ (r : Row). ltb (reached r) 0) rows (λ r. not-below (reached r)));
-  }
-    where
-      below : (k : ℕ) → k < 0 → ⊥
-      below k h = omega arith
-
-      not-below : (n : ℕ) → ltb n 0 ≡ false
-      not-below n = go (ltb n 0) (ltb→lt n 0)
-        where
-          go : (b : Bool) → (T b → n < 0) → b ≡ false
-          go true f = absurd (below n (f tt))
-          go false f = refl
+  nothing_yet = search (arith, count_none)
 
   abbrev pub s₀ : State M
   s₀ = seed_state j seed rows

@@ -3,19 +3,18 @@ use mathlib.Core.Path.{◌≡◌, refl, sym, ap, ◌∙◌}
 use mathlib.Core.Logic.{◌≢◌, ◌⊎◌, inl, inr}
 use Prim.Native.Nat.{ℕ, zero, suc, ◌+◌, ◌-◌, ◌≤◌, ◌<◌}
 use native.Mathlib.Omega.{arith}
-use mathlib.Core.Bool.{Bool, true, false, cond}
-use mathlib.Core.List.{List, [], ◌∷◌, ◌++◌, map, append-nil}
+use mathlib.Core.Bool.{Bool, cond}
+use mathlib.Core.List.{List, [], ◌∷◌, ◌++◌, append-nil}
 use lib.ListN.{length, take, drop}
 use lib.Seq.{slice, length-slice}
 use lib.Dec.{T}
-use Rattle.model.specs.Lists.{count_if}
 use Rattle.model.specs.Meter.{Meter}
 use Rattle.model.specs.Rows.{Row, Span, within}
 use Rattle.model.specs.Mode.{fresh}
 use Rattle.model.specs.Tree.{is_leaf}
 use Rattle.model.specs.Grow.{Entry}
 use Rattle.model.specs.Settle.{settled}
-use Rattle.model.specs.Promise.{key, no_row}
+use Rattle.model.specs.Promise.{no_row}
 use Rattle.model.specs.Kept.{entry_at}
 use Rattle.model.proofs.Slices.{length-replaced, slice-gt, slice-before, slice-after}
 use Rattle.model.proofs.Fresh.{fresh-key, fresh-twice, length-fresh}
@@ -53,25 +52,13 @@ module _ {M : Meter} where
 
   module _ (uses : Bool) (e : Entry M) (rows : List Row) (ab : e.span.first ≤ e.span.end) (bn : e.span.end ≤ length rows) where
     turn-length : length (turn uses e rows) ≡ length rows
-    turn-length = go (is_leaf e.node)
-      where
-        go : (b : Bool) → length (cond b (put uses e.span rows) rows) ≡ length rows
-        go true = put-length uses rows e.span ab bn
-        go false = refl
+    turn-length = search (arith, put-length)
 
     turn-same : T (is_leaf e.node) → within e.span (turn uses e rows) ≡ fresh uses (within e.span rows)
-    turn-same t = go (is_leaf e.node) t
-      where
-        go : (b : Bool) → T b → within e.span (cond b (put uses e.span rows) rows) ≡ fresh uses (within e.span rows)
-        go true t = put_same uses rows e.span ab bn
-        go false t = absurd t
+    turn-same t = search (arith, put_same)
 
     turn-other : (t : Span) → t.end ≤ length rows → (T (is_leaf e.node) → (e.span.end ≤ t.first) ⊎ (t.end ≤ e.span.first)) → within t (turn uses e rows) ≡ within t rows
-    turn-other t tn c = go (is_leaf e.node) c
-      where
-        go : (b : Bool) → (T b → (e.span.end ≤ t.first) ⊎ (t.end ≤ e.span.first)) → within t (cond b (put uses e.span rows) rows) ≡ within t rows
-        go true c = put_other uses rows e.span ab bn t tn (c tt)
-        go false c = refl
+    turn-other t tn c = search (arith, put_other)
 
   abbrev Bounded : List (Entry M) → List Row → Type 0
   Bounded es rows = (k : ℕ) → k < length es → ((entry_at es k).span.first ≤ (entry_at es k).span.end) × ((entry_at es k).span.end ≤ length rows)
@@ -113,13 +100,7 @@ module _ {M : Meter} where
       ∙ ap (fresh uses) (turn-other uses e rows z.0 z.1 (entry_at es q).span y.1 (λ u. d 0 (suc q) (omega arith) h (omega arith) u t))
 
   pub settled-placed : (uses : Bool) (given rows : List Row) (es : List (Entry M)) → Placed uses given rows es → Placed uses given (settled uses es rows) es
-  settled-placed uses given rows es pl = record {
-    bounds = λ k h. rw (settled-length uses es rows pl.bounds) (pl.bounds k h);
-    apart = pl.apart;
-    covered = λ p h. pl.covered p (rw (settled-length uses es rows pl.bounds) at h);
-    holds = λ k h t p. ap (λ (l : List Row). count_if p (map (key uses) l)) (settled-leaf uses es rows pl.bounds pl.apart k h t)
-        ∙ ap (count_if p) (fresh-key uses (within (entry_at es k).span rows)) ∙ pl.holds k h t p;
-  }
+  settled-placed uses given rows es pl = search (arith, settled-length, settled-leaf, fresh-key)
 
   pub settled-fresh : (uses : Bool) (given rows : List Row) (es : List (Entry M)) → Placed uses given rows es → (k : ℕ) → k < length es → T (is_leaf (entry_at es k).node)
       → fresh uses (within (entry_at es k).span (settled uses es rows)) ≡ within (entry_at es k).span (settled uses es rows)

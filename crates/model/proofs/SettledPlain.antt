@@ -1,11 +1,12 @@
 -- Settling an unpruned tree changes nothing, in learning and in deepening: refusals and growth do not look at it, and a grown tree's tokens are fresh.
 -- Assumes nothing.
+use native.Mathlib.Omega.{arith}
 use mathlib.Core.Path.{◌≡◌, refl, sym, ap, ◌∙◌}
 use Prim.Native.Nat.{ℕ, ◌-◌}
 use native.Mathlib.Nat.{le_refl}
 use mathlib.Core.Bool.{Bool, false}
 use mathlib.Core.List.{List}
-use mathlib.Core.Option.{Option, none, some}
+use mathlib.Core.Option.{Option, none}
 use lib.ListN.{length}
 use Rattle.model.specs.Meter.{Meter}
 use Rattle.model.specs.Settings.{Settings, with_settling}
@@ -98,11 +99,7 @@ module _ (P : Profile) (t : Settings P.meter) (logs : List P.meter.Cost) (x : Le
 -- the same refusal, and results that are the same where nothing is refused: then the same outcome and the same lists, whatever a result leaves in them
 pub unless-same : {M : Meter} {L : Type 0} (exit : Result M → L) (x : L) {o u : Option Refusal} {r q : Result M} → u ≡ o → (o ≡ none → q ≡ r)
     → unless u x (tree_of q) (exit q) ≡ unless o x (tree_of r) (exit r)
-unless-same {M} {L} exit x {o} {u} {r} {q} e h = ap (λ (w : Option Refusal). unless w x (tree_of q) (exit q)) e ∙ go o h
-  where
-    go : (w : Option Refusal) → (w ≡ none → q ≡ r) → unless w x (tree_of q) (exit q) ≡ unless w x (tree_of r) (exit r)
-    go (some z) h = refl
-    go none h = rw (h refl)
+unless-same {M} {L} exit x {o} {u} {r} {q} e h = grind arith
 
 module _ (P : Profile) (law : Lawful P) where
   learn_plain : (t : Settings P.meter) (logs : List P.meter.Cost) (x : Lent P.meter) (b : Bool) → Unpruned P t → learn P (with_settling b t) logs x ≡ learn P t logs x

@@ -53,13 +53,7 @@ info-small t logs mode rows a r l = within_mono (cost_of t logs rows (best_predi
 -- evaluation stays in range where the checks pass
 pub single-fits : (t : Settings singles) (logs : List Float) (uses : Bool) (n : ℕ) → T (single.price_fits t.price) → t.alphabet ≤ 256 → n ≤ max_rows → n < length logs
     → T (single.logs_fit (take n (drop 1 logs))) → JobFits SingleSmall (job_of single t logs uses) n
-single-fits t logs uses n price a r h l =
-    record {
-      pred_fits = info-fits t logs;
-      cost_small = λ mode rows k. info-small t logs mode rows a (omega arith) (λ c p q. logs-within n logs h l c p (omega arith));
-      offer_fits = λ depth cost rows. offered-fits t logs rows depth cost;
-      price_small = within_mono t.price {b = 2 ^ 20} {c = 1 * 2 ^ 31} (lit≤ tt) (price-within t.price price);
-    }
+single-fits t logs uses n price a r h l = search (arith, info-fits, info-small, logs-within, offered-fits, price-within)
 
 -- both: the learner is lawful
 abbrev pub single-lawful : Lawful single

@@ -50,19 +50,13 @@ module _ {ℓ} {A : Type ℓ} where
     length-replaced = omega (arith, length-append (take a rows ++ gt ++ le) (drop b rows), upto_le, length-drop b rows)
 
     pub slice-gt : slice a (a + length gt) replaced ≡ gt
-    slice-gt = ap (λ (x : List A). slice a (a + length gt) x) (append_assoc (take a rows ++ gt) le (drop b rows))
-        ∙ ap (drop a) (take_at (take a rows ++ gt) (le ++ drop b rows) (a + length gt) upto-gt)
-        ∙ drop_at (take a rows) gt a front
+    slice-gt = search (arith, append_assoc, take_at, upto-gt, drop_at, front)
 
     pub slice-le : slice (a + length gt) b replaced ≡ le
     slice-le = ap (drop (a + length gt)) (take_at (take a rows ++ gt ++ le) (drop b rows) b upto_le) ∙ drop_at (take a rows ++ gt) le (a + length gt) upto-gt
 
     pub replaced-before : (z : A) (k : ℕ) → k < a → get_or replaced k z ≡ get_or rows k z
-    replaced-before z k h =
-        get_or-append (take a rows ++ gt ++ le) (drop b rows) z k (omega (arith, upto_le))
-        ∙ get_or-append (take a rows ++ gt) le z k (omega (arith, upto-gt))
-        ∙ get_or-append (take a rows) gt z k (omega (arith, front))
-        ∙ get_or-take a rows k z h
+    replaced-before z k h = search (arith, get_or-append, upto_le, upto-gt, front, get_or-take)
 
     pub replaced-after : (z : A) (k : ℕ) → b ≤ k → get_or replaced k z ≡ get_or rows k z
     replaced-after z k h =

@@ -1,6 +1,6 @@
 -- Which node lists are sound: families of nodes whose fields are in range, in which each node but the first has a parent. Assumes nothing.
-use mathlib.Core.Path.{◌≡◌, refl, sym, ap, ◌∙◌, subst}
-use mathlib.Core.Logic.{◌⊎◌, inl, inr}
+use mathlib.Core.Path.{◌≡◌, refl, sym, subst}
+use mathlib.Core.Logic.{inl, inr}
 use Prim.Native.Nat.{ℕ, zero, suc, ◌+◌, ◌≤◌, ◌<◌}
 use native.Mathlib.Nat.{zero-add, add-zero, lt_irrefl}
 use native.Mathlib.Omega.{arith}
@@ -84,11 +84,7 @@ module _ {A : Type 0} (p : A → Bool) (d : A) where
 -- ---- children by the test and by the relation
 pub has_child_lem : (m : Node) (c : ℕ) → T (has_child c m) → ChildOf m c
 has_child_lem leaf c t = t
-has_child_lem (split p v g l) c t = go (eqb g c) (eqb→eq g c) (eqb→eq l c) t
-  where
-    go : (b : Bool) → (T b → g ≡ c) → (T (eqb l c) → l ≡ c) → T (b || eqb l c) → (c ≡ g) ⊎ (c ≡ l)
-    go true f h t = inl (sym (f tt))
-    go false f h t = inr (sym (h t))
+has_child_lem (split p v g l) c t = search arith
 
 pub child_has : (m : Node) (c : ℕ) → ChildOf m c → T (has_child c m)
 child_has leaf c h = absurd h
@@ -146,18 +142,7 @@ module _ {M : Meter} (rs : List (Record M)) where
     -- the count is in range
     pub sound-count : (0 < length rs) × (length rs ≤ max_nodes) × (fault_from nodes 0 rs ≡ none)
     unfolding fault_of
-    sound-count = go (eqb (length rs) 0) (ltb max_nodes (length rs)) refl refl faultless
-      where
-        some-node : eqb (length rs) 0 ≡ false → length rs ≡ 0 → ⊥
-        some-node q z = true≢false (sym (ap (λ (m : ℕ). eqb m 0) z) ∙ q)
-
-        few : ltb max_nodes (length rs) ≡ false → max_nodes < length rs → ⊥
-        few q h = true≢false (sym (T→true (ltb max_nodes (length rs)) (lt→ltb max_nodes (length rs) h)) ∙ q)
-
-        go : (b c : Bool) → eqb (length rs) 0 ≡ b → ltb max_nodes (length rs) ≡ c → cond (b || c) (some 0) (fault_from nodes 0 rs) ≡ none → (0 < length rs) × (length rs ≤ max_nodes) × (fault_from nodes 0 rs ≡ none)
-        go true c q w z = absurd (none_is_no_some 0 (sym z))
-        go false true q w z = absurd (none_is_no_some 0 (sym z))
-        go false false q w z = (let ne = some-node q in omega arith, (let ne = few w in omega arith), z)
+    sound-count = search arith
 
     pub has_root : 0 < length nodes
     has_root = rw same_length sound-count.0
@@ -263,9 +248,4 @@ module _ {M : Meter} (rs : List (Record M)) where
 
     pub sound-faultless : 0 < length rs → length rs ≤ max_nodes → fault_of rs ≡ none
     unfolding fault_of
-    sound-faultless low high = rw (eqb-other (length rs) 0 (λ (e : length rs ≡ 0). lt_irrefl 0 (omega arith)), few (ltb max_nodes (length rs)) (ltb→lt max_nodes (length rs)))
-        (none_from 0 rs (zero-add (length rs)) (λ m h. rw zero-add))
-      where
-        few : (b : Bool) → (T b → max_nodes < length rs) → b ≡ false
-        few true f = absurd (lt_irrefl max_nodes (let x = f tt in omega arith))
-        few false f = refl
+    sound-faultless low high = search (arith, none_from)

@@ -4,7 +4,7 @@ use mathlib.Core.Logic.{◌⊎◌, inl, inr}
 use Prim.Native.Nat.{ℕ, zero, suc, ◌+◌, ◌<◌}
 use native.Mathlib.Nat.{zero-add}
 use native.Mathlib.Omega.{arith}
-use mathlib.Core.Bool.{Bool, true, false, cond}
+use mathlib.Core.Bool.{Bool}
 use mathlib.Core.List.{List, [], ◌∷◌}
 use mathlib.Core.Option.{Option, none, some}
 use lib.ListN.{length}
@@ -24,11 +24,7 @@ module _ {M : Meter} where
   greater-waits : (j : Job M) (tree : List (Entry M)) (c : Choice M) (i : ℕ) (o : Option (Offer M)) → i < length tree → (entry_at tree i).offer ≡ o → Waits tree c → Waits tree (greater j c i o)
   greater-waits j tree c i none h e w = w
   greater-waits j tree no_choice i (some o) h e w = (h, e)
-  greater-waits j tree (chosen k p) i (some o) h e w = go (j.ahead o p)
-    where
-      go : (b : Bool) → Waits tree (cond b (chosen i o) (chosen k p))
-      go true = (h, e)
-      go false = w
+  greater-waits j tree (chosen k p) i (some o) h e w = grind arith
 
   choice_waits : (j : Job M) (tree : List (Entry M)) (c : Choice M) (i : ℕ) (es : List (Entry M)) → i + length es ≡ length tree → ((m : ℕ) → m < length es → entry_at es m ≡ entry_at tree (i + m)) → Waits tree c → Waits tree (choice_from j c i es)
   unfolding choice_from

@@ -57,10 +57,7 @@ none_of k (x ∷ xs) h = rw (eqb-other x k (λ (e : x ≡ k). h (Memᴰ.head (sy
 
 once_at_most : (k : ℕ) (l : List ℕ) → NoRepeat l → count_if (is k) l ≤ 1
 once_at_most k [] h = omega arith
-once_at_most k (x ∷ xs) h = elim (ℕ_discrete x k) [ yes e ↦ here e | no ne ↦ rw (eqb-other x k ne) (let ih = once_at_most k xs h.1 in omega arith) ]
-  where
-    here : x ≡ k → cond (eqb x k) 1 0 + count_if (is k) xs ≤ 1
-    here e = let z = none_of k xs (λ m. h.0 (Memᴰ.cast e m)) in rw (e, eqb_same k) (omega arith)
+once_at_most k (x ∷ xs) h = search (arith, none_of, once_at_most k xs h.1)
 
 tally_at_most : (n : ℕ) (l : List ℕ) → NoRepeat l → tally n l ≤ n
 unfolding tally

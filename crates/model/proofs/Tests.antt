@@ -1,16 +1,15 @@
 -- Tests of the checks, read as facts: what a test that passed or failed says, and what is left where nothing was refused. Assumes nothing.
-use mathlib.Core.Path.{◌≡◌, refl, sym, ap, ◌∙◌}
-use mathlib.Core.Logic.{◌≢◌, ◌⊎◌, inl, inr, ◌↔◌}
-use Prim.Native.Nat.{ℕ, ◌≤◌, ◌<◌}
-use native.Mathlib.Nat.{lt_irrefl}
+use mathlib.Core.Path.{◌≡◌, refl, sym, ap}
+use mathlib.Core.Logic.{◌↔◌}
+use Prim.Native.Nat.{ℕ, ◌≤◌}
 use native.Mathlib.Omega.{arith}
 use mathlib.Core.Bool.{Bool, true, false, not, cond, ◌&&◌, ◌||◌, true≢false}
 use mathlib.Core.Option.{Option, none, some}
-use lib.Dec.{T, eqb, ltb, nltb→le, ltb→lt, eqb→eq}
+use lib.Dec.{T, ltb, eqb→eq}
 use lib.IntN.{ℤ, pos, negsuc}
 use Rattle.model.specs.Lists.{eq_z}
 use Rattle.model.specs.Refuse.{Refusal, refuse_if, refuse_at, refuse_with}
-use Rattle.model.proofs.Paths.{eqb_same, eqb-other}
+use Rattle.model.proofs.Paths.{eqb_same}
 use Rattle.model.proofs.Invariant.{none_is_no_some}
 
 pub and_both : (a b : Bool) → T (a && b) ↔ (T a × T b)
@@ -24,10 +23,6 @@ and-true false b e = absurd (true≢false (sym e))
 pub true-T : (b : Bool) → b ≡ true → T b
 true-T b e = rw e tt
 
-pub or_either : (a b : Bool) → T (a || b) ↔ (T a ⊎ T b)
-or_either true b = (λ t. inl tt, λ p. tt)
-or_either false b = (λ t. inr t, elim [ inl t ↦ absurd t | inr t ↦ t ])
-
 pub neither : (a b : Bool) → ((a || b) ≡ false) ↔ ((a ≡ false) × (b ≡ false))
 neither true b = (λ e. absurd (true≢false e), λ p. p.0)
 neither false b = (λ e. (refl, e), λ p. p.1)
@@ -37,14 +32,7 @@ holds true = (λ e. tt, λ t. refl)
 holds false = (λ e. absurd (true≢false e), λ t. absurd t)
 
 pub not-below : (m n : ℕ) → (ltb m n ≡ false) ↔ (n ≤ m)
-not-below m n = (λ e. nltb→le m n (rw e tt), λ h. go h (ltb m n) (ltb→lt m n))
-  where
-    go : n ≤ m → (b : Bool) → (T b → m < n) → b ≡ false
-    go h true f = absurd (lt_irrefl m (let x = f tt in omega arith))
-    go h false f = refl
-
-pub unequal : (m n : ℕ) → (eqb m n ≡ false) ↔ (m ≢ n)
-unequal m n = (λ e q. true≢false (sym (rw q (eqb_same n)) ∙ e), eqb-other m n)
+not-below m n = search arith
 
 pub eq_z-eq : (a b : ℤ) → T (eq_z a b) → a ≡ b
 eq_z-eq (pos a) (pos b) t = ap pos (eqb→eq a b t)
@@ -57,11 +45,7 @@ eq_z-same (pos a) = eqb_same a
 eq_z-same (negsuc a) = eqb_same a
 
 pub eq_z-other : (a b : ℤ) → (a ≡ b → ⊥) → eq_z a b ≡ false
-eq_z-other a b ne = go (eq_z a b) (eq_z-eq a b)
-  where
-    go : (t : Bool) → (T t → a ≡ b) → t ≡ false
-    go true e = absurd (ne (e tt))
-    go false e = refl
+eq_z-other a b ne = search arith
 
 pub passed : (b : Bool) (n : ℕ) (next : Option Refusal) → (refuse_if b n next ≡ none) ↔ ((b ≡ false) × (next ≡ none))
 passed true n next = (λ e. absurd (none_is_no_some _ (sym e)), λ p. absurd (true≢false p.0))

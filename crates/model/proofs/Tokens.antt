@@ -1,15 +1,12 @@
 -- 01's tokens are the standard's hybrid integers at (4, 2, 0). A value is read back from its token and extra bits, and a token with its extra bits is written
 -- back from its value. Assumes nothing.
-use mathlib.Core.Path.{◌≡◌, refl, sym, ap, ◌∙◌}
-use mathlib.Core.Bool.{Bool, true, false, not, ◌&&◌}
-use mathlib.Core.Option.{none}
+use mathlib.Core.Path.{◌≡◌, sym, ap, ◌∙◌}
 use Prim.Native.Nat.{ℕ, suc, ◌+◌, ◌-◌, ◌*◌, ◌/◌, ◌%◌, ◌^◌, ◌≤◌, ◌<◌}
-use native.Mathlib.Nat.{add-zero, mul-one, div-one, mod-one, add-mul, pow-suc, div-add-mod', mod-lt, le-div_iff_mul-le, div-lt_iff_lt-mul}
+use native.Mathlib.Nat.{mod-one, add-mul, pow-suc, div-add-mod', mod-lt, le-div_iff_mul-le, div-lt_iff_lt-mul}
 use native.Mathlib.Decide.{dec_lt}
 use native.Mathlib.Omega.{arith}
-use borrow.Author.Tests.{lt-ltb, le-ltb, le-leb, lt-leb, ltb-true}
-use lib.Dec.{leb, ltb}
-use lib.Arith.{digits_lt, digits_div, digits_mod}
+use borrow.Author.Tests.{lt-ltb, le-ltb, le-leb, lt-leb}
+use lib.Arith.{digits_lt, digits_mod}
 use lib.Ieee.{size}
 use lib.Ieee.Digits.{size-lt, size_reaches, size-le}
 use lib.IntN.{ℤ}
@@ -18,29 +15,19 @@ use lib.Signed.{mag}
 use Rattle.model.specs.Pack.{packed}
 use Rattle.model.specs.Standard.{hybrid_bits, read_hybrid, default_config}
 use Rattle.model.specs.Token.{top_bit, token_of, extra_count, extra_bits, value_of, encoded_of, readable}
-use Rattle.model.specs.Refuse.{Refusal, refuse_if, token_refusal}
-use Rattle.model.specs.Operations.{refused, accepted, outcome_of, token_answer}
+use Rattle.model.specs.Refuse.{Refusal, token_refusal}
+use Rattle.model.specs.Operations.{refused, accepted, token_answer}
 use Rattle.model.proofs.Packing.{packed_lt}
 
 -- ---- the standard's reading
 
 pub count_is_standard : (t : ℕ) → extra_count t ≡ hybrid_bits default_config t
 unfolding extra_count hybrid_bits
-count_is_standard t = go (dec_lt t 16)
-  where
-    go : Dec (t < 16) → extra_count t ≡ hybrid_bits default_config t
-    go (yes h) = rw (lt-ltb t 16 h)
-    go (no h) = rw (le-ltb t 16 (omega arith)) (omega arith)
+count_is_standard t = search arith
 
 pub value_is_standard : (t extra : ℕ) → value_of t extra ≡ read_hybrid default_config t extra
 unfolding value_of read_hybrid hybrid_bits
-value_is_standard t extra = go (dec_lt t 16)
-  where
-    go : Dec (t < 16) → value_of t extra ≡ read_hybrid default_config t extra
-    go (yes h) = rw (lt-ltb t 16 h)
-    go (no h) =
-        let count : 2 + (t - 16) / 4 ≡ t / 4 - 2 = omega arith in
-        rw (le-ltb t 16 (omega arith), count, div-one, mul-one, mod-one, add-zero)
+value_is_standard t extra = search arith
 
 -- ---- values under 16
 
@@ -77,10 +64,7 @@ module _ (k q : ℕ) (wide : 2 ≤ k) (two : q < 4) where
 
   wide_value : (r : ℕ) → value_of (4 * (k + 2) + q) r ≡ (4 + q) * 2 ^ k + r
   unfolding value_of
-  wide_value r =
-      let rest : (4 * (k + 2) + q) % 4 ≡ q = omega arith in
-      let down : (4 * (k + 2) + q) / 4 - 2 ≡ k = omega arith in
-      rw (le-ltb (4 * (k + 2) + q) 16 (omega arith), rest, down)
+  wide_value r = search arith
 
 module _ (k q r : ℕ) (wide : 2 ≤ k) (two : q < 4) (extra : r < 2 ^ k) where
   low : 2 ^ (k + 2) ≤ (4 + q) * 2 ^ k + r
@@ -97,10 +81,7 @@ module _ (k q r : ℕ) (wide : 2 ≤ k) (two : q < 4) (extra : r < 2 ^ k) where
 
   wide-token : token_of ((4 + q) * 2 ^ k + r) ≡ 4 * (k + 2) + q
   unfolding token_of
-  wide-token =
-      let rest : (4 + q) * 2 ^ k + r - 2 ^ (k + 2) ≡ q * 2 ^ k + r = omega (arith, pow-add 2 k 2, add-mul 4 q (2 ^ k)) in
-      let down : k + 2 - 2 ≡ k = omega arith in
-      rw (le-ltb ((4 + q) * 2 ^ k + r) 16 large, wide-top, rest, down, digits_div q extra)
+  wide-token = search (arith, pow-add, add-mul, large, wide-top)
 
   wide_token_fits : (4 + q) * 2 ^ k + r < 2 ^ 32 → token_of ((4 + q) * 2 ^ k + r) ≤ 127
   wide_token_fits h = rw wide-token (go (dec_lt k 30))
@@ -230,13 +211,4 @@ encoded-reads v h = reads (token_of v) (extra_bits v) (token-fits v h) (bits_fit
 
 pub read-encodes : (t extra v : ℕ) → token_answer t extra ≡ accepted v → encoded_of v ≡ record { token = t; nbits = extra_count t; bits = extra }
 unfolding encoded_of token_answer token_refusal readable
-read-encodes t extra v h = go (leb t 127) (ltb extra (2 ^ extra_count t)) refl h
-  where
-    go : (a b : Bool) → ltb extra (2 ^ extra_count t) ≡ b → outcome_of (refuse_if (not (a && b)) 10 none) (value_of t extra) ≡ accepted v
-        → encoded_of v ≡ record { token = t; nbits = extra_count t; bits = extra }
-    go true true e h =
-        let few = ltb-true extra (2 ^ extra_count t) e in
-        let same : value_of t extra ≡ v = cc in
-        rw (← same, token_back t extra few, bits_back t extra few)
-    go true false e h = let z : ◌≡◌ {A = ℕ} 0 1 = cc in absurd (omega arith)
-    go false b e h = let z : ◌≡◌ {A = ℕ} 0 1 = cc in absurd (omega arith)
+read-encodes t extra v h = search (arith, token_back, bits_back)

@@ -2,7 +2,7 @@
 use mathlib.Core.Path.{◌≡◌, refl, sym, ap, ◌∙◌}
 use Prim.Native.Nat.{ℕ, zero, suc, ◌+◌, ◌-◌, ◌≤◌}
 use native.Mathlib.Omega.{arith}
-use mathlib.Core.Bool.{Bool, true, false, cond}
+use mathlib.Core.Bool.{false}
 use mathlib.Core.List.{List, ◌++◌, map, map-map, map-append}
 use lib.ListN.{length, get_or, take, replicate, length-map, length-append, length-replicate, get_or-map}
 use lib.Seq.{take_at, get_or-append-add}
@@ -11,7 +11,6 @@ use Rattle.model.specs.Rows.{Row, no_span}
 use Rattle.model.specs.Tree.{Record, blank_record, nodes_of}
 use Rattle.model.specs.Job.{Job, prunes}
 use Rattle.model.specs.Grow.{Entry, State, no_entry, tree_nodes, record_of, steps}
-use Rattle.model.specs.Settle.{settled}
 use Rattle.model.specs.Learn.{Result, result_of, pruned, settled_state, leaf_count, finished, root_state, learned}
 use Rattle.model.specs.Deepen.{seed_state, deepened}
 use Rattle.model.proofs.Results.{record_of_result, span_of_result, tree_of_result}
@@ -31,11 +30,7 @@ module _ {M : Meter} where
   -- settling leaves the tree
   pub settled-tree : (j : Job M) (s : State M) → (settled_state j s).tree ≡ s.tree
   unfolding settled_state
-  settled-tree j s = go j.settling
-    where
-      go : (b : Bool) → (cond b (record { rows = settled j.uses s.tree s.rows; tree = s.tree; bits = s.bits }) s).tree ≡ s.tree
-      go true = refl
-      go false = refl
+  settled-tree j s = grind arith
 
   -- and so does an unpruned job
   uncut : (j : Job M) (s : State M) → prunes j ≡ false → (settled_state j (pruned j s)).tree ≡ s.tree

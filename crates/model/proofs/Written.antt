@@ -44,6 +44,4 @@ module _ {A : Type 0} where
   -- one entry changed, and two more
   pub written-split : (new lent : List A) (n i : ℕ) (x g m : A) → n ≡ length new → i < n → suc n < length lent
       → written_over (set new i x ++ (g ∷ m ∷ [])) lent ≡ set (set (set (written_over new lent) i x) n g) (suc n) m
-  written-split new lent n i x g m e h room =
-      written-more (set new i x) lent n g m (e ∙ sym (length-set new i x)) room
-      ∙ rw (length-set new i x, set-append_left new (drop (length new) lent) i x (omega arith))
+  written-split new lent n i x g m e h room = search (arith, written-more, length-set, set-append_left)

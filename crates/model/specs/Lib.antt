@@ -26,6 +26,7 @@ pub mod Profile
 pub mod Lent
 pub mod Refuse
 pub mod Operations
+pub mod Answered
 pub mod Decoder
 pub mod Promise
 pub mod Accepting

@@ -14,8 +14,6 @@ use Rattle.model.specs.Sampling.{even_sample}
 use Rattle.model.specs.Profile.{Profile, job_of}
 use Rattle.model.specs.Lent.{Stored, Lent, rows_in, uses_modes, tree_in, lent_after}
 use Rattle.model.specs.Refuse.{Refusal, learn_refusal, deepen_refusal, lookup_refusal, contexts_refusal, sample_refusal, token_refusal}
-use Rattle.model.specs.declared.TokenValue.{TokenValue}
-use Rattle.model.specs.declared.TokenValue.TheVariants.{Value, Refused}
 
 pub data Outcome (A : Type 0) : Type 0 where
   refused : Refusal → Outcome A
@@ -97,8 +95,3 @@ sample rows target out =
 -- ---- value of a token
 unfoldable pub token_answer : ℕ → ℕ → Outcome ℕ
 token_answer t extra = outcome_of (token_refusal t extra) (value_of t extra)
-
--- what the code's answer says
-abbrev pub answer_of : TokenValue → Outcome ℕ
-answer_of (Value v) = accepted v
-answer_of (Refused number place) = refused (record { number = number; place = place })

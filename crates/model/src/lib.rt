@@ -2,6 +2,9 @@
 // share.
 #![tactic(auto)]
 
+ghost use Rattle.std.specs.Prelude.{◌≡◌};
+ghost use Rattle.model.specs.Answered.{refusal_of};
+
 // The properties of a row.
 pub const NUM_MA_PROPS: usize = 24;
 
@@ -16,16 +19,55 @@ pub const MAX_LEAVES: usize = 4096;
 
 // What a value is coded as: its token, how many extra bits follow, and those bits. It crosses over to C.
 #[repr(C)]
-#[derive(Clone, Copy)]
+#[derive(Clone, Copy, PartialEq, Eq, Debug)]
 pub struct Encoded {
     pub token: u32,
     pub nbits: u32,
     pub bits: u32,
 }
 
-// The value of a token with its extra bits; or a refusal's number and the named place.
-#[derive(Clone, Copy)]
-pub enum TokenValue {
-    Value(u32),
-    Refused { number: u32, place: u32 },
+// A refusal: why a job is not done, with the row or the node that is named.
+#[derive(Clone, Copy, PartialEq, Eq, Debug)]
+pub enum Refusal {
+    BadSetting,
+    NoPredictor,
+    UnevenRows,
+    BadToken(u32),
+    ShortAlphabet,
+    BadLogarithms,
+    ShortOfRoom,
+    UnsoundTree(u32),
+    UnevenProperties,
+    BadCode,
+}
+
+impl Refusal {
+    // The number that callers are told.
+    pub fn number(self) -> u32
+        ensures { result ≡ (refusal_of self).number }
+    {
+        match self {
+            Refusal::BadSetting => 1,
+            Refusal::NoPredictor => 2,
+            Refusal::UnevenRows => 3,
+            Refusal::BadToken(_) => 4,
+            Refusal::ShortAlphabet => 5,
+            Refusal::BadLogarithms => 6,
+            Refusal::ShortOfRoom => 7,
+            Refusal::UnsoundTree(_) => 8,
+            Refusal::UnevenProperties => 9,
+            Refusal::BadCode => 10,
+        }
+    }
+
+    // The row or the node that is named, else 0.
+    pub fn place(self) -> u32
+        ensures { result ≡ (refusal_of self).place }
+    {
+        match self {
+            Refusal::BadToken(row) => row,
+            Refusal::UnsoundTree(node) => node,
+            _ => 0,
+        }
+    }
 }
