@@ -1,4 +1,3 @@
-pub mod Exchange
 pub mod RowLaws
 pub mod Swaps
 pub mod Cycles

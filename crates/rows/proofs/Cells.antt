@@ -1,14 +1,13 @@
 -- Reading rows of the flat lists: one row, one cell, and the rows of a span. Assumes nothing.
 use mathlib.Core.Path.{◌≡◌}
 use mathlib.Core.List.{List}
-use Prim.Native.Nat.{ℕ, ◌+◌, ◌*◌, ◌-◌, ◌/◌, ◌≤◌, ◌<◌}
+use Prim.Native.Nat.{ℕ, ◌+◌, ◌*◌, ◌/◌, ◌<◌}
 use lib.ListN.{length, get_or}
-use lib.Seq.{length-slice}
 use lib.IntN.{ℤ, pos}
-use Rattle.model.specs.Rows.{prop_of, tok_of, rows_held, within}
+use Rattle.model.specs.Rows.{prop_of, tok_of, rows_held}
 use Rattle.model.specs.Promise.{no_row}
 use Rattle.model.proofs.Places.{length_rows_of, row-at, property-at, token-at}
-use Rattle.rows.specs.Cells.{row_at, span}
+use Rattle.rows.specs.Cells.{row_at}
 
 -- ---- one row
 module _ (ps : List ℤ) (ts : List ℕ) (rs : List ℤ) where
@@ -25,7 +24,4 @@ module _ (ps : List ℤ) (ts : List ℕ) (rs : List ℤ) where
 
   pub tok_held : (i p : ℕ) → i < length ps / 24 → p < 14 → tok_of (get_or (rows_held ps ts rs) i no_row) p ≡ get_or ts (i * 14 + p) 0
   tok_held i p h l = token-at (length ps / 24) ps ts rs i p h l
-
   -- ---- the rows of a span
-  pub span-length : (first end : ℕ) → end ≤ length ps / 24 → length (within (span first end) (rows_held ps ts rs)) ≡ end - first
-  span-length first end le = length-slice first end (rows_held ps ts rs) (rw length-held le)

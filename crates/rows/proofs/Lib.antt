@@ -1,4 +1,4 @@
--- For callers: `Cells` reads rows and cells, `Shapes` carries sizes on, `Stored` stores a row, `Whole` goes from the rows back to
+-- For callers: `Cells` reads rows and cells, `Shapes` carries sizes and loans on, `Stored` stores a row, `Whole` goes from the rows back to
 -- the lists, `Sides` says what a partition leaves on either side.
 -- For the functions here: `Copies`, `Parting`, `Turns`.
 pub mod Cells

@@ -1,4 +1,4 @@
--- Sizes and shapes of the flat lists, carried from one step to the next. Assumes nothing.
+-- Sizes, shapes and loans of the flat lists, carried from one step to the next. Assumes nothing.
 use mathlib.Core.Path.{◌≡◌, refl, ap, ◌∙◌}
 use mathlib.Core.Bool.{not}
 use mathlib.Core.List.{List, [], ◌∷◌}
@@ -8,6 +8,11 @@ use lib.ListN.{length}
 use lib.IntN.{ℤ}
 use Rattle.model.specs.Lists.{is_empty}
 use Rattle.rows.specs.Flat.{Flat, row_count, has_residuals, Shaped, SameSize}
+use Rattle.rows.specs.Lent.{SameRowsLent}
+use Rattle.rows.specs.declared.Rows.{Rows}
+
+pub lent-then : {x y z : Rows} → SameRowsLent x y → SameRowsLent y z → SameRowsLent x z
+lent-then a b = record { props = b.props ∙ a.props; tok = b.tok ∙ a.tok; res = b.res ∙ a.res }
 
 pub size_same : (x : Flat) → SameSize x x
 size_same x = record { props = refl; toks = refl; res = refl }

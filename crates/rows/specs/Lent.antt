@@ -1,0 +1,14 @@
+-- The caller's rows as the learner holds them: what their lists hold, and that they stay the same lent lists. Assumes nothing.
+use Rattle.std.specs.Prelude.{◌≡◌}
+use Rattle.rows.specs.declared.Rows.{Rows}
+use Rattle.rows.specs.Flat.{Flat, flat}
+
+-- what the three lists hold
+abbrev pub flat_in : Rows → Flat
+flat_in r = flat r.props.now r.tok.now r.res.now
+
+-- the same three lists are lent
+pub record SameRowsLent (x y : Rows) : Type 0 where
+  pub props : y.props.ghost_name ≡ x.props.ghost_name
+  pub tok : y.tok.ghost_name ≡ x.tok.ghost_name
+  pub res : y.res.ghost_name ≡ x.res.ghost_name
