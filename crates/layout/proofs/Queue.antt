@@ -14,8 +14,7 @@ use Rattle.model.specs.Meter.{Meter}
 use Rattle.model.specs.Job.{Offer, Job}
 use Rattle.model.specs.Grow.{Entry, no_entry, Choice, no_choice, chosen, greater, choice_from}
 use Rattle.model.specs.Lent.{Waiting, no_waiting}
-use Rattle.layout.specs.Tree.{laid}
-use Rattle.layout.specs.Waiting.{words_per_leaf, waits, waiting_from, queue_of, without, wait_words, wait_values, wait_gains, first_best_of}
+use Rattle.layout.specs.Waiting.{laid, words_per_leaf, waits, waiting_from, queue_of, without, wait_words, wait_values, wait_gains, first_best_of}
 use Rattle.layout.specs.Waiting.{QueueListsOf, Queued, QueueRoom, SameQueue}
 use Rattle.layout.proofs.Cells.{laid_one, laid-length, laid-read}
 

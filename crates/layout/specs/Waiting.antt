@@ -1,16 +1,17 @@
 -- How three flat lists hold the queue of waiting leaves: three words (node, property, depth), a threshold and a gain a leaf, in the order of the nodes' numbers.
 -- The queue is a function of the tree: each leaf that offers a split waits (document 01, "Growth"). Assumes nothing.
-use Rattle.std.specs.Prelude.{ℕ, zero, suc, ◌+◌, ◌*◌, ◌≤◌, ◌≡◌, cond, List, [], ◌∷◌, ◌++◌, length, get_or, set, take, drop, ℤ, pos, Float}
+use Rattle.std.specs.Prelude.{ℕ, zero, suc, ◌+◌, ◌*◌, ◌≤◌, ◌≡◌, cond, List, [], ◌∷◌, ◌++◌, length, get_or, set, take, drop, ℤ, Float}
 use Rattle.std.proofs.Math.Option.{Option, none, some}
-use Rattle.std.specs.Float.{nan}
-use Rattle.std.specs.Borrow.{Bor}
 use Rattle.model.specs.Meter.{Meter}
 use Rattle.model.specs.Single.{singles}
 use Rattle.model.specs.Job.{Offer}
 use Rattle.model.specs.Grow.{Entry}
 use Rattle.model.specs.Lent.{Waiting}
-use Rattle.layout.specs.Tree.{laid}
-use Rattle.layout.specs.declared.Pending.{Pending}
+
+-- one part of each entry, end to end
+abbrev pub laid : {E A : Type 0} → (E → List A) → List E → List A
+laid part [] = []
+laid part (e ∷ es) = part e ++ laid part es
 
 abbrev pub words_per_leaf : ℕ
 words_per_leaf = 3
@@ -54,10 +55,6 @@ QueueLists = QueueListsOf singles
 abbrev pub queue_lists : List ℕ → List ℤ → List Float → QueueLists
 queue_lists words values gains = record { words = words; values = values; gains = gains }
 
--- what lent lists hold
-abbrev pub queue_now : Bor (List ℕ) → Bor (List ℤ) → Bor (List Float) → QueueLists
-queue_now words values gains = queue_lists words.now values.now gains.now
-
 -- the leaves stand at the front of the lists, and what stands behind them is of no use
 pub record Queued {M : Meter} (waiting : ℕ) (q : QueueListsOf M) (leaves : List (Waiting M)) : Type 0 where
   pub many : waiting ≡ length leaves
@@ -76,14 +73,6 @@ pub record SameQueue {M : Meter} (q p : QueueListsOf M) : Type 0 where
   pub words : length p.words ≡ length q.words
   pub values : length p.values ≡ length q.values
   pub gains : length p.gains ≡ length q.gains
-
--- the leaf that waits at place k
-pub record PendingAt (q : QueueLists) (k : ℕ) (r : Pending) : Type 0 where
-  pub node : r.node ≡ get_or q.words (k * words_per_leaf) 0
-  pub prop : r.prop ≡ get_or q.words (k * words_per_leaf + 1) 0
-  pub depth : r.depth ≡ get_or q.words (k * words_per_leaf + 2) 0
-  pub val : r.val ≡ get_or q.values k (pos 0)
-  pub gain : r.gain ≡ get_or q.gains k nan
 
 -- the words with those of the leaf at place k written
 abbrev pub put_wait_words : ℕ → ℕ → ℕ → ℕ → List ℕ → List ℕ

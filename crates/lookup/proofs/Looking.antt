@@ -4,7 +4,7 @@ use mathlib.Core.Path.{◌≡◌, refl, sym, ap, ◌∙◌}
 use Prim.Native.Nat.{ℕ, zero, suc, ◌+◌, ◌≤◌, ◌<◌}
 use native.Mathlib.Nat.{lt_irrefl}
 use native.Mathlib.Omega.{arith}
-use mathlib.Core.Bool.{Bool, true, false, ◌||◌, and-eq-true_iff, true≢false}
+use mathlib.Core.Bool.{Bool, true, false, ◌||◌, and-eq-true_iff}
 use mathlib.Core.List.{List, [], ◌∷◌, map}
 use mathlib.Core.Option.{none}
 use lib.ListN.{length, get_or, take, length-map, get_or-map}
@@ -12,7 +12,7 @@ use lib.Seq.{get_or-take}
 use lib.IntN.{ℤ}
 use lib.Dec.{eqb, ltb, eqb→eq}
 use borrow.Author.Tests.{ltb-true, le-ltb, ne_eqb}
-use Rattle.model.specs.Settings.{props_per_row}
+use Rattle.model.specs.Settings.{props_per_row, toks_per_row}
 use Rattle.model.specs.Single.{singles}
 use Rattle.model.specs.Tree.{leaf, Record, blank_record, nodes_of, no_info, towards, reach, leaf_reached, is_orderly, fault_on_way}
 use Rattle.model.specs.Lent.{Stored, record_in, stored_node, tree_in}
@@ -20,27 +20,23 @@ use Rattle.model.specs.Refuse.{refuse_at, lookup_refusal}
 use Rattle.model.specs.Operations.{Outcome, refused, accepted, Found, outcome_of, lookup}
 use Rattle.model.proofs.NodeEntries.{length-tree}
 use Rattle.model.proofs.Paths.{towards_in}
-use Rattle.layout.specs.Records.{stored_of, no_record}
+use Rattle.layout.specs.Records.{stored_of, no_record, node_is}
 use Rattle.layout.specs.declared.MaNode.{MaNode}
 use Rattle.tree.proofs.Lists.{in_range}
-use Rattle.answers.specs.Answers.{found_in}
-use Rattle.lookup.specs.declared.Way.{Way}
-use Rattle.lookup.specs.Ways.{is_split, goes_on, found, refused_at, begun, stepped, way_of}
+use Rattle.model.specs.Answered.{refusal_of}
+use Rattle.model.specs.declared.Refusal.{Refusal}
+use Rattle.layout.specs.declared.NodeNumber.{NodeNumber}
+use Rattle.std.specs.Prelude.{Result, Ok, Err}
+use Rattle.lookup.specs.Ways.{is_split, begun, followed, ended, found_outcome}
 
 -- ---- a step
 -- the record's own fields are in range
 abbrev pub in_order : MaNode → ℕ → ℕ → Bool
-in_order m i count = is_orderly count i m.info.pred (record_in (stored_of m)).node
+in_order m i count = is_orderly count i m.info.pred (node_is m)
 
 -- the child that a split leads to
 abbrev pub child_of : MaNode → List ℤ → ℕ
 child_of m ps = towards ps m.prop m.val m.gt m.le
-
--- from a node at fault, from a leaf, and from a split
-data Step (m : MaNode) (i count : ℕ) (ps : List ℤ) : Type 0 where
-  faulty : in_order m i count ≡ false → Step m i count ps
-  ends : in_order m i count ≡ true → is_split m ≡ false → Step m i count ps
-  leads : in_order m i count ≡ true → is_split m ≡ true → i < child_of m ps → child_of m ps < count → Step m i count ps
 
 module _ (m : MaNode) (i count : ℕ) (ps : List ℤ) where
   -- an orderly split: its property is one of 24, and its child stands behind it and below the count
@@ -52,32 +48,6 @@ module _ (m : MaNode) (i count : ℕ) (ps : List ℤ) where
       let low = (and-eq-true_iff _ _).0 sides.1 in
       let child = towards_in ps count i m.prop m.val m.gt m.le (ltb-true _ _ down.0, ltb-true _ _ down.1, ltb-true _ _ low.0, ltb-true _ _ low.1) in
       (ltb-true _ _ all.0, child.0, child.1)
-
-  step_of : Step m i count ps
-  step_of = go (in_order m i count) (is_split m) refl refl
-    where
-      go : (o s : Bool) → in_order m i count ≡ o → is_split m ≡ s → Step m i count ps
-      go false s eo es = faulty eo
-      go true false eo es = ends eo es
-      go true true eo es = let a = split_in_order eo es in leads eo es a.1 a.2
-
-  pub stepped-fault : in_order m i count ≡ false → stepped m i count ps ≡ refused_at 8 i
-  stepped-fault o = rw o
-
-  stepped-end : in_order m i count ≡ true → is_split m ≡ false → stepped m i count ps ≡ found i m.info.pred
-  stepped-end o s = rw (o, s)
-
-  pub stepped-on : in_order m i count ≡ true → is_split m ≡ true → stepped m i count ps ≡ goes_on (child_of m ps)
-  stepped-on o s = rw (o, s)
-
-  -- a step that does not end the way leads to a node behind it, below the count
-  step-ahead : (stepped m i count ps).on ≡ true → (i < (stepped m i count ps).node.0) × ((stepped m i count ps).node.0 < count)
-  step-ahead on = go step_of
-    where
-      go : Step m i count ps → (i < (stepped m i count ps).node.0) × ((stepped m i count ps).node.0 < count)
-      go (faulty o) = absurd (true≢false (sym on ∙ ap (λ (w : Way). w.on) (stepped-fault o)))
-      go (ends o s) = absurd (true≢false (sym on ∙ ap (λ (w : Way). w.on) (stepped-end o s)))
-      go (leads o s a b) = rw (stepped-on o s) (a, b)
 
 -- ---- the tree that the model reads
 get_d_any : {A : Type 0} (l : List A) (i : ℕ) (d e : A) → i < length l → get_or l i d ≡ get_or l i e
@@ -103,17 +73,12 @@ module _ (ns : List MaNode) (count : ℕ) (held : count ≤ length ns) where
   node_at i h = get_or-map (λ (r : Record singles). r.node) tree i blank_record ∙ ap (λ (r : Record singles). r.node) (record_at_lem i h)
 
 -- ---- the way
--- one that has ended stays
-stands : (ns : List MaNode) (count : ℕ) (ps : List ℤ) (fuel : ℕ) (w : Way) → w.on ≡ false → way_of ns count ps fuel w ≡ w
-stands ns count ps zero w off = refl
-stands ns count ps (suc fuel) w off = rw off
-
 module _ (ns : List MaNode) (count : ℕ) (held : count ≤ length ns) (ps : List ℤ) where
   abbrev at : ℕ → MaNode
   at i = get_or ns i no_record
 
   -- what a lookup answers from node i on, in at most `fuel` steps
-  answer_from : ℕ → ℕ → Outcome Found
+  pub answer_from : ℕ → ℕ → Outcome Found
   answer_from fuel i =
       let end = reach fuel (nodes_of (tree ns count held)) ps i in
       outcome_of (refuse_at (fault_on_way fuel (tree ns count held) ps i) 8 none) (record { leaf = end; pred = (get_or (tree ns count held) end blank_record).info.pred })
@@ -131,17 +96,6 @@ module _ (ns : List MaNode) (count : ℕ) (held : count ≤ length ns) (ps : Lis
     unfolding answer_from fault_on_way reach
     answer-on o s = rw (node_at ns count held i h, record_at_lem ns count held i h, tree-length ns count held, o, s)
 
-  -- with enough steps the way from node i ends with that answer
-  way-ends : (fuel i : ℕ) → i < count → count ≤ i + fuel → (way_of ns count ps fuel (goes_on i)).end ≡ found_in (answer_from fuel i)
-  way-ends zero i h enough = absurd (lt_irrefl i (omega arith))
-  way-ends (suc fuel) i h enough = go (step_of (at i) i count ps) (way-ends fuel)
-    where
-      go : Step (at i) i count ps → ((j : ℕ) → j < count → count ≤ j + fuel → (way_of ns count ps fuel (goes_on j)).end ≡ found_in (answer_from fuel j))
-          → (way_of ns count ps fuel (stepped (at i) i count ps)).end ≡ found_in (answer_from (suc fuel) i)
-      go (faulty o) ih = rw (stepped-fault (at i) i count ps o, stands ns count ps fuel (refused_at 8 i) refl, answer-fault fuel i h o)
-      go (ends o s) ih = rw (stepped-end (at i) i count ps o s, stands ns count ps fuel (found i (at i).info.pred) refl, answer-end fuel i h o s)
-      go (leads o s a b) ih = rw (stepped-on (at i) i count ps o s, answer-on fuel i h o s) (ih (child_of (at i) ps) b (omega arith))
-
   lookup-from : length ps ≡ props_per_row → 0 < count → lookup (map stored_of ns) count ps ≡ answer_from count 0
   unfolding lookup lookup_refusal leaf_reached answer_from
   lookup-from e h = rw (
@@ -156,48 +110,83 @@ module _ (ns : List MaNode) (count : ℕ) (held : count ≤ length ns) (ps : Lis
 -- ---- from the beginning
 module _ (ns : List MaNode) (count : ℕ) (ps : List ℤ) where
   -- 9: not 24 properties
-  lookup_nine : eqb (length ps) props_per_row ≡ false → lookup (map stored_of ns) count ps ≡ refused (record { number = 9; place = 0 })
+  pub lookup_nine : eqb (length ps) props_per_row ≡ false → lookup (map stored_of ns) count ps ≡ refused (record { number = 9; place = 0 })
   unfolding lookup lookup_refusal
   lookup_nine e = rw e
 
   -- 8: count zero or beyond the list
-  lookup_eight : eqb (length ps) props_per_row ≡ true → (eqb count 0 || ltb (length ns) count) ≡ true → lookup (map stored_of ns) count ps ≡ refused (record { number = 8; place = 0 })
+  pub lookup_eight : eqb (length ps) props_per_row ≡ true → (eqb count 0 || ltb (length ns) count) ≡ true → lookup (map stored_of ns) count ps ≡ refused (record { number = 8; place = 0 })
   unfolding lookup lookup_refusal
   lookup_eight e t = rw (e, length-map ns stored_of, t)
 
-  -- What holds of a way with at most `fuel` steps left: it ends with what the model's lookup answers, and while it is on it stands at a node of the list, below
-  -- the count, and may meet every node behind that.
-  pub record Going (fuel : ℕ) (w : Way) : Type 0 where
-    pub ends_well : (way_of ns count ps fuel w).end ≡ found_in (lookup (map stored_of ns) count ps)
-    pub inside : w.on ≡ true → (w.node.0 < count) × (count ≤ length ns) × (count ≤ w.node.0 + fuel) × (length ps ≡ props_per_row)
+  -- What holds at node i with `fuel` steps left: the lookup goes on from there, and may meet every node behind it
+  pub record Going (fuel i : ℕ) : Type 0 where
+    pub inside : i < count
+    pub held : count ≤ length ns
+    pub enough : count ≤ i + fuel
+    pub one : length ps ≡ props_per_row
+    pub same : lookup (map stored_of ns) count ps ≡ answer_from ns count held ps fuel i
 
-  pub going_first : Going count (begun (length ns) count ps)
-  going_first = go (eqb (length ps) props_per_row) (eqb count 0 || ltb (length ns) count) refl refl
+  pub going_first : eqb (length ps) props_per_row ≡ true → (eqb count 0 || ltb (length ns) count) ≡ false → Going count 0
+  going_first e t =
+      let counted = in_range count (length ns) t in
+      let all : length ps ≡ props_per_row = eqb→eq _ _ (rw e tt) in
+      record { inside = counted.0; held = counted.1; enough = omega arith; one = all; same = lookup-from ns count counted.1 ps all counted.0 }
+
+  module _ (i : ℕ) where
+    abbrev here : MaNode
+    here = get_or ns i no_record
+
+    -- there is a step left
+    pub going-more : {fuel : ℕ} → Going fuel i → (k : ℕ) × Going (suc k) i
+    going-more {fuel = zero} g = absurd (lt_irrefl i (omega (arith, g.inside, g.enough)))
+    going-more {fuel = suc k} g = (k, g)
+
+    pub going_on : (fuel : ℕ) → Going (suc fuel) i → in_order here i count ≡ true → is_split here ≡ true → Going fuel (child_of here ps)
+    going_on fuel g o s =
+        let child = split_in_order here i count ps o s in
+        record {
+          inside = child.2;
+          held = g.held;
+          enough = omega (arith, child.1, g.enough);
+          one = g.one;
+          same = g.same ∙ answer-on ns count g.held ps fuel i g.inside o s;
+        }
+
+    pub going-fault : (fuel : ℕ) → Going (suc fuel) i → in_order here i count ≡ false → lookup (map stored_of ns) count ps ≡ refused (record { number = 8; place = i })
+    going-fault fuel g o = g.same ∙ answer-fault ns count g.held ps fuel i g.inside o
+
+    pub going_end : (fuel : ℕ) → Going (suc fuel) i → in_order here i count ≡ true → is_split here ≡ false
+        → lookup (map stored_of ns) count ps ≡ accepted (record { leaf = i; pred = here.info.pred })
+    going_end fuel g o s = g.same ∙ answer-end ns count g.held ps fuel i g.inside o s
+
+  -- ---- what the code's steps answer: a node from which the way goes on, or the lookup's refusal
+  abbrev pub leads : Result NodeNumber Refusal → Type 0
+  leads (Ok n) = (fuel : ℕ) × Going fuel n.0
+  leads (Err cause) = ◌≡◌ {A = Outcome Found} (refused (refusal_of cause)) (lookup (map stored_of ns) count ps)
+
+  pub begun-leads : leads (begun (length ns) count ps)
+  begun-leads = go (eqb (length ps) props_per_row) (eqb count 0 || ltb (length ns) count) refl refl
     where
-      go : (e t : Bool) → eqb (length ps) props_per_row ≡ e → (eqb count 0 || ltb (length ns) count) ≡ t → Going count (begun (length ns) count ps)
-      go false t e et = rw e (record { ends_well = rw (stands ns count ps count (refused_at 9 0) refl, lookup_nine e); inside = λ on. absurd (true≢false (sym on)) })
-      go true true e et = rw (e, et) (record { ends_well = rw (stands ns count ps count (refused_at 8 0) refl, lookup_eight e et); inside = λ on. absurd (true≢false (sym on)) })
-      go true false e et =
-          let counted = in_range count (length ns) et in
-          let all : length ps ≡ props_per_row = eqb→eq _ _ (rw e tt) in
-          rw (e, et) (record {
-            ends_well = way-ends ns count counted.1 ps count 0 counted.0 (omega arith) ∙ ap found_in (sym (lookup-from ns count counted.1 ps all counted.0));
-            inside = λ on. (counted.0, counted.1, omega arith, all);
-          })
+      go : (e t : Bool) → eqb (length ps) props_per_row ≡ e → (eqb count 0 || ltb (length ns) count) ≡ t → leads (begun (length ns) count ps)
+      go false t e et = rw e (sym (lookup_nine e))
+      go true true e et = rw (e, et) (sym (lookup_eight e et))
+      go true false e et = rw (e, et) (count, going_first e et)
 
-  -- a step
-  pub going_on : (fuel : ℕ) (w : Way) → Going (suc fuel) w → w.on ≡ true → Going fuel (stepped (get_or ns w.node.0 no_record) w.node.0 count ps)
-  going_on fuel w g on =
-      let here = g.inside on in
-      record {
-        ends_well = rw on at g.ends_well;
-        inside = λ next. let a = step-ahead (get_or ns w.node.0 no_record) w.node.0 count ps next in (a.1, here.1, omega arith, here.3);
-      }
+  module _ (i fuel : ℕ) (g : Going fuel i) where
+    abbrev m : MaNode
+    m = get_or ns i no_record
 
-  -- with no step left it is not on
-  pub going_none : (w : Way) → Going zero w → w.on ≡ true → ⊥
-  going_none w g on = let here = g.inside on in lt_irrefl count (omega arith)
+    pub followed-leads : is_split m ≡ true → leads (followed m i count ps)
+    followed-leads s = go (going-more i g) (in_order m i count) refl
+      where
+        go : (k : ℕ) × Going (suc k) i → (o : Bool) → in_order m i count ≡ o → leads (followed m i count ps)
+        go (k, h) true o = rw o (k, going_on i k h o s)
+        go (k, h) false o = rw o (sym (going-fault i k h o))
 
-  -- and where it is not on it has ended with the answer
-  pub going_end : (fuel : ℕ) (w : Way) → Going fuel w → w.on ≡ false → w.end ≡ found_in (lookup (map stored_of ns) count ps)
-  going_end fuel w g off = rw (stands ns count ps fuel w off) at g.ends_well
+    pub ended-answers : is_split m ≡ false → found_outcome (ended m i) ≡ lookup (map stored_of ns) count ps
+    ended-answers s = go (going-more i g) (ltb m.info.pred toks_per_row) refl
+      where
+        go : (k : ℕ) × Going (suc k) i → (o : Bool) → ltb m.info.pred toks_per_row ≡ o → found_outcome (ended m i) ≡ lookup (map stored_of ns) count ps
+        go (k, h) true o = rw o (sym (going_end i k h (rw (s, o)) s))
+        go (k, h) false o = rw o (sym (going-fault i k h (rw (s, o))))

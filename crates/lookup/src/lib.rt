@@ -1,115 +1,74 @@
-// The way of a lookup, one record at a time: where it begins, and a step.
+// A lookup (document 01, "Lookup"): from the root to the leaf that 24 properties lead to. Only the nodes met on the way
+// are looked at.
 #![tactic(auto)]
 
-ghost use Rattle.std.specs.Prelude.{◌≡◌, ℕ, true, false, List, ℤ};
-ghost use Rattle.lookup.specs.Ways.{is_split, goes_on, refused_at, begun, stepped, OneRow};
+ghost use Rattle.std.specs.Prelude.{◌≡◌, true, false, map};
+ghost use Rattle.model.specs.Operations.{lookup};
+ghost use Rattle.layout.specs.Records.{stored_of};
+ghost use Rattle.lookup.specs.Ways.{is_split, begun, followed, ended, found_outcome, OneRow};
 
-use answers::FoundLeaf;
 use layout::{MaNode, NodeNumber};
+use model::Refusal;
 
-// A split's kind. Any other is a leaf's.
-const SPLIT: u32 = 1;
-
-// A lookup goes on at a node, or has ended.
+// The leaf that a lookup ends at, and its predictor.
 #[derive(Clone, Copy)]
-pub struct Way {
-    pub on: bool,
-    pub node: NodeNumber,
-    pub end: FoundLeaf,
+pub struct Found {
+    pub leaf: u32,
+    pub pred: u32,
 }
 
-fn go_on(node: NodeNumber) -> Way
-    ensures { result ≡ goes_on node.0 }
-{
-    Way {
-        on: true,
-        node,
-        end: FoundLeaf {
-            number: 0,
-            place: 0,
-            leaf: 0,
-            pred: 0,
-        },
-    }
-}
-
-// The node is what the refusal names, or 0.
-fn refuse(number: u32, node: NodeNumber) -> Way
-    ensures { result ≡ refused_at number node.0 }
-{
-    Way {
-        on: false,
-        node,
-        end: FoundLeaf {
-            number,
-            place: node.0,
-            leaf: 0,
-            pred: 0,
-        },
-    }
-}
-
-// Before the first node: 24 properties, and a tree that the list holds.
-pub fn begin(room: usize, count: u32, props: &[i32]) -> Way
+// Before the first node: 24 properties, and a tree that the list holds. The root is where the way begins.
+fn begin(room: usize, count: u32, props: &[i32]) -> Result<NodeNumber, Refusal>
     ensures { result ≡ begun room count props.now }
 {
     if props.len() != model::NUM_MA_PROPS {
-        return refuse(9, NodeNumber(0));
+        return Err(Refusal::UnevenProperties);
     }
     if (count == 0) | (room < count as usize) {
-        return refuse(8, NodeNumber(0));
+        return Err(Refusal::UnsoundTree(0));
     }
-    go_on(NodeNumber(0))
-}
-
-// From a leaf: the way ends, with an answer if the predictor is one.
-fn end_at(m: MaNode, node: NodeNumber) -> Way
-    requires { is_split m ≡ false }
-    ensures { (count : ℕ) (ps : List ℤ) → result ≡ stepped m node.0 count ps }
-{
-    let info = m.info;
-    if model::NUM_MA_PREDS <= info.pred as usize {
-        return refuse(8, node);
-    }
-    Way {
-        on: false,
-        node,
-        end: FoundLeaf {
-            number: 0,
-            place: 0,
-            leaf: node.0,
-            pred: info.pred,
-        },
-    }
+    Ok(NodeNumber(0))
 }
 
 // From a split: a property above the value leads to gt, else to le. Both children must stand behind it and below the
 // count.
-fn follow(m: MaNode, node: NodeNumber, count: u32, props: &[i32]) -> Way
-    requires m_value { is_split m ≡ true }
+fn follow(m: &MaNode, node: NodeNumber, count: u32, props: &[i32]) -> Result<NodeNumber, Refusal>
+    requires m_value { is_split m.now ≡ true }
     requires one_row { OneRow props.now }
-    ensures { result ≡ stepped m node.0 count props.now }
+    ensures { result ≡ followed m.now node.0 count props.now }
 {
     let i = node.0;
     let prop = m.prop as usize;
     let gt = m.gt;
     let le = m.le;
     if !((prop < model::NUM_MA_PROPS) & (((i < gt) & (i < le)) & ((gt < count) & (le < count)))) {
-        return refuse(8, node);
+        return Err(Refusal::UnsoundTree(i));
     }
     if m.val < props[prop] {
-        return go_on(NodeNumber(gt));
+        return Ok(NodeNumber(gt));
     }
-    go_on(NodeNumber(le))
+    Ok(NodeNumber(le))
 }
 
-// One node further.
-pub fn step<'a>(m: MaNode, node: NodeNumber, count: u32, props: &'a [i32]) -> Way
-    requires { OneRow props.now }
-    ensures { result ≡ stepped m node.0 count props.now }
+// From a leaf: the way ends, with an answer if the predictor is one.
+fn end_at(m: &MaNode, node: NodeNumber) -> Result<Found, Refusal>
+    ensures { result ≡ ended m.now node.0 }
 {
-    if m.kind == SPLIT {
-        return follow(m, node, count, props);
+    let pred = m.info.pred;
+    if model::NUM_MA_PREDS <= pred as usize {
+        return Err(Refusal::UnsoundTree(node.0));
     }
-    end_at(m, node)
+    Ok(Found { leaf: node.0, pred })
+}
+
+// The leaf that the properties lead to in the tree of the first `count` nodes.
+pub fn lookup(nodes: &[MaNode], count: u32, props: &[i32]) -> Result<Found, Refusal>
+    ensures { found_outcome result ≡ lookup (map stored_of nodes.now) count props.now }
+{
+    let mut node = begin(nodes.len(), count, props)?;
+    // Stays: a walk from node to node counts nothing.
+    while nodes[node.0 as usize].is_split() {
+        node = follow(&nodes[node.0 as usize], node, count, props)?;
+    }
+    end_at(&nodes[node.0 as usize], node)
 }

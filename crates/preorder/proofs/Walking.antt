@@ -16,7 +16,8 @@ use Rattle.model.specs.Family.{ChildOf, Family}
 use Rattle.model.proofs.Family.{child-forward}
 use Rattle.model.proofs.Preorder.{pre-range, pre_no_repeat, place-of}
 use Rattle.model.proofs.Tally.{short}
-use Rattle.layout.specs.Layout.{gt_at, le_at}
+use Rattle.layout.specs.Records.{gt_at, le_at}
+use Rattle.layout.specs.declared.MaNode.{MaNode}
 use Rattle.preorder.specs.Order.{pushed, height_after, ShownAs, ShowsNodes, pending, Ordered}
 
 -- where the walk stands: the nodes found and those that wait are all
@@ -271,7 +272,7 @@ module _ (nodes : List Node) (fam : Family nodes) (some : 0 < length nodes) wher
           go (split p v g l) e s = rw (s.0, s.1, s.2) (both p v g l e)
 
 -- ---- the same of the lists that show the nodes
-module _ {nodes : List Node} {words : List ℕ} {splits : List Bool} {count : ℕ} (shows : ShowsNodes nodes words splits count)
+module _ {nodes : List Node} {tree : List MaNode} {splits : List Bool} (shows : ShowsNodes nodes tree splits)
     {order places stack : List ℕ} {depth found : ℕ} (w : Walked nodes order places stack depth found) where
   module _ (more : 0 < depth) where
     low : get_or stack (depth - 1) 0 < length nodes
@@ -280,13 +281,13 @@ module _ {nodes : List Node} {words : List ℕ} {splits : List Bool} {count : �
     some : 0 < length nodes
     some = omega (arith, low)
 
-    pub walk_safe : (found + depth ≤ count) × (get_or stack (depth - 1) 0 < count)
+    pub walk_safe : (found + depth ≤ length tree) × (get_or stack (depth - 1) 0 < length tree)
     walk_safe = (omega (arith, walk-fits nodes shows.family some order places stack depth found w, shows.many), omega (arith, low, shows.many))
 
     again : Walked nodes order places stack (suc (depth - 1)) found
     again = let e : suc (depth - 1) ≡ depth = omega arith in rw e w
 
-    module _ (order_there : count ≤ length order) (places_there : count ≤ length places) (stack_there : count ≤ length stack) where
+    module _ (order_there : length tree ≤ length order) (places_there : length tree ≤ length places) (stack_there : length tree ≤ length stack) where
       abbrev taken : ℕ
       taken = get_or stack (depth - 1) 0
 
@@ -296,10 +297,10 @@ module _ {nodes : List Node} {words : List ℕ} {splits : List Bool} {count : �
       pub walk-room : stays ≡ true → depth - 1 + 2 ≤ length stack
       walk-room = push-room nodes shows.family some order places stack (depth - 1) found again (omega (arith, shows.many)) (omega (arith, shows.many))
           (omega (arith, shows.many))
-          stays (gt_at words taken) (le_at words taken) (shows.shown taken walk_safe.1)
+          stays (gt_at tree taken) (le_at tree taken) (shows.shown taken walk_safe.1)
 
-      pub walk_turn : Walked nodes (set order found taken) (set places taken found) (pushed stays (gt_at words taken) (le_at words taken) (depth - 1) stack)
+      pub walk_turn : Walked nodes (set order found taken) (set places taken found) (pushed stays (gt_at tree taken) (le_at tree taken) (depth - 1) stack)
           (height_after stays (depth - 1)) (found + 1)
       walk_turn = walk-on nodes shows.family some order places stack (depth - 1) found again (omega (arith, shows.many)) (omega (arith, shows.many))
           (omega (arith, shows.many))
-          stays (gt_at words taken) (le_at words taken) (shows.shown taken walk_safe.1)
+          stays (gt_at tree taken) (le_at tree taken) (shows.shown taken walk_safe.1)

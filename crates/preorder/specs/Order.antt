@@ -1,10 +1,11 @@
 -- The walk from the root, gt first, with a stack (document 01, "Pruning": renumbered from the root, gt first). Assumes nothing.
-use Rattle.std.specs.Prelude.{ℕ, zero, suc, ◌+◌, ◌*◌, ◌≤◌, ◌<◌, ◌≡◌, Bool, true, false, cond, List, [], ◌++◌, length, get_or, set}
+use Rattle.std.specs.Prelude.{ℕ, zero, suc, ◌+◌, ◌≤◌, ◌<◌, ◌≡◌, Bool, true, false, cond, List, [], ◌++◌, length, get_or, set}
 use Rattle.model.specs.Settings.{max_nodes}
 use Rattle.model.specs.Tree.{Node, split, leaf}
 use Rattle.model.specs.Prune.{preorder}
 use Rattle.model.specs.Family.{Family}
-use Rattle.layout.specs.Layout.{words_per_node, gt_at, le_at}
+use Rattle.layout.specs.Records.{gt_at, le_at}
+use Rattle.layout.specs.declared.MaNode.{MaNode}
 
 -- le is pushed and then gt, so that gt is taken first
 abbrev pub pushed : Bool → ℕ → ℕ → ℕ → List ℕ → List ℕ
@@ -14,32 +15,26 @@ pushed kept gt le depth stack = cond kept (set (set stack depth le) (depth + 1) 
 abbrev pub height_after : Bool → ℕ → ℕ
 height_after kept depth = cond kept (depth + 2) depth
 
--- node i is there, and two places on the stack if it is a split
-pub record Pushable (words : List ℕ) (kept : Bool) (i depth : ℕ) (stack : List ℕ) : Type 0 where
-  pub words_there : i * words_per_node + words_per_node ≤ length words
-  pub room : kept ≡ true → depth + 2 ≤ length stack
-
 -- a node as the lists show it: whether it is a split, and its children
 abbrev pub ShownAs : Node → Bool → ℕ → ℕ → Type 0
 ShownAs (split prop val gt le) s g l = (s ≡ true) × (g ≡ gt) × (l ≡ le)
 ShownAs leaf s g l = s ≡ false
 
--- the lists show these nodes, which are a tree
-pub record ShowsNodes (nodes : List Node) (words : List ℕ) (splits : List Bool) (count : ℕ) : Type 0 where
-  pub many : count ≡ length nodes
-  pub shown : (i : ℕ) → i < count → ShownAs (get_or nodes i leaf) (get_or splits i false) (gt_at words i) (le_at words i)
+-- the records, with which of them are splits still, show these nodes, which are a tree
+pub record ShowsNodes (nodes : List Node) (tree : List MaNode) (splits : List Bool) : Type 0 where
+  pub many : length tree ≡ length nodes
+  pub shown : (i : ℕ) → i < length tree → ShownAs (get_or nodes i leaf) (get_or splits i false) (gt_at tree i) (le_at tree i)
   pub family : Family nodes
 
 -- a tree, and a place for each of its nodes in the lists
-pub record Walkable (words : List ℕ) (splits : List Bool) (count : ℕ) (order places : List ℕ) : Type 0 where
+pub record Walkable (tree : List MaNode) (splits : List Bool) (order places : List ℕ) : Type 0 where
   pub nodes : List Node
-  pub shows : ShowsNodes nodes words splits count
-  pub some : 0 < count
-  pub few : count ≤ max_nodes
-  pub words_there : count * words_per_node ≤ length words
-  pub splits_there : count ≤ length splits
-  pub order_there : count ≤ length order
-  pub places_there : count ≤ length places
+  pub shows : ShowsNodes nodes tree splits
+  pub some : 0 < length tree
+  pub few : length tree ≤ max_nodes
+  pub splits_there : length tree ≤ length splits
+  pub order_there : length tree ≤ length order
+  pub places_there : length tree ≤ length places
 
 -- the stack has a place for each node too, and holds the root
 pub record Rooted (count : ℕ) (stack : List ℕ) : Type 0 where

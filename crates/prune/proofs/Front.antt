@@ -1,53 +1,40 @@
 -- Lists that hold entries hold the first of them too, over themselves: so a pruned tree stands in the lists without the entries that it vacated.
 -- Assumes nothing.
-use mathlib.Core.Path.{◌≡◌, refl, sym, ap, ◌∙◌}
-use Prim.Native.Nat.{ℕ, ◌*◌, ◌≤◌}
+use mathlib.Core.Path.{◌≡◌, sym, ap, ◌∙◌}
+use Prim.Native.Nat.{◌≤◌}
 use native.Mathlib.Omega.{arith}
-use mathlib.Core.List.{List, ◌++◌, append_assoc}
+use mathlib.Core.List.{List, ◌++◌, append_assoc, map, map-append}
 use lib.ListN.{length, drop, length-append}
 use lib.Seq.{drop-append_seam}
+use Rattle.std.proofs.lemmas.List.{length-map}
 use Rattle.model.specs.Lists.{written_over}
-use Rattle.model.specs.Meter.{Meter}
+use Rattle.model.specs.Single.{singles}
 use Rattle.model.specs.Grow.{Entry}
-use Rattle.layout.specs.Layout.{words_per_node, values_per_node}
-use Rattle.layout.specs.Tree.{laid, NodeListsOf, holding, HasRoom, entry_words, entry_values, entry_costs}
-use Rattle.layout.proofs.Cells.{laid_append, laid-length}
-use Rattle.layout.proofs.Held.{words-each}
+use Rattle.layout.specs.Tree.{NodeLists, holding, HasRoom, entry_record, entry_span}
 
-module _ {M : Meter} {A : Type 0} (part : Entry M → List A) (w : ℕ) (wide : (e : Entry M) → length (part e) ≡ w) (front back : List (Entry M))
-    (lent : List A) where
+module _ {A : Type 0} (part : Entry singles → A) (front back : List (Entry singles)) (lent : List A) where
   abbrev whole : List A
-  whole = written_over (laid part (front ++ back)) lent
+  whole = written_over (map part (front ++ back)) lent
 
-  parts : whole ≡ laid part front ++ (laid part back ++ drop (length (laid part (front ++ back))) lent)
+  abbrev rest : List A
+  rest = map part back ++ drop (length (map part (front ++ back))) lent
+
+  parts : whole ≡ map part front ++ rest
   parts =
-      ap (λ (l : List A). l ++ drop (length (laid part (front ++ back))) lent) (laid_append part front back)
-      ∙ append_assoc (laid part front) (laid part back) (drop (length (laid part (front ++ back))) lent)
+      ap (λ (l : List A). l ++ drop (length (map part (front ++ back))) lent) (map-append part front back)
+      ∙ append_assoc (map part front) (map part back) (drop (length (map part (front ++ back))) lent)
 
-  first-over : whole ≡ written_over (laid part front) whole
-  first-over = parts ∙ ap (λ (l : List A). laid part front ++ l)
-      (sym (ap (drop (length (laid part front))) parts ∙ drop-append_seam (laid part front) (laid part back ++ drop (length (laid part (front ++ back))) lent)))
+  first-over : whole ≡ written_over (map part front) whole
+  first-over = parts ∙ ap (λ (l : List A). map part front ++ l) (sym (ap (drop (length (map part front))) parts ∙ drop-append_seam (map part front) rest))
 
-  first-room : length front * w ≤ length whole
-  first-room =
-      let a = ap length parts in
-      let b = length-append (laid part front) (laid part back ++ drop (length (laid part (front ++ back))) lent) in
-      let c = laid-length part w wide front in
-      omega arith
+  first-room : length front ≤ length whole
+  first-room = let a = ap length parts in let b = length-append (map part front) rest in let c = length-map front part in omega arith
 
-module _ {M : Meter} (front back : List (Entry M)) (lent : NodeListsOf M) where
+module _ (front back : List (Entry singles)) (lent : NodeLists) where
   pub front-held : holding (front ++ back) lent ≡ holding front (holding (front ++ back) lent)
   unfolding holding
-  front-held = λ j. record {
-    words = first-over entry_words words_per_node words-each front back lent.words j;
-    values = first-over entry_values values_per_node (λ e. refl) front back lent.values j;
-    costs = first-over entry_costs 1 (λ e. refl) front back lent.costs j;
-  }
+  front-held = λ j. record { nodes = first-over entry_record front back lent.nodes j; spans = first-over entry_span front back lent.spans j }
 
   pub front-room : HasRoom (length front) (holding (front ++ back) lent)
   unfolding holding
-  front-room = record {
-    words = first-room entry_words words_per_node words-each front back lent.words;
-    values = first-room entry_values values_per_node (λ e. refl) front back lent.values;
-    costs = let a = first-room entry_costs 1 (λ e. refl) front back lent.costs in omega arith;
-  }
+  front-room = record { nodes = first-room entry_record front back lent.nodes; spans = first-room entry_span front back lent.spans }

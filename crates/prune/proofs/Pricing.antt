@@ -1,6 +1,6 @@
 -- A node's price in the flat lists is the model's, if those behind it are. Assumes nothing.
 use mathlib.Core.Path.{◌≡◌, refl, sym, ap, ◌∙◌, subst}
-use Prim.Native.Nat.{ℕ, zero, suc, ◌+◌, ◌-◌, ◌*◌, ◌≤◌, ◌<◌}
+use Prim.Native.Nat.{ℕ, zero, suc, ◌+◌, ◌-◌, ◌≤◌, ◌<◌}
 use native.Mathlib.Nat.{zero-add, add-zero}
 use native.Mathlib.Omega.{arith}
 use native.Mathlib.Decide.{ℕ_discrete}
@@ -17,10 +17,11 @@ use Rattle.model.specs.Tree.{Node, split, leaf, is_leaf}
 use Rattle.model.specs.Grow.{Entry, no_entry}
 use Rattle.model.specs.Prune.{no_priced, priced_before, priced_from, pruned_nodes, pruned_bits}
 use Rattle.model.specs.Prune as model
-use Rattle.layout.specs.Layout.{words_per_node, kind_at, gt_at, le_at}
-use Rattle.layout.specs.Tree.{node_words}
+use Rattle.model.specs.Lent.{stored_node}
+use Rattle.layout.specs.Records.{record_of, no_record, kind_at, gt_at, le_at}
+use Rattle.layout.specs.declared.MaNode.{MaNode}
 use Rattle.prune.specs.declared.Priced.{Priced}
-use Rattle.prune.specs.Prices.{split_priced, leaf_priced, priced_at, ShowsTree, IsPriced, PricedAs}
+use Rattle.prune.specs.Prices.{split_priced, leaf_priced, priced_of, ShowsTree, IsPriced, PricedAs}
 
 -- node k is priced from those behind it
 price-of : {M : Meter} (price : M.Cost) (s : ℕ) (es : List (Entry M)) (k : ℕ) → k < length es
@@ -43,19 +44,18 @@ module _ (price : Float) (tree : List (Entry singles)) where
   behind i g h = let e : suc i + (g - suc i) ≡ g = omega arith in
       get_or-drop (suc i) (priced_from {M = singles} price 0 tree) (g - suc i) no_priced ∙ ap price_at e
 
-  module _ (words : List ℕ) (costs : List Float) (count : ℕ) (shows : ShowsTree tree words costs count)
-      (children : (i : ℕ) → i < count → eqb (kind_at words i) 1 ≡ true → (gt_at words i < count) × (le_at words i < count)) where
-    module _ (bits priced : List Float) (splits : List Bool) (i : ℕ) (h : i < count)
-        (later : (k : ℕ) → suc i ≤ k → k < count → IsPriced price tree k bits priced splits) where
+  module _ (nodes : List MaNode) (shows : ShowsTree tree nodes)
+      (children : (i : ℕ) → i < length nodes → eqb (kind_at nodes i) 1 ≡ true → (gt_at nodes i < length nodes) × (le_at nodes i < length nodes)) where
+    module _ (bits priced : List Float) (splits : List Bool) (i : ℕ) (h : i < length nodes)
+        (later : (k : ℕ) → suc i ≤ k → k < length nodes → IsPriced price tree k bits priced splits) where
       abbrev e : Entry singles
       e = get_or tree i no_entry
 
-      word : (j : ℕ) → j < words_per_node → (m : Node) → e.node ≡ m
-          → get_or words (i * words_per_node + j) 0 ≡ get_or (node_words m e.info.pred e.span) j 0
-      word j b m z = shows.words_are i j h b ∙ ap (λ (n : Node). get_or (node_words n e.info.pred e.span) j 0) z
+      abbrev m : MaNode
+      m = get_or nodes i no_record
 
-      kind : (m : Node) → e.node ≡ m → kind_at words i ≡ get_or (node_words m e.info.pred e.span) 0 0
-      kind m z = rw add-zero at (word 0 (omega arith) m z)
+      record-is : (n : Node) → e.node ≡ n → m ≡ record_of (stored_node n e.info)
+      record-is n z = shows.nodes_are i h ∙ ap (λ (n : Node). record_of (stored_node n e.info)) z
 
       whole : price_at i ≡ priced_before price i e e.node (drop (suc i) (priced_from {M = singles} price 0 tree))
       whole = rw zero-add at (price-of {M = singles} price 0 tree i (omega (arith, shows.many)))
@@ -72,29 +72,28 @@ module _ (price : Float) (tree : List (Entry singles)) where
           go true = (refl, refl, refl)
           go false = (refl, refl, refl)
 
-      pub next : Agrees (priced_at words costs price bits priced i) (price_at i)
-      next = subst (Agrees (priced_at words costs price bits priced i)) (sym whole) (go e.node refl)
+      pub next : Agrees (priced_of m price bits priced) (price_at i)
+      next = subst (Agrees (priced_of m price bits priced)) (sym whole) (go e.node refl)
         where
-          go : (m : Node) → e.node ≡ m → Agrees (priced_at words costs price bits priced i)
-              (priced_before price i e m (drop (suc i) (priced_from {M = singles} price 0 tree)))
-          go leaf z = rw (kind leaf z) (as_leaf_lem (get_or costs i nan) (shows.costs_are i h))
+          go : (n : Node) → e.node ≡ n → Agrees (priced_of m price bits priced) (priced_before price i e n (drop (suc i) (priced_from {M = singles} price 0 tree)))
+          go leaf z = rw (record-is leaf z) (as_leaf_lem e.info.cost refl)
           go (split p v g l) z =
-              let gt : gt_at words i ≡ g = word 2 (omega arith) (split p v g l) z in
-              let lt : le_at words i ≡ l = word 3 (omega arith) (split p v g l) z in
-              let one : kind_at words i ≡ 1 = kind (split p v g l) z in
-              let is : eqb (kind_at words i) 1 ≡ true = rw one in
+              let r = record-is (split p v g l) z in
+              let gt : m.gt ≡ g = ap (λ (r : MaNode). r.gt) r in
+              let lt : m.le ≡ l = ap (λ (r : MaNode). r.le) r in
+              let is : eqb m.kind 1 ≡ true = ap (λ (r : MaNode). eqb r.kind 1) r in
               let fw = shows.forward i h is in
               let in_range = children i h is in
               let ig : i < g = rw gt at fw.0 in
               let il : i < l = rw lt at fw.1 in
               let pg = later g ig (rw gt at in_range.0) in
               let pl = later l il (rw lt at in_range.1) in
-              rw (is, gt, lt, behind i g ig, behind i l il, pg.bits_are, pl.bits_are, pg.priced_are, pl.priced_are)
-              (as_split (get_or costs i nan) _ _ p v g l (shows.costs_are i h))
+              rw (r, behind i g ig, behind i l il, pg.bits_are, pl.bits_are, pg.priced_are, pl.priced_are)
+              (as_split e.info.cost _ _ p v g l refl)
 
       -- one node more is priced
-      pub priced-more : (r : Priced) → r ≡ priced_at words costs price bits priced i → i < length bits → i < length priced → i < length splits
-          → (k : ℕ) → i ≤ k → k < count → IsPriced price tree k (set bits i r.bits) (set priced i r.priced) (set splits i r.split)
+      pub priced-more : (r : Priced) → r ≡ priced_of m price bits priced → i < length bits → i < length priced → i < length splits
+          → (k : ℕ) → i ≤ k → k < length nodes → IsPriced price tree k (set bits i r.bits) (set priced i r.priced) (set splits i r.split)
       priced-more r z hb hp hs k a b = elim (ℕ_discrete k i) [ yes q ↦ own q | no ne ↦ other ne (omega arith) ]
         where
           own : k ≡ i → IsPriced price tree k (set bits i r.bits) (set priced i r.priced) (set splits i r.split)

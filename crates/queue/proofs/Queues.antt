@@ -5,21 +5,19 @@ use Prim.Native.Nat.{ℕ, suc, ◌+◌, ◌*◌, ◌-◌, ◌≤◌, ◌<◌}
 use native.Mathlib.Nat.{mul-one, mul-le-mul_right, suc-mul}
 use native.Mathlib.Numerals.{add-one}
 use native.Mathlib.Omega.{arith}
-use lib.ListN.{length, set, take, drop, length-append, length-drop, take-append-drop, length-set}
-use lib.Seq.{paste, take_all, take_at, drop_at, take-take, take-paste, length-paste, length-take-le, drop-append-le}
-use Rattle.model.specs.Meter.{Meter}
+use lib.ListN.{length, take, drop, length-append, length-drop, take-append-drop}
+use lib.Seq.{paste, take_all, take_at, drop_at, take-take, take-paste, length-take-le, drop-append-le}
+use Rattle.model.specs.Single.{singles}
 use Rattle.model.specs.Lent.{Waiting}
-use Rattle.layout.specs.Tree.{laid}
-use Rattle.layout.specs.Waiting.{words_per_leaf, put_wait_words, QueueListsOf, Queued, QueueRoom, SameQueue, without, wait_words, wait_values, wait_gains}
+use Rattle.std.specs.List.{copy_within}
+use Rattle.layout.specs.Waiting.{laid, words_per_leaf, QueueLists, queue_lists, Queued, QueueRoom, without, wait_words, wait_values, wait_gains}
 use Rattle.layout.proofs.Cells.{laid_append, laid_one, laid-length, laid-take, set-paste, stores_three}
 use Rattle.layout.proofs.Queue.{length_without}
-use Rattle.lists.specs.Moved.{move_up}
+use Rattle.queue.specs.Lent.{put_waiting}
 
--- cells that move up leave a list as long as it was
-moved_length : {A : Type 0} (at w m : ℕ) (l : List A) → at + w + m ≤ length l → length (move_up at w m l) ≡ length l
-moved_length at w m l room =
-    let len : length (drop (at + w) l) ≡ length l - (at + w) = length-drop (at + w) l in
-    length-paste l at (drop (at + w) l) m (omega arith) (omega arith)
+-- the w cells from `at` on taken out, and the m cells behind them moved up
+abbrev move_up : {A : Type 0} → ℕ → ℕ → ℕ → List A → List A
+move_up at w m l = paste l at (drop (at + w) l) m
 
 -- ---- entries of equal size at the front of a list
 module _ {E A : Type 0} (f : E → List A) (w : ℕ) (each : (e : E) → length (f e) ≡ w) (t : List E) (l : List A) where
@@ -40,10 +38,9 @@ module _ {E A : Type 0} (f : E → List A) (w : ℕ) (each : (e : E) → length 
       ap (drop (k * w + w)) whole ∙ drop-append-le (k * w + w) (a ++ b) rest short ∙ ap (λ (r : List A). r ++ rest) (drop_at a b (k * w + w) front) in
       ap (take ((length t - 1 - k) * w)) past ∙ take_at b rest ((length t - 1 - k) * w) size
 
-  -- entry k taken out
-  pub cut_out : (k : ℕ) → k < length t → length t * w ≤ length l → take (length t * w) l ≡ laid f t
+  moved_out : (k : ℕ) → k < length t → length t * w ≤ length l → take (length t * w) l ≡ laid f t
       → take ((length t - 1) * w) (move_up (k * w) w ((length t - 1 - k) * w) l) ≡ laid f (without k t)
-  cut_out k lt room is =
+  moved_out k lt room is =
       let at : ℕ = k * w in
       let m : ℕ = (length t - 1 - k) * w in
       let up : k * w ≤ length t * w = mul-le-mul_right w (omega arith) in
@@ -59,6 +56,18 @@ module _ {E A : Type 0} (f : E → List A) (w : ℕ) (each : (e : E) → length 
       ∙ take-paste l (k * w) (drop (k * w + w) l) ((length t - 1 - k) * w) (omega arith) (omega arith)
       ∙ rw (before, behind k lt is) (sym (laid_append f (take k t) (drop (suc k) t)))
 
+  -- entry k taken out: the cells behind it are copied over it
+  pub cut_out : (k at start end less : ℕ) → at ≡ k * w → start ≡ (k + 1) * w → end ≡ length t * w → less ≡ (length t - 1) * w → k < length t
+      → end ≤ length l → take end l ≡ laid f t → take less (copy_within l start end at) ≡ laid f (without k t)
+  cut_out k at start end less a b c d lt room is =
+      let next : (k + 1) * w ≡ k * w + w = ap (λ (n : ℕ). n * w) (add-one k) ∙ suc-mul k w in
+      let all : suc k + (length t - 1 - k) ≡ length t = omega arith in
+      let total : length t * w ≡ suc k * w + (length t - 1 - k) * w = ap (λ (n : ℕ). n * w) (sym all) ∙ omega arith in
+      let step : suc k * w ≡ k * w + w = suc-mul k w in
+      let from : start ≡ k * w + w = b ∙ next in
+      let cells : end - start ≡ (length t - 1 - k) * w = omega arith in
+      rw (d, cells, from, a) (moved_out k lt (rw c at room) (rw c at is))
+
   -- one entry behind the others
   pub put-behind : (e : E) → (length t + 1) * w ≤ length l → take (length t * w) l ≡ laid f t
       → take ((length t + 1) * w) (paste l (length t * w) (f e) w) ≡ laid f (t ++ (e ∷ []))
@@ -72,40 +81,31 @@ module _ {E A : Type 0} (f : E → List A) (w : ℕ) (each : (e : E) → length 
 
 -- ---- the queue
 -- the lists of `waiting` leaves with that at place k taken out: the others behind it move up
-abbrev pub taken_from : {M : Meter} → ℕ → ℕ → QueueListsOf M → QueueListsOf M
+abbrev pub taken_from : ℕ → ℕ → QueueLists → QueueLists
 taken_from waiting k q =
-    record {
-      words = move_up (k * words_per_leaf) words_per_leaf ((waiting - 1 - k) * words_per_leaf) q.words;
-      values = move_up k 1 (waiting - 1 - k) q.values;
-      gains = move_up k 1 (waiting - 1 - k) q.gains;
-    }
+    queue_lists (copy_within q.words ((k + 1) * words_per_leaf) (waiting * words_per_leaf) (k * words_per_leaf))
+    (copy_within q.values (k + 1) waiting k) (copy_within q.gains (k + 1) waiting k)
 
--- the lists with a leaf stored at place k
-abbrev pub queued_at : {M : Meter} → ℕ → Waiting M → QueueListsOf M → QueueListsOf M
-queued_at k w q =
-    record {
-      words = put_wait_words k w.node w.offer.prop w.depth q.words;
-      values = set q.values k w.offer.val;
-      gains = set q.gains k w.offer.gain;
-    }
-
-module _ {M : Meter} (q : QueueListsOf M) (leaves : List (Waiting M)) (waiting : ℕ) (h : Queued waiting q leaves) where
+module _ (q : QueueLists) (leaves : List (Waiting singles)) (waiting : ℕ) (h : Queued waiting q leaves) where
   -- the leaf at place k taken out
   pub taken_out : (k : ℕ) → k < waiting → QueueRoom waiting q → Queued (waiting - 1) (taken_from waiting k q) (without k leaves)
   taken_out k lt room =
       let many = h.many in
       let inside : k < length leaves = omega arith in
+      let here : k ≡ k * 1 = omega arith in
+      let next : k + 1 ≡ (k + 1) * 1 = omega arith in
+      let all : waiting ≡ length leaves * 1 = omega arith in
+      let less : waiting - 1 ≡ (length leaves - 1) * 1 = omega arith in
       record {
         many = ap (λ (n : ℕ). n - 1) h.many ∙ sym (length_without k leaves inside);
-        words = rw many (cut_out wait_words words_per_leaf (λ w. refl) leaves q.words k inside (rw many at room.words) (rw many at h.words));
-        values = rw many (rw (mul-one, mul-one, mul-one) at
-            (cut_out wait_values 1 (λ w. refl) leaves q.values k inside (rw (mul-one, ← many) room.values) (rw (mul-one, ← many) h.values)));
-        gains = rw many (rw (mul-one, mul-one, mul-one) at
-            (cut_out wait_gains 1 (λ w. refl) leaves q.gains k inside (rw (mul-one, ← many) room.gains) (rw (mul-one, ← many) h.gains)));
+        words = cut_out wait_words words_per_leaf (λ w. refl) leaves q.words k (k * words_per_leaf) ((k + 1) * words_per_leaf) (waiting * words_per_leaf)
+            ((waiting - 1) * words_per_leaf) refl refl (ap (λ (n : ℕ). n * words_per_leaf) many) (ap (λ (n : ℕ). (n - 1) * words_per_leaf) many) inside room.words h.words;
+        values = cut_out wait_values 1 (λ w. refl) leaves q.values k k (k + 1) waiting (waiting - 1) here next all less inside room.values h.values;
+        gains = cut_out wait_gains 1 (λ w. refl) leaves q.gains k k (k + 1) waiting (waiting - 1) here next all less inside room.gains h.gains;
       }
 
-  -- a leaf put behind the others, as the code stores it
-  pub added : (w : Waiting M) → QueueRoom (waiting + 1) q → Queued (waiting + 1) (queued_at waiting w q) (leaves ++ (w ∷ []))
+  -- a leaf put behind the others
+  pub added : (w : Waiting singles) → QueueRoom (waiting + 1) q → Queued (waiting + 1) (put_waiting waiting w q) (leaves ++ (w ∷ []))
   added w room =
       let many = h.many in
       record {
@@ -119,13 +119,3 @@ module _ {M : Meter} (q : QueueListsOf M) (leaves : List (Waiting M)) (waiting :
             ∙ rw many (rw (mul-one, mul-one) at
             (put-behind wait_gains 1 (λ w. refl) leaves q.gains w (rw (mul-one, ← many) room.gains) (rw (mul-one, ← many) h.gains)));
       }
-
-pub same_taken : {M : Meter} (q : QueueListsOf M) (waiting k : ℕ) → k < waiting → QueueRoom waiting q → SameQueue q (taken_from waiting k q)
-same_taken q waiting k lt room = record {
-  words = moved_length (k * words_per_leaf) words_per_leaf ((waiting - 1 - k) * words_per_leaf) q.words (omega (arith, room.words));
-  values = moved_length k 1 (waiting - 1 - k) q.values (omega (arith, room.values));
-  gains = moved_length k 1 (waiting - 1 - k) q.gains (omega (arith, room.gains));
-}
-
-pub same-added : {M : Meter} (q : QueueListsOf M) (waiting : ℕ) (w : Waiting M) → SameQueue q (queued_at waiting w q)
-same-added q waiting w = record { words = simp length-set; values = simp length-set; gains = simp length-set }

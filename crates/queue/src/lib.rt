@@ -1,5 +1,6 @@
 // The queue of waiting leaves, in the order of their node numbers: so the first of the greatest gains has the lowest
-// number.
+// number. It stands in three flat lists of numbers, as the C interface lends them: node, property and depth, then the
+// threshold, then the gain.
 #![tactic(auto)]
 
 ghost use Rattle.std.specs.Prelude.{◌≡◌, cond, List, ◌++◌, ◌+◌, ◌-◌, ◌≤◌, ◌<◌, length};
@@ -7,91 +8,154 @@ ghost use Rattle.model.specs.Settings.{max_nodes};
 ghost use Rattle.model.specs.Single.{singles};
 ghost use Rattle.model.specs.Lent.{Waiting};
 ghost use Rattle.layout.specs.Values.{offer_is};
-ghost use Rattle.layout.specs.Waiting.{first_best, queue_lists, Queued, QueueRoom, SameQueue, without, waits};
-ghost use Rattle.queue.specs.Room.{RoomFor};
+ghost use Rattle.layout.specs.Waiting.{first_best, Queued, QueueRoom, SameQueue, without, waits};
+ghost use Rattle.queue.specs.Room.{RoomFor, leaves_lent, cleared};
+ghost use Rattle.queue.specs.Lent.{queue_in, SameQueueLent, PendingAt, waiting_is, put_waiting};
 
-use layout::{Offer, Pending};
+use layout::Offer;
 
-// Of two places the first, if the test passes: no branch.
-fn place_if(test: bool, a: usize, b: usize) -> usize
-    ensures { result ≡ cond test a b }
-{
-    if test { a } else { b }
+// How many words a waiting leaf has: node, property and depth.
+const LEAF_WORDS: usize = 3;
+
+// A waiting leaf, with its depth and the split that it offers.
+#[derive(Clone, Copy)]
+pub struct Pending {
+    pub node: u32,
+    pub depth: u32,
+    pub offer: Offer,
 }
 
-// Of two gains the first, if the test passes: no branch.
-fn gain_if(test: bool, a: f32, b: f32) -> f32
-    ensures { result ≡ cond test a b }
-{
-    if test { a } else { b }
+// The three lists, and how many leaves wait in them.
+// Stays: three lists of numbers and not one of leaves, since the C interface lends them so.
+#[derive(Drop)]
+pub struct Queue<'a> {
+    pub words: &'a mut [u32],
+    pub values: &'a mut [i32],
+    pub gains: &'a mut [f32],
+    pub waiting: usize,
 }
 
 // The first place with the greatest gain.
-pub fn greatest(gains: &[f32], waiting: usize) -> usize
-    requires { waiting ≤ length gains.now }
-    ensures { result ≡ first_best gains.now waiting }
+fn first_greatest(gains: &[f32]) -> usize
+    ensures { result ≡ first_best gains.now (length gains.now) }
 {
-    if waiting == 0 {
+    if gains.is_empty() {
         return 0;
     }
     let mut best: usize = 0;
     let mut top = gains[0];
-    for k in 1..waiting {
-        let gain = gains[k];
-        let ahead = top < gain;
-        best = place_if(ahead, k, best);
-        top = gain_if(ahead, gain, top);
+    for (k, gain) in gains.iter().enumerate() {
+        if top < *gain {
+            best = k;
+            top = *gain;
+        }
     }
     best
 }
 
-// Takes the leaf at place k out; those behind it keep their order.
-pub fn unqueue(words: &mut [u32], values: &mut [i32], gains: &mut [f32], waiting: usize, k: usize)
-    requires { (k < waiting) × QueueRoom waiting (queue_lists words.old values.old gains.old) }
-    ensures queue { (leaves : List (Waiting singles))
-        → Queued waiting (queue_lists words.old values.old gains.old) leaves
-        → Queued (waiting - 1) (queue_lists words.new values.new gains.new) (without k leaves) }
-    ensures lengths { SameQueue (queue_lists words.old values.old gains.old)
-        (queue_lists words.new values.new gains.new) }
-{
-    let m = waiting - 1 - k;
-    let at = layout::words_for_leaves(k);
-    let one = layout::words_for_leaves(1);
-    let moved = layout::words_for_leaves(m);
-    lists::move_up_u32(words, at, one, moved);
-    lists::move_up_i32(values, k, 1, m);
-    lists::move_up_f32(gains, k, 1, m);
-}
+impl<'a> Queue<'a> {
+    // For how many waiting leaves there is room: those that have all their words, a threshold and a gain.
+    pub fn room(&self) -> usize
+        ensures { result ≡ leaves_lent (queue_in self.now) }
+    {
+        (self.words.len() / LEAF_WORDS)
+            .min(self.values.len())
+            .min(self.gains.len())
+    }
 
-// Puts a leaf behind the others, if it offers a split, and returns how many wait.
-pub fn enqueue(
-    words: &mut [u32],
-    values: &mut [i32],
-    gains: &mut [f32],
-    waiting: usize,
-    node: usize,
-    depth: u32,
-    offer: Offer,
-) -> usize
-    requires { (node < max_nodes) × RoomFor offer waiting (queue_lists words.old values.old gains.old) }
-    ensures queue { (leaves : List (Waiting singles))
-        → Queued waiting (queue_lists words.old values.old gains.old) leaves
-        → Queued result (queue_lists words.new values.new gains.new)
-        (leaves ++ waits node depth (offer_is offer)) }
-    ensures answer { (result ≡ waiting + length (waits node depth (offer_is offer)))
-        × SameQueue (queue_lists words.old values.old gains.old)
-        (queue_lists words.new values.new gains.new) }
-{
-    let Offer::Split { prop, val, gain } = offer else {
-        return waiting;
-    };
-    let leaf = Pending {
-        node: node as u32,
-        prop,
-        val,
-        depth,
-        gain,
-    };
-    layout::put_pending(words, values, gains, waiting, leaf);
-    waiting + 1
+    // The first place with the greatest gain.
+    pub fn greatest(&self) -> usize
+        requires { self.now.waiting ≤ length self.now.gains.now }
+        ensures { result ≡ first_best self.now.gains.now self.now.waiting }
+    {
+        first_greatest(&self.gains[..self.waiting])
+    }
+
+    // The leaf that waits at place k.
+    pub fn at(&self, k: usize) -> Pending
+        requires { QueueRoom (k + 1) (queue_in self.now) }
+        ensures { PendingAt (queue_in self.now) k result }
+    {
+        let at = k * LEAF_WORDS;
+        Pending {
+            node: self.words[at],
+            depth: self.words[at + 2],
+            offer: Offer {
+                prop: self.words[at + 1],
+                val: self.values[k],
+                gain: self.gains[k],
+            },
+        }
+    }
+
+    // Takes the leaf at place k out; those behind it keep their order.
+    pub fn unqueue(&mut self, k: usize)
+        requires { (k < self.old.waiting) × QueueRoom self.old.waiting (queue_in self.old) }
+        ensures lent { SameQueueLent self.old self.new }
+        ensures queue { (leaves : List (Waiting singles))
+            → Queued self.old.waiting (queue_in self.old) leaves
+            → Queued self.new.waiting (queue_in self.new) (without k leaves) }
+        ensures waiting { self.new.waiting ≡ self.old.waiting - 1 }
+        ensures lengths { SameQueue (queue_in self.old) (queue_in self.new) }
+    {
+        let waiting = self.waiting;
+        let start = (k + 1) * LEAF_WORDS;
+        let end = waiting * LEAF_WORDS;
+        self.words.copy_within(start..end, k * LEAF_WORDS);
+        self.values.copy_within(k + 1..waiting, k);
+        self.gains.copy_within(k + 1..waiting, k);
+        self.waiting = waiting - 1;
+    }
+
+    // Stores a leaf at place k.
+    fn put(&mut self, k: usize, leaf: Pending)
+        requires { QueueRoom (k + 1) (queue_in self.old) }
+        ensures lent { SameQueueLent self.old self.new }
+        ensures queue { queue_in self.new ≡ put_waiting k (waiting_is leaf) (queue_in self.old) }
+        ensures waiting { self.new.waiting ≡ self.old.waiting }
+    {
+        let at = k * LEAF_WORDS;
+        self.words[at] = leaf.node;
+        self.words[at + 1] = leaf.offer.prop;
+        self.words[at + 2] = leaf.depth;
+        self.values[k] = leaf.offer.val;
+        self.gains[k] = leaf.offer.gain;
+    }
+
+    // Puts a leaf behind the others, if it offers a split.
+    pub fn enqueue(&mut self, node: usize, depth: u32, offer: Option<Offer>)
+        requires { (node < max_nodes) × RoomFor offer self.old.waiting (queue_in self.old) }
+        ensures lent { SameQueueLent self.old self.new }
+        ensures queue { (leaves : List (Waiting singles))
+            → Queued self.old.waiting (queue_in self.old) leaves
+            → Queued self.new.waiting (queue_in self.new)
+            (leaves ++ waits node depth (offer_is offer)) }
+        ensures waiting { self.new.waiting
+            ≡ self.old.waiting + length (waits node depth (offer_is offer)) }
+        ensures lengths { SameQueue (queue_in self.old) (queue_in self.new) }
+    {
+        let Some(split) = offer else {
+            return;
+        };
+        let k = self.waiting;
+        let leaf = Pending {
+            node: node as u32,
+            depth,
+            offer: split,
+        };
+        self.put(k, leaf);
+        self.waiting = k + 1;
+    }
+
+    // Nothing waits, and the lists hold zeros.
+    pub fn clear(&mut self)
+        ensures lent { SameQueueLent self.old self.new }
+        ensures queue { queue_in self.new ≡ cleared (queue_in self.old) }
+        ensures waiting { self.new.waiting ≡ 0 }
+    {
+        self.words.fill(0);
+        self.values.fill(0);
+        self.gains.fill(0.0);
+        self.waiting = 0;
+    }
 }

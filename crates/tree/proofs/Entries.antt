@@ -1,43 +1,60 @@
--- The laws of the layout: how many entries there are, and the tree of the first of them. Assumes nothing.
+-- What is read of a list of records, place by place, and the tree of the first of them. Assumes nothing.
 use mathlib.Core.Path.{◌≡◌, ap, ◌∙◌}
 use Prim.Native.Nat.{ℕ, ◌≤◌, ◌<◌}
 use mathlib.Core.List.{List, map, map-map}
-use lib.ListN.{length, get_or, length-map, get_or-map}
-use lib.IntN.{ℤ}
-use Rattle.model.specs.Lists.{range}
-use Rattle.model.specs.Meter.{Meter}
-use Rattle.model.specs.Tree.{leaf, Record, blank_record, nodes_of}
+use lib.ListN.{length, get_or, take}
+use lib.Seq.{get_or-take, length-take-le}
+use Rattle.std.proofs.lemmas.List.{length-map, get_or-map, take-map}
+use Rattle.model.specs.Single.{singles}
+use Rattle.model.specs.Tree.{leaf, Record, nodes_of}
 use Rattle.model.specs.Lent.{record_in, tree_in}
-use Rattle.model.proofs.Places.{length-each, each_at}
-use Rattle.layout.specs.Layout.{nodes_held, stored_at_of, stored_in_of, node_at}
-use Rattle.tree.proofs.Lists.{take-each}
+use Rattle.layout.specs.Records.{stored_of, node_is, no_record}
+use Rattle.layout.specs.declared.MaNode.{MaNode}
+use Rattle.tree.specs.Trees.{records_in}
 
-module _ (M : Meter) (words : List ℕ) (values : List ℤ) (costs : List M.Cost) where
-  -- ---- the node list
-  pub stored-length : length (stored_in_of M words values costs) ≡ nodes_held words values
-  unfolding stored_in_of
-  stored-length = length-each (stored_at_of M words values costs) 0 (nodes_held words values)
+abbrev read : MaNode → Record singles
+read m = record_in (stored_of m)
 
-  -- ---- the tree of its first nodes
-  module _ (count : ℕ) (held : count ≤ nodes_held words values) where
-    abbrev record_at : ℕ → Record M
-    record_at i = record_in (stored_at_of M words values costs i)
+module _ (t : List MaNode) where
+  pub records-length : length (records_in t) ≡ length t
+  records-length = length-map t read
 
-    pub tree-each : tree_in count (stored_in_of M words values costs) ≡ map record_at (range 0 count)
-    unfolding stored_in_of
-    tree-each = ap (map record_in) (take-each (stored_at_of M words values costs) 0 count (nodes_held words values) held) ∙ map-map record_in (stored_at_of M words values costs) (range 0 count)
+  pub record_at_lem : (i : ℕ) (d : Record singles) → i < length t → get_or (records_in t) i d ≡ record_in (stored_of (get_or t i no_record))
+  record_at_lem i d h = get_or-map read t i no_record d h
 
-    pub tree-length : length (tree_in count (stored_in_of M words values costs)) ≡ count
-    tree-length = rw tree-each (length-each record_at 0 count)
+  pub nodes-each : nodes_of (records_in t) ≡ map node_is t
+  nodes-each = map-map (λ (r : Record singles). r.node) read t
 
-    pub record_at_lem : (i : ℕ) (d : Record M) → i < count → get_or (tree_in count (stored_in_of M words values costs)) i d ≡ record_at i
-    record_at_lem i d h = rw tree-each (each_at record_at count i d h)
+  pub nodes-length : length (nodes_of (records_in t)) ≡ length t
+  nodes-length = rw nodes-each (length-map t node_is)
 
-    pub nodes-length : length (nodes_of (tree_in count (stored_in_of M words values costs))) ≡ count
-    nodes-length = length-map (tree_in count (stored_in_of M words values costs)) (λ (r : Record M). r.node) ∙ tree-length
+  pub node_at_lem : (i : ℕ) → i < length t → get_or (nodes_of (records_in t)) i leaf ≡ node_is (get_or t i no_record)
+  node_at_lem i h = rw nodes-each (get_or-map node_is t i no_record leaf h)
 
-    pub node_at_lem : (i : ℕ) → i < count → get_or (nodes_of (tree_in count (stored_in_of M words values costs))) i leaf ≡ node_at words values i
-    node_at_lem i h = get_or-map (λ (r : Record M). r.node) (tree_in count (stored_in_of M words values costs)) i blank_record ∙ ap (λ (r : Record M). r.node) (record_at_lem i blank_record h)
+-- ---- the tree of the first nodes
+module _ (nodes : List MaNode) (count : ℕ) where
+  pub tree-is : tree_in count (map stored_of nodes) ≡ records_in (take count nodes)
+  tree-is = ap (map record_in) (take-map stored_of count nodes) ∙ map-map record_in stored_of (take count nodes)
 
-    pub nodes-each : nodes_of (tree_in count (stored_in_of M words values costs)) ≡ map (node_at words values) (range 0 count)
-    nodes-each = rw tree-each (map-map (λ (r : Record M). r.node) record_at (range 0 count))
+  module _ (held : count ≤ length nodes) where
+    pub front-length : length (take count nodes) ≡ count
+    front-length = length-take-le count nodes held
+
+    pub tree-length : length (tree_in count (map stored_of nodes)) ≡ count
+    tree-length = rw tree-is (records-length (take count nodes) ∙ front-length)
+
+    pub tree_nodes_length : length (nodes_of (tree_in count (map stored_of nodes))) ≡ count
+    tree_nodes_length = rw tree-is (nodes-length (take count nodes) ∙ front-length)
+
+    module _ (i : ℕ) (h : i < count) where
+      front-at : get_or (take count nodes) i no_record ≡ get_or nodes i no_record
+      front-at = get_or-take count nodes i no_record h
+
+      inside : i < length (take count nodes)
+      inside = rw front-length h
+
+      pub tree_record : (d : Record singles) → get_or (tree_in count (map stored_of nodes)) i d ≡ record_in (stored_of (get_or nodes i no_record))
+      tree_record d = rw tree-is (record_at_lem (take count nodes) i d inside ∙ ap read front-at)
+
+      pub tree_node : get_or (nodes_of (tree_in count (map stored_of nodes))) i leaf ≡ node_is (get_or nodes i no_record)
+      tree_node = rw tree-is (node_at_lem (take count nodes) i inside ∙ ap node_is front-at)

@@ -1,4 +1,4 @@
--- `Lists`: tests, and lists whose entries are a function of their place. `Entries`: the laws of the layout. `Soundness`: what the words of a
+-- `Lists`: tests, and lists whose entries are a function of their place. `Entries`: what is read of the records. `Soundness`: what the records of a
 -- sound tree say. `Ways`, `Routes`: lookups, step by step and row by row. `Parents`, `Faults`: the test for soundness. `Deepening`: depths.
 pub mod Lists
 pub mod Entries

@@ -6,17 +6,16 @@ use mathlib.Core.List.{List, ◌∷◌, map}
 use lib.ListN.{take, drop}
 use lib.Seq.{drop-drop}
 use lib.IntN.{ℤ}
-use lib.Ieee.{Float}
 use Rattle.model.specs.Lists.{range}
 use Rattle.model.specs.Settings.{props_per_row, toks_per_row}
 use Rattle.model.specs.Rows.{Row, rows_of}
 use Rattle.model.specs.Tree.{nodes_of, leaf_reached}
-use Rattle.model.specs.Lent.{tree_in}
-use Rattle.layout.specs.Layout.{stored_in}
+use Rattle.layout.specs.declared.MaNode.{MaNode}
+use Rattle.tree.specs.Trees.{records_in}
 
 -- the leaf that row k of the flat list reaches
-abbrev pub row_leaf : List ℕ → List ℤ → List Float → ℕ → List ℤ → ℕ → ℕ
-row_leaf words values costs count props k = leaf_reached (nodes_of (tree_in count (stored_in words values costs))) (take props_per_row (drop (k * props_per_row) props))
+abbrev pub row_leaf : List MaNode → List ℤ → ℕ → ℕ
+row_leaf tree props k = leaf_reached (nodes_of (records_in tree)) (take props_per_row (drop (k * props_per_row) props))
 
 -- what is made of the properties of n rows, from row `first` on
 rows-from : {A : Type 0} (g : List ℤ → A) (n first : ℕ) (ps : List ℤ) (ts : List ℕ) (rs : List ℤ)

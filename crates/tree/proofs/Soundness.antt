@@ -1,50 +1,51 @@
--- What the words of a sound tree say. Assumes nothing.
-use mathlib.Core.Path.{◌≡◌}
-use Prim.Native.Nat.{ℕ, ◌*◌, ◌≤◌, ◌<◌}
+-- What the records of a sound tree say. Assumes nothing.
+use mathlib.Core.Path.{◌≡◌, sym, ap, ◌∙◌}
+use Prim.Native.Nat.{ℕ, ◌≤◌, ◌<◌}
 use native.Mathlib.Omega.{arith}
 use mathlib.Core.Bool.{true}
-use mathlib.Core.List.{List, []}
-use lib.ListN.{length, get_or, replicate, length-replicate}
-use lib.IntN.{ℤ, pos}
+use mathlib.Core.List.{List}
+use lib.ListN.{length, get_or, take}
 use lib.Dec.{eqb, ltb→lt}
 use Rattle.model.specs.Settings.{props_per_row, max_nodes}
-use Rattle.model.specs.Single.{singles}
-use Rattle.model.specs.Tree.{split, leaf, Record, blank_record, nodes_of}
-use Rattle.model.specs.Lent.{tree_in}
+use Rattle.model.specs.Tree.{split, blank_record, nodes_of, fault_of}
 use Rattle.model.specs.Family.{Forward}
 use Rattle.model.proofs.Sound as model
-use Rattle.layout.specs.Layout.{values_per_node, kind_at, prop_at, gt_at, le_at, nodes_held, stored_in, node_at}
-use Rattle.tree.specs.Trees.{SoundTree}
-use Rattle.tree.proofs.Entries.{tree-length, nodes-length, record_at_lem, node_at_lem}
+use Rattle.layout.specs.Records.{no_record}
+use Rattle.layout.specs.declared.MaNode.{MaNode}
+use Rattle.tree.specs.Trees.{records_in, IsSound, SoundTree, AtMost, Deepens}
+use Rattle.tree.proofs.Entries.{records-length, record_at_lem, nodes-length, node_at_lem, tree-is, front-length}
 
--- the tree with its thresholds all 0, and no costs
-abbrev pub zeros : ℕ → List ℤ
-zeros count = replicate (count * values_per_node) (pos 0)
+module _ (t : List MaNode) (is : IsSound t) where
+  pub all_sound : model.Sound (records_in t)
+  all_sound = model.sound (records_in t) is
 
-abbrev pub bare : List ℕ → ℕ → List (Record singles)
-bare words count = tree_in count (stored_in words (zeros count) [])
-
-module _ (words : List ℕ) (count : ℕ) (is : SoundTree words count) where
-  pub bare-held : count ≤ nodes_held words (zeros count)
-  bare-held = rw (length-replicate (count * values_per_node) (pos 0)) (let h = is.held in omega arith)
-
-  pub bare-sound : model.Sound (bare words count)
-  bare-sound = model.sound (bare words count) (is.faultless (zeros count) [] bare-held)
-
-  pub few : (0 < count) × (count ≤ max_nodes)
-  few = let c = model.sound-count (bare words count) (is.faultless (zeros count) [] bare-held) in (rw (tree-length singles words (zeros count) [] count bare-held) at c.0, rw (tree-length singles words (zeros count) [] count bare-held) at c.1)
+  pub some_nodes : (0 < length t) × (length t ≤ max_nodes)
+  some_nodes = let c = model.sound-count (records_in t) is in (rw (records-length t) at c.0, rw (records-length t) at c.1)
 
   -- a split's property is one of 24, and its children stand behind it, below the count
-  pub split-fits : (i : ℕ) → i < count → eqb (kind_at words i) 1 ≡ true → (prop_at words i < props_per_row) × Forward count i (split (prop_at words i) (pos 0) (gt_at words i) (le_at words i))
-  split-fits i h k =
-      let inside : i < length (bare words count) = rw (tree-length singles words (zeros count) [] count bare-held) h in
-      let among : i < length (nodes_of (bare words count)) = rw (nodes-length singles words (zeros count) [] count bare-held) h in
-      let prop = rw (record_at_lem singles words (zeros count) [] count bare-held i blank_record h, k) at (bare-sound.fits i inside) in
-      (ltb→lt (prop_at words i) props_per_row prop, rw (nodes-length singles words (zeros count) [] count bare-held, node_at_lem singles words (zeros count) [] count bare-held i h, k) at (bare-sound.rooted.family.forward i among))
+  pub node_fits : (i : ℕ) → i < length t → let m = get_or t i no_record in eqb m.kind 1 ≡ true → (m.prop < props_per_row) × Forward (length t) i (split m.prop m.val m.gt m.le)
+  node_fits i h k =
+      let inside : i < length (records_in t) = rw (records-length t) h in
+      let among : i < length (nodes_of (records_in t)) = rw (nodes-length t) h in
+      let prop = rw (record_at_lem t i blank_record h, k) at (all_sound.fits i inside) in
+      (ltb→lt (get_or t i no_record).prop props_per_row prop, rw (nodes-length t, node_at_lem t i h, k) at (all_sound.rooted.family.forward i among))
 
-  -- node i, with its threshold 0
-  pub bare-node : (i : ℕ) → i < count → get_or (nodes_of (bare words count)) i leaf ≡ node_at words (zeros count) i
-  bare-node i h = node_at_lem singles words (zeros count) [] count bare-held i h
+-- the first `count` records
+module _ (nodes : List MaNode) (count : ℕ) (is : SoundTree nodes count) where
+  pub front-sound : IsSound (take count nodes)
+  front-sound = ap fault_of (sym (tree-is nodes count)) ∙ is.faultless
 
-  pub bare-length : length (nodes_of (bare words count)) ≡ count
-  bare-length = nodes-length singles words (zeros count) [] count bare-held
+  pub few : (0 < count) × (count ≤ max_nodes)
+  few = rw (front-length nodes count is.held) at (some_nodes (take count nodes) front-sound)
+
+  -- a node's depth may be written, and its children's
+  pub deepens : (i : ℕ) (out : List ℕ) → length out ≡ length (take count nodes) → AtMost i out → i < length (take count nodes)
+      → Deepens (get_or (take count nodes) i no_record) i out
+  deepens i out long low inside =
+      let many = (some_nodes (take count nodes) front-sound).1 in
+      let place : i < length out = omega arith in
+      record {
+        place = place;
+        shallow = omega (arith, low i place);
+        children = λ is. let fits = (node_fits (take count nodes) front-sound i inside is).1 in (omega arith, omega arith);
+      }

@@ -1,32 +1,12 @@
--- `compact::move_nodes` meets its contract: by way of lists of zeros. Assumes nothing.
-use mathlib.Core.Path.{◌≡◌, refl, ◌∙◌}
-use native.Mathlib.Omega.{arith}
-use lib.Ieee.{of_bits, binary32}
-use Rattle.model.specs.Single.{singles}
-use Rattle.layout.specs.Tree.{node_lists}
+-- `compact::move_nodes` meets its contract: by way of blank records. Assumes nothing.
+use Rattle.std.proofs.Common.{arith}
+use lib.Ieee.{of_bits}
+use Rattle.layout.specs.Lent.{lists_in}
 use Rattle.compact.proofs.Moving.{length-entries, copied-back}
 use Rattle.compact.proofs.move_nodes.Goals as goal
 
--- the code's 0.0
-zero_costs_nothing : of_bits binary32 0 ≡ singles.nought
+pub returns-clause-lists : goal.returns-clause-lists
 unfolding of_bits
-zero_costs_nothing = refl
-
-pub gather-requires : goal.gather-requires
-gather-requires c = let pre = c.requires in
-    let few = pre.few in
-    let most = pre.most in
-    record { all_movable = pre; has_room = record { words = omega arith; values = omega arith; costs = omega arith } }
-
-pub copy_f32-requires : goal.copy_f32-requires
-copy_f32-requires c = let pre = c.requires in
-    (omega (arith, c.gather.auto.new_costs, pre.most), pre.room.costs)
-
-pub returns : goal.returns
-returns c = let few = c.requires.few in
-    let most = c.requires.most in
-    let words = rw c.words_for.ensures at c.copy_u32.ensures in
-    let values = rw c.values_for.ensures at c.copy_i32.ensures in
-    let costs = c.copy_f32.ensures in
-    (λ j. node_lists (words j) (values j) (costs j))
-    ∙ copied-back _ (length-entries _ _ _ _ c.args.n) c.args.count 57337 16382 8191 _ few zero_costs_nothing (omega arith, omega arith, omega arith) c.gather.ensures
+returns-clause-lists c = let most = c.requires.most in
+    rw (c.copy_front.ensures, c.copy_front-2.ensures)
+    (copied-back _ _ c.args.count 8191 (lists_in c.args.at.now) (length-entries _ _ _ c.args.order.now) c.requires.few (omega arith) c.leaf-blank.ensures c.gather.ensures)

@@ -25,16 +25,6 @@ bounds-stack-top c = let tree = c.requires.walkable in
     let s = walk_safe tree.shows (c.loop-depth.invariant.3 tree.nodes tree.shows) c.loop-depth-test.true in
     omega (arith, s.0, c.loop-depth.invariant.2, c.requires.rooted.stack_there, c.loop-depth-test.true)
 
-pub overflow_cast-i : goal.overflow_cast-i
-overflow_cast-i c = let tree = c.requires.walkable in
-    let s = walk_safe tree.shows (c.loop-depth.invariant.3 tree.nodes tree.shows) c.loop-depth-test.true in
-    omega (arith, s.1, c.requires.walkable.few)
-
-pub offset_bounds-order-found : goal.offset_bounds-order-found
-offset_bounds-order-found c = let tree = c.requires.walkable in
-    let s = walk_safe tree.shows (c.loop-depth.invariant.3 tree.nodes tree.shows) c.loop-depth-test.true in
-    omega (arith, s.0, c.requires.walkable.few, c.loop-depth-test.true)
-
 pub bounds-order-found : goal.bounds-order-found
 bounds-order-found c = let tree = c.requires.walkable in
     let s = walk_safe tree.shows (c.loop-depth.invariant.3 tree.nodes tree.shows) c.loop-depth-test.true in
@@ -45,34 +35,11 @@ overflow_cast-places c = let tree = c.requires.walkable in
     let s = walk_safe tree.shows (c.loop-depth.invariant.3 tree.nodes tree.shows) c.loop-depth-test.true in
     omega (arith, s.0, c.requires.walkable.few)
 
-pub offset_bounds-places-i : goal.offset_bounds-places-i
-offset_bounds-places-i c = let tree = c.requires.walkable in
-    let s = walk_safe tree.shows (c.loop-depth.invariant.3 tree.nodes tree.shows) c.loop-depth-test.true in
-    omega (arith, s.1, c.requires.walkable.few)
-
-pub bounds-places-i : goal.bounds-places-i
-bounds-places-i c = let tree = c.requires.walkable in
-    let s = walk_safe tree.shows (c.loop-depth.invariant.3 tree.nodes tree.shows) c.loop-depth-test.true in
-    omega (arith, s.1, c.loop-depth.invariant.1, c.requires.walkable.places_there)
-
-pub overflow_add-found : goal.overflow_add-found
-overflow_add-found c = let tree = c.requires.walkable in
-    let s = walk_safe tree.shows (c.loop-depth.invariant.3 tree.nodes tree.shows) c.loop-depth-test.true in
-    omega (arith, s.0, c.requires.walkable.few)
-
-pub bounds-splits-i : goal.bounds-splits-i
-bounds-splits-i c = let tree = c.requires.walkable in
-    let s = walk_safe tree.shows (c.loop-depth.invariant.3 tree.nodes tree.shows) c.loop-depth-test.true in
-    omega (arith, s.1, c.requires.walkable.splits_there)
-
 pub push_children-depth-requires : goal.push_children-depth-requires
 push_children-depth-requires c = let tree = c.requires.walkable in
     let s = walk_safe tree.shows (c.loop-depth.invariant.3 tree.nodes tree.shows) c.loop-depth-test.true in
-    record {
-      words_there = omega (arith, s.1, tree.words_there);
-      room = walk-room tree.shows (c.loop-depth.invariant.3 tree.nodes tree.shows) c.loop-depth-test.true (omega (arith, c.loop-depth.invariant.0, tree.order_there))
-          (omega (arith, c.loop-depth.invariant.1, tree.places_there)) (omega (arith, c.loop-depth.invariant.2, c.requires.rooted.stack_there));
-    }
+    walk-room tree.shows (c.loop-depth.invariant.3 tree.nodes tree.shows) c.loop-depth-test.true (omega (arith, c.loop-depth.invariant.0, tree.order_there))
+    (omega (arith, c.loop-depth.invariant.1, tree.places_there)) (omega (arith, c.loop-depth.invariant.2, c.requires.rooted.stack_there))
 
 pub loop-depth-smaller : goal.loop-depth-smaller
 loop-depth-smaller c = let tree = c.requires.walkable in
@@ -88,15 +55,6 @@ loop-depth-preserved c = let tree = c.requires.walkable in (
       (walk_turn shows (c.loop-depth.invariant.3 nodes shows) c.loop-depth-test.true (omega (arith, c.loop-depth.invariant.0, tree.order_there))
       (omega (arith, c.loop-depth.invariant.1, tree.places_there)) (omega (arith, c.loop-depth.invariant.2, c.requires.rooted.stack_there))),
 )
-
-pub shape_of-order : goal.shape_of-order
-shape_of-order c = c.loop-depth.invariant.0
-
-pub shape_of-places : goal.shape_of-places
-shape_of-places c = c.loop-depth.invariant.1
-
-pub shape_of-stack : goal.shape_of-stack
-shape_of-stack c = c.loop-depth.invariant.2
 
 pub returns : goal.returns
 returns c nodes shows = walk-done (c.loop-depth.invariant.3 nodes shows) (omega arith)

@@ -11,7 +11,7 @@ use Rattle.preorder.proofs.walk.Given as goal
 abbrev pub invariant-loop-depth : goal.invariant-loop-depth
 invariant-loop-depth l = (length l.order ≡ length l.initial.order)
     × (length l.places ≡ length l.initial.places) × (length l.stack ≡ length l.initial.stack)
-    × ((nodes : List Node) → ShowsNodes nodes l.words l.splits l.count → Walked nodes l.order l.places l.stack l.depth l.found)
+    × ((nodes : List Node) → ShowsNodes nodes l.tree l.splits → Walked nodes l.order l.places l.stack l.depth l.found)
 
 abbrev pub decreases-loop-depth : goal.decreases-loop-depth
-decreases-loop-depth l = l.count - l.found
+decreases-loop-depth l = length l.tree - l.found

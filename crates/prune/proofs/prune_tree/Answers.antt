@@ -1,25 +1,28 @@
--- `prune::prune_tree` meets its contract: the three passes are the model's pruning. Assumes nothing.
-use mathlib.Core.Path.{refl, ◌∙◌}
-use native.Mathlib.Omega.{arith}
-use Rattle.prune.proofs.Bridge.{shows-tree, all_priceable, shows-nodes, walkable, found-is, movable, moved_lists}
+-- `prune::prune_tree` meets its contract: the passes are the model's pruning. Assumes nothing.
+use Rattle.std.proofs.Common.{arith, ◌∙◌, sym}
+use Rattle.prune.proofs.Bridge.{found-is, order_fits, left_long, movable, moved_lists}
 use Rattle.prune.proofs.prune_tree.Goals as goal
 
-pub price_nodes-bits-requires : goal.price_nodes-bits-requires
-price_nodes-bits-requires c = let holds = c.requires.holds in all_priceable holds _ (omega (arith, holds.few))
+pub slice_bounds-order-end : goal.slice_bounds-order-end
+slice_bounds-order-end c = let holds = c.requires.holds in
+    let done = c.arrange-tree.ensures c.requires.tree c.requires.lent holds in
+    order_fits holds done.priced done.ordered (omega (arith, holds.few, c.arrange-tree.auto.order))
 
-pub order_nodes-nodes-requires : goal.order_nodes-nodes-requires
-order_nodes-nodes-requires c = let holds = c.requires.holds in
-    let priced = c.price_nodes-bits.ensures c.requires.tree (shows-tree holds) in
-    walkable holds priced _ _ (omega (arith, holds.few, c.price_nodes-bits.auto.splits)) (omega (arith, holds.few)) (omega (arith, holds.few))
+pub slice_bounds-move_nodes-end-2 : goal.slice_bounds-move_nodes-end-2
+slice_bounds-move_nodes-end-2 c = let holds = c.requires.holds in
+    let done = c.arrange-tree.ensures c.requires.tree c.requires.lent holds in
+    sym (left_long holds done.priced done.ordered (omega (arith, holds.few, c.arrange-tree.auto.order)))
 
 pub move_nodes-requires : goal.move_nodes-requires
 move_nodes-requires c = let holds = c.requires.holds in
-    let priced = c.price_nodes-bits.ensures c.requires.tree (shows-tree holds) in
-    let done = c.order_nodes-nodes.ensures _ (shows-nodes holds priced) in
-    movable holds priced done (omega (arith, holds.few, c.price_nodes-bits.auto.splits)) (omega (arith, holds.few, c.order_nodes-nodes.auto.order))
-    (omega (arith, holds.few, c.order_nodes-nodes.auto.places))
+    let done = c.arrange-tree.ensures c.requires.tree c.requires.lent holds in
+    movable holds done.priced done.ordered (omega (arith, holds.few, c.arrange-tree.auto.splits)) (omega (arith, holds.few, c.arrange-tree.auto.order))
+    (omega (arith, holds.few, c.arrange-tree.auto.places))
 
-pub returns : goal.returns
-returns c tree lent h = let priced = c.price_nodes-bits.ensures tree (shows-tree h) in
-    let done = c.order_nodes-nodes.ensures _ (shows-nodes h priced) in
-    record { lists = c.move_nodes.ensures ∙ moved_lists h priced done; nodes = found-is h priced done; none_wait = refl; bits = priced.bits_are }
+pub returns-clause-lists : goal.returns-clause-lists
+returns-clause-lists c tree lent h = let done = c.arrange-tree.ensures tree lent h in
+    record {
+      lists = c.move_nodes.ensures.lists ∙ moved_lists h done.priced done.ordered (omega (arith, h.few, c.arrange-tree.auto.order));
+      nodes = found-is h done.priced done.ordered;
+      bits = done.priced.bits_are;
+    }

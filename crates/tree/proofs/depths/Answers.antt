@@ -1,48 +1,35 @@
--- `tree::depths` meets its contract. The invariant: what is left of the pass makes the depths of the list as it stands, and no depth so far is
-use mathlib.Core.Path.{sym, ap, ◌∙◌}
-use Prim.Native.Nat.{ℕ}
-use mathlib.Core.List.{[]}
+-- `tree::depths` meets its contract. Assumes nothing.
+use Rattle.std.proofs.Common.{◌≡◌, ◌<◌, length, take, get_or, arith, ◌∙◌, sym, ℕ}
+use Rattle.std.proofs.lemmas.List.{length-replicate}
 use native.Mathlib.Numerals.{add-one}
-use native.Mathlib.Omega.{arith}
-use lib.ListN.{replicate}
-use Rattle.tree.proofs.Soundness.{few, split-fits}
+use Rattle.layout.specs.Records.{no_record}
+use Rattle.tree.proofs.Entries.{tree-is, front-length}
+use Rattle.tree.proofs.Soundness.{deepens}
 use Rattle.tree.proofs.Deepening.{zeros_at_most, deeper-low, depths_first, depths_on, depths_end}
 use Rattle.tree.proofs.depths.Goals as goal
 
-pub clear_u32-requires : goal.clear_u32-requires
-clear_u32-requires c = tt
-
 pub loop-i-init : goal.loop-i-init
-loop-i-init c = let zeros = c.clear_u32.ensures ∙ ap (λ (n : ℕ). replicate n 0) c.requires.places in (
-  omega arith,
-  c.clear_u32.auto.list ∙ c.requires.places,
-  rw zeros (zeros_at_most c.args.count),
-  λ values costs held. rw zeros (depths_first c.args.words.now values costs c.args.count held),
-)
+loop-i-init c = let sound = c.requires.sound in
+    let long = front-length c.args.nodes.now c.args.count sound.held in
+    let places = c.requires.places in
+    let t = take c.args.count c.args.nodes.now in
+    let n : length c.args.out.now ≡ length t = places ∙ sym long in
+    rw c.fill.ensures.after (length-replicate {A = ℕ} (length c.args.out.now) 0 ∙ n, zeros_at_most (length c.args.out.now), depths_first t (length c.args.out.now) n)
 
 pub lower_children-requires : goal.lower_children-requires
-lower_children-requires c = let inside = c.loop-i-test.true in
-    let sound = c.requires.sound in
-    let many = (few c.args.words.now c.args.count sound).1 in
-    record {
-      words_there = omega (arith, sound.held);
-      place = omega arith;
-      shallow = omega (arith, c.loop-i.invariant.2 c.loop-i.i inside);
-      children = λ is. let fits = (split-fits c.args.words.now c.args.count sound c.loop-i.i inside is).1 in (omega arith, omega arith);
-    }
+lower_children-requires c = let l = c.loop-i in
+    let inside : l.i < length (take c.args.count c.args.nodes.now) = omega arith in
+    deepens c.args.nodes.now c.args.count c.requires.sound l.i l.out l.invariant.0 l.invariant.1 inside
 
 pub loop-i-preserved : goal.loop-i-preserved
-loop-i-preserved c = let inside = c.loop-i-test.true in (
-  omega arith,
-  c.lower_children.auto.out ∙ c.loop-i.invariant.1,
-  rw (c.lower_children.ensures []) (deeper-low c.args.words.now [] c.args.count c.loop-i.i c.loop-i.out inside c.loop-i.invariant.2
-      (λ is. let fits = (split-fits c.args.words.now c.args.count c.requires.sound c.loop-i.i inside is).1 in (omega arith, omega arith))),
-  λ values costs held. c.loop-i.invariant.3 values costs held ∙ rw (add-one, c.lower_children.ensures values) (depths_on c.args.words.now values costs c.args.count held c.loop-i.i c.loop-i.out inside),
-)
-
-pub shape_of-out : goal.shape_of-out
-shape_of-out c = c.loop-i.invariant.1 ∙ sym c.requires.places
+loop-i-preserved c = let l = c.loop-i in
+    let t = take c.args.count c.args.nodes.now in
+    let inside : l.i < length t = omega arith in (
+      c.lower_children.auto.out ∙ l.invariant.0,
+      rw c.lower_children.ensures (deeper-low (get_or t l.i no_record) l.i l.out (deepens c.args.nodes.now c.args.count c.requires.sound l.i l.out l.invariant.0 l.invariant.1 inside) l.invariant.1),
+      l.invariant.2 ∙ rw (add-one, c.lower_children.ensures) (depths_on t l.i l.out inside),
+    )
 
 pub returns : goal.returns
-returns c values costs held = let start = c.args in
-    sym (c.loop-i.invariant.3 values costs held ∙ depths_end start.words.now values costs start.count held c.loop-i.i c.loop-i.out (omega arith))
+returns c = let t = take c.args.count c.args.nodes.now in
+    rw (tree-is c.args.nodes.now c.args.count) (sym (c.loop-i.invariant.2 ∙ depths_end t c.loop-i.i c.loop-i.out (omega arith)))

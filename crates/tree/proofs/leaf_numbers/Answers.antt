@@ -1,39 +1,34 @@
--- `tree::leaf_numbers` meets its contract. The invariant: the places of the rows passed hold their leaves, the others what they held.
-use mathlib.Core.Path.{◌≡◌, refl, ◌∙◌}
-use Prim.Native.Nat.{◌+◌, ◌*◌, ◌-◌, ◌<◌}
-use native.Mathlib.Omega.{arith}
-use lib.ListN.{length, length-take, length-drop, length-set}
+-- `tree::leaf_numbers` meets its contract. Assumes nothing.
+use Rattle.std.proofs.Common.{◌≡◌, ◌<◌, ◌+◌, ◌*◌, ◌-◌, length, length-take, length-drop, length-set, take, arith, ◌∙◌}
 use Rattle.model.specs.Settings.{props_per_row}
 use Rattle.model.specs.Tree.{nodes_of, leaf_reached}
-use Rattle.model.specs.Lent.{tree_in}
 use Rattle.model.proofs.Places.{each-written}
-use Rattle.layout.specs.Layout.{stored_in}
+use Rattle.tree.specs.Trees.{records_in}
 use Rattle.tree.proofs.Lists.{each-done}
 use Rattle.tree.proofs.Routes.{row_leaf, rows_each}
+use Rattle.tree.proofs.Entries.{tree-is}
+use Rattle.tree.proofs.Soundness.{front-sound}
 use Rattle.tree.proofs.leaf_numbers.Goals as goal
 
-pub loop-row-init : goal.loop-row-init
-loop-row-init c = (omega arith, refl, λ costs. refl)
-
-pub leaf_reached-leaf-requires : goal.leaf_reached-leaf-requires
-leaf_reached-leaf-requires c = let pre = c.requires in
-    let rows = pre.rows in
-    record { sound = pre.sound; values_there = pre.values_there; one_row = simp (length-take, length-drop) (omega arith) }
+pub leaf_reached-requires : goal.leaf_reached-requires
+leaf_reached-requires c = let rows = c.requires.rows in
+    let long = c.loop-row.invariant.0 in
+    let inside : c.loop-row.row < length c.args.number.now = omega arith in
+    record { sound = front-sound c.args.nodes.now c.args.count c.requires.sound; one_row = simp (length-take, length-drop) (omega arith) }
 
 pub loop-row-preserved : goal.loop-row-preserved
-loop-row-preserved c = let start = c.args in
-    let room : c.loop-row.row < length start.number.now = omega arith in
-    let one : c.loop-row.row * 24 + 24 - c.loop-row.row * 24 ≡ props_per_row = omega arith in (
-      omega arith,
-      simp length-set c.loop-row.invariant.1,
-      λ costs.
-          rw (rw one at (c.leaf_reached-leaf.ensures costs), c.loop-row.invariant.2 costs) (each-written (row_leaf start.words.now start.values.now costs start.count start.props.now) start.number.now c.loop-row.row room),
+loop-row-preserved c = let l = c.loop-row in
+    let t = take c.args.count c.args.nodes.now in
+    let long = l.invariant.0 in
+    let room : l.row < length c.args.number.now = omega arith in
+    let one : l.row * 24 + 24 - l.row * 24 ≡ props_per_row = omega arith in (
+      length-set l.number l.row c.leaf_reached.result.0 ∙ long,
+      rw (rw one at c.leaf_reached.ensures, l.invariant.1) (each-written (row_leaf t c.args.props.now) c.args.number.now l.row room),
     )
 
-pub shape_of-number : goal.shape_of-number
-shape_of-number c = c.loop-row.invariant.1
-
 pub returns : goal.returns
-returns c costs toks res = let start = c.args in
-    c.loop-row.invariant.2 costs ∙ each-done (row_leaf start.words.now start.values.now costs start.count start.props.now) start.number.now c.loop-row.row (omega arith)
-    ∙ rows_each (leaf_reached (nodes_of (tree_in start.count (stored_in start.words.now start.values.now costs)))) (length start.number.now) start.props.now toks res
+returns c toks res = let t = take c.args.count c.args.nodes.now in
+    let number = c.args.number.now in
+    rw (tree-is c.args.nodes.now c.args.count)
+    (c.loop-row.invariant.1 ∙ each-done (row_leaf t c.args.props.now) number c.loop-row.row (omega arith)
+    ∙ rows_each (leaf_reached (nodes_of (records_in t))) (length number) c.args.props.now toks res)

@@ -1,2 +1,0 @@
--- `Records`: node records as the model's stored nodes, and as numbers in the core's lists.
-pub mod Records
