@@ -9,7 +9,7 @@ use lib.ListN.{length, get_or}
 use Rattle.model.specs.Candidates.{stride, every, distinct, candidates_of}
 use Rattle.distinct.proofs.Distinct.{distinct-ascending}
 use Rattle.distinct.proofs.Turns.{pairwise_at}
-use Rattle.candidates.specs.declared.Plan.TheVariants.{Candidates, Nothing}
+use Rattle.std.specs.Prelude.{None, Some}
 use Rattle.candidates.specs.Plan.{planned}
 use Rattle.candidates.proofs.QuantileLaws.{place_inside, place_rises, length-quantiles, quantile-at}
 
@@ -44,10 +44,10 @@ module _ (most : ℕ) (column : List ℤ) where
       (pairwise_at (λ x y. x <ℤ y) probed (pos 0) (distinct-ascending (every (stride (length column)) 0 column)) (i * d / number) (j * d / number) rises (omega arith))
 
 -- ---- what a plan says of the candidates
-pub planned-some : (cs : List ℤ) (n : ℕ) → planned cs ≡ Candidates n → (length cs ≡ n) × (0 < n)
+pub planned-some : (cs : List ℤ) (n : ℕ) → planned cs ≡ Some n → (length cs ≡ n) × (0 < n)
 planned-some [] n e = absurd (let z : ◌≡◌ {A = ℕ} 0 1 = cc in omega arith)
 planned-some (c ∷ cs) n e = let z : suc (length cs) ≡ n = cc in (z, omega arith)
 
-pub planned-none : (cs : List ℤ) → planned cs ≡ Nothing → cs ≡ []
+pub planned-none : (cs : List ℤ) → planned cs ≡ None → cs ≡ []
 planned-none [] e = refl
 planned-none (c ∷ cs) e = absurd (let z : ◌≡◌ {A = ℕ} 0 1 = cc in omega arith)

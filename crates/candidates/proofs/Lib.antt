@@ -1,6 +1,5 @@
 -- `Machine`: keys and values in machine numbers. `ProbeLaws`: probing a column. `QuantileLaws`: values at even steps. `PickLaws`: from the probe to the plan.
 -- `CandidateLaws`: what holds of the candidates.
-pub mod Machine
 pub mod ProbeLaws
 pub mod QuantileLaws
 pub mod PickLaws

@@ -89,13 +89,6 @@ stride-some n = go (eqb (max (n / 1024) 1 % 2) 0) where
   go true = omega arith
   go false = omega arith
 
-pub stride_most : (n : ℕ) → stride n ≤ n + 2
-unfolding stride
-stride_most n = go (eqb (max (n / 1024) 1 % 2) 0) where
-  go : (t : Bool) → cond t (max (n / 1024) 1 + 1) (max (n / 1024) 1) ≤ n + 2
-  go true = omega arith
-  go false = omega arith
-
 -- at most 2,047
 column-few : (xs : List ℤ) → length (every (stride (length xs)) 0 xs) ≤ 2047
 column-few xs = go (dec_lt (length (every step 0 xs)) 2048) where

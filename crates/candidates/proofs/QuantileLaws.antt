@@ -1,12 +1,12 @@
 -- Values at even steps: which places they have, and how a loop writes them. Assumes nothing.
-use mathlib.Core.Path.{◌≡◌, sym, ap}
-use mathlib.Core.List.{List, ◌++◌, map}
+use mathlib.Core.Path.{◌≡◌, ap, ◌∙◌}
+use mathlib.Core.List.{List, ◌++◌, append-nil, map}
 use Prim.Native.Nat.{ℕ, suc, ◌*◌, ◌/◌, ◌≤◌, ◌<◌}
 use native.Mathlib.Nat.{div-lt_iff_lt-mul, le-div_iff_mul-le, div-mul-le_self, mul-le-mul_right}
 use native.Mathlib.Omega.{arith}
 use lib.IntN.{ℤ, pos}
-use lib.ListN.{length, get_or, drop}
-use Rattle.model.specs.Lists.{range, written_over}
+use lib.ListN.{length, get_or, drop_of_length-le}
+use Rattle.model.specs.Lists.{range}
 use Rattle.model.specs.Candidates.{quantiles}
 use Rattle.model.proofs.Places.{length-each, each_at}
 use Rattle.distinct.specs.Overlay.{overlay}
@@ -40,6 +40,7 @@ place-within d n k lt =
     omega arith
 
 -- all written
-pub quantiles-written : (d n : ℕ) (vs lent : List ℤ) → overlay (quantile d n vs) n lent ≡ written_over (quantiles d n vs) lent
+pub quantiles-written : (d : ℕ) (vs lent : List ℤ) → overlay (quantile d (length lent) vs) (length lent) lent ≡ quantiles d (length lent) vs
 unfolding overlay quantiles
-quantiles-written d n vs lent = ap (λ (m : ℕ). map (quantile d n vs) (range 0 n) ++ drop m lent) (sym (length-quantiles d n vs))
+quantiles-written d vs lent =
+    ap (λ (r : List ℤ). map (quantile d (length lent) vs) (range 0 (length lent)) ++ r) (drop_of_length-le lent {i = length lent} (omega arith)) ∙ append-nil (map (quantile d (length lent) vs) (range 0 (length lent)))

@@ -3,7 +3,7 @@
 use mathlib.Core.Path.{◌≡◌, refl, sym, ap, ◌∙◌}
 use mathlib.Core.Bool.{Bool, true, false, cond}
 use mathlib.Core.List.{List, [], ◌∷◌, ◌++◌}
-use Prim.Native.Nat.{ℕ, ◌-◌, ◌*◌, ◌^◌, ◌≤◌, ◌<◌, min, max}
+use Prim.Native.Nat.{ℕ, ◌-◌, ◌≤◌, ◌<◌, min, max}
 use native.Mathlib.Decide.{dec_le}
 use native.Mathlib.Omega.{arith}
 use lib.Dec.{eqb}
@@ -11,12 +11,11 @@ use lib.IntN.{ℤ, pos}
 use lib.ListN.{length, take, drop}
 use lib.Seq.{take-append-le, take_all, take_at, length-slice}
 use lib.Ieee.{Float, lt}
-use Rattle.ieee.specs.Within.{Within}
-use Rattle.model.specs.Lists.{range, keep, is_empty, written_over}
+use Rattle.model.specs.Lists.{is_empty, written_over}
 use Rattle.model.specs.Settings.{Settings, toks_per_row, max_rows}
 use Rattle.model.specs.Rows.{Row, within, rows_of}
 use Rattle.model.specs.Single.{singles}
-use Rattle.model.specs.Cost.{histogram_cost, cheapest, first_cheapest, insert_by_cost, by_cost, cost_of, usable, best_predictor, side_predictors}
+use Rattle.model.specs.Cost.{histogram_cost, cheapest, insert_by_cost, by_cost, cost_of, usable, best_predictor, side_predictors}
 use Rattle.model.specs.Evaluate.{info_of}
 use Rattle.model.proofs.Places.{length_rows_of}
 use Rattle.cost.specs.declared.Cheapest.{Cheapest}
@@ -25,7 +24,7 @@ use Rattle.cost.specs.Histograms.{histograms, span_of, SpanFits, CountsSpan}
 use Rattle.cost.specs.Predictors.{may_use, usable_predictors, cost_at, cheapest_of, node_costs, cost_in, sorted_predictors, NodeCounted, NodeUsable, NodeRoom, Uses, cheapest_on}
 use Rattle.cost.proofs.Numbers.{Each, each_tail, Passes, keep-passes}
 use Rattle.cost.proofs.Histograms.{histograms-length, histograms-part, histogram-rows}
-use Rattle.cost.proofs.Predictors.{cost_at-within, node_costs-at}
+use Rattle.cost.proofs.Predictors.{node_costs-at}
 use Rattle.cost.proofs.Sorting.{by_cost-each, by_cost-length}
 
 -- ---- what is asked of logarithms and of counts
@@ -79,22 +78,6 @@ take-front a n l rest e = elim (dec_le a n) [
 ]
 
 -- ---- the bridge
-
--- the lowest cost is one of the predictors', so it is bounded as theirs are
-pub cheapest-within : (hist : List ℕ) (total alphabet : ℕ) (weighted : Bool) (allowed : ℕ) (logs : List Float) → NodeCounted hist total alphabet logs
-    → is_empty (usable_predictors weighted allowed) ≡ false → Within (257 * 2 ^ 22) (cheapest_of (cost_at hist total alphabet logs) (usable_predictors weighted allowed)).bits
-unfolding cheapest_of usable_predictors
-cheapest-within hist total alphabet weighted allowed logs node some =
-    go (keep (may_use weighted allowed) (range 0 toks_per_row)) (keep-passes (may_use weighted allowed) toks_per_row 0 toks_per_row (omega arith)) some
-  where
-    cost : ℕ → Float
-    cost = cost_at hist total alphabet logs
-
-    go : (ps : List ℕ) → Each (Passes (may_use weighted allowed) toks_per_row) ps → is_empty ps ≡ false → Within (257 * 2 ^ 22) (cost (first_cheapest singles cost ps))
-    go [] k e = let z : ◌≡◌ {A = ℕ} 0 1 = cc in absurd (omega arith)
-    go (p ∷ ps) k e =
-        let s = cheapest-same cost cost (Passes (may_use weighted allowed) toks_per_row) (λ q h. refl) p ps (k 0 (omega arith)) (each_tail (Passes (may_use weighted allowed) toks_per_row) p ps k) in
-        cost_at-within hist total alphabet logs node (cheapest singles cost p ps) s.1.0
 
 module _ (t : Settings singles) where
   -- may be used

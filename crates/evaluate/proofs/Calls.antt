@@ -7,7 +7,7 @@ use lib.IntN.{ℤ}
 use lib.Ieee.{Float}
 use lib.ListN.{length, take, drop, replicate}
 use Rattle.refuse.specs.declared.Settings.{Settings}
-use Rattle.candidates.specs.declared.Plan.TheVariants.{Candidates}
+use Rattle.std.specs.Prelude.{Some}
 use Rattle.candidates.specs.Column.{column}
 use Rattle.candidates.specs.Plan.{Pickable, Picked}
 use Rattle.score.specs.Scored.{Scorable}
@@ -34,7 +34,7 @@ module _ {props : List ℤ} {tok : List ℕ} {first end : ℕ} {s : Settings} {l
 
 module _ {props : List ℤ} {tok : List ℕ} {first end : ℕ} {s : Settings} {preds firsts offs hist : List ℕ} {logs : List Float} {counts₀ : List ℕ}
     (ready : Splittable props tok first end s preds firsts offs hist logs counts₀) (q : ℕ) {m : ℕ} {cands cands' : List ℤ}
-    (picked : Picked s.max_candidates (column props q first end) cands (Candidates m) cands') where
+    (picked : Picked s.max_candidates (column props q first end) cands (Some m) cands') where
   pub scorable : q < 24 → length cands ≡ 32 → Scorable props tok first end q (take m cands') preds s.alphabet hist logs
   scorable h l =
       let most = s.max_candidates in

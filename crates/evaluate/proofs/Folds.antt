@@ -13,13 +13,11 @@ use Rattle.model.specs.Single.{singles}
 use Rattle.model.specs.Settings.{Settings}
 use Rattle.model.specs.Rows.{Row}
 use Rattle.model.specs.Score.{Score as ModelScore, nothing, score_of, score_from}
-use Rattle.model.specs.Evaluate.{Best, at, better, best_from, plan_of, is_repeated, offer_of}
+use Rattle.model.specs.Evaluate.{Best, better, best_from, plan_of, is_repeated, offer_of}
 use Rattle.model.proofs.Places.{length-each}
-use Rattle.evaluate.specs.declared.Best as declared
-use Rattle.evaluate.specs.declared.Best.TheVariants.{Nowhere, At}
-use Rattle.score.specs.declared.Score as Score
-use Rattle.score.specs.declared.Score.TheVariants.{Threshold}
-use Rattle.score.specs.Scored.{score_is}
+use Rattle.std.specs.Prelude as std
+use Rattle.std.specs.Prelude.{Some, None}
+use Rattle.evaluate.specs.declared.Split.{Split}
 use Rattle.evaluate.specs.Best.{best_is}
 use Rattle.evaluate.specs.Order.{order_at}
 use Rattle.evaluate.proofs.Orders.{order-more}
@@ -65,34 +63,21 @@ module _ (t : Settings singles) (logs : List Float) (preds : List ℕ) (mine : L
 -- ---- what is offered
 
 module _ (t : Settings singles) (cost : Float) where
-  pub offered-none : {b : declared.Best} → b ≡ Nowhere → none ≡ offer_of t cost (best_is b)
+  pub offered-none : {b : std.Option Split} → b ≡ None → none ≡ offer_of t cost (best_is b)
   unfolding offer_of
   offered-none e = rw e
 
-  module _ {b : declared.Best} {q : ℕ} {v : ℤ} {c : Float} (e : b ≡ At q v c) where
+  module _ {b : std.Option Split} {s : Split} (e : b ≡ Some s) where
     abbrev gain : Float
-    gain = sub binary32 (sub binary32 cost c) t.split_cost
+    gain = sub binary32 (sub binary32 cost s.bits) t.split_cost
 
-    pub offered-some : lt singles.nought gain ≡ true → (w : ℤ) → w ≡ v → some (record { prop = q; val = w; gain = gain }) ≡ offer_of t cost (best_is b)
+    pub offered-some : lt singles.nought gain ≡ true → (w : ℤ) → w ≡ s.val → some (record { prop = s.prop; val = w; gain = gain }) ≡ offer_of t cost (best_is b)
     unfolding offer_of
     offered-some h w f =
-        ap (λ (z : ℤ). some (record { prop = q; val = z; gain = gain })) f ∙ ap (λ (x : Bool). cond x (some (record { prop = q; val = v; gain = gain })) none) (sym h)
-        ∙ ap (λ (d : declared.Best). offer_of t cost (best_is d)) (sym e)
+        ap (λ (z : ℤ). some (record { prop = s.prop; val = z; gain = gain })) f ∙ ap (λ (x : Bool). cond x (some (record { prop = s.prop; val = s.val; gain = gain })) none) (sym h)
+        ∙ ap (λ (d : std.Option Split). offer_of t cost (best_is d)) (sym e)
 
     pub offered-low : lt singles.nought gain ≡ false → none ≡ offer_of t cost (best_is b)
     unfolding offer_of
-    offered-low h = ap (λ (x : Bool). cond x (some (record { prop = q; val = v; gain = gain })) none) (sym h)
-        ∙ ap (λ (d : declared.Best). offer_of t cost (best_is d)) (sym e)
-
--- ---- the better of the best so far and a score
-
-module _ (q : ℕ) {b : declared.Best} {s : Score.Score} {v : ℤ} {c : Float} (scored : s ≡ Threshold v c) where
-  pub better-first : b ≡ Nowhere → (w : ℤ) → w ≡ v → at q w c ≡ better (best_is b) q (score_is s)
-  better-first e w f = rw (scored, e, f)
-
-  module _ {p : ℕ} {u : ℤ} {d : Float} (e : b ≡ At p u d) where
-    pub better-lower : lt c d ≡ true → (w : ℤ) → w ≡ v → at q w c ≡ better (best_is b) q (score_is s)
-    better-lower h w f = rw (scored, e, f, h)
-
-    pub better-kept : lt c d ≡ false → at p u d ≡ better (best_is b) q (score_is s)
-    better-kept h = rw (scored, e, h)
+    offered-low h = ap (λ (x : Bool). cond x (some (record { prop = s.prop; val = s.val; gain = gain })) none) (sym h)
+        ∙ ap (λ (d : std.Option Split). offer_of t cost (best_is d)) (sym e)

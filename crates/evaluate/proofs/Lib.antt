@@ -1,5 +1,6 @@
 pub mod Orders
 pub mod SpanColumns
+pub mod Chunks
 pub mod Planned
 pub mod Folds
 pub mod Rooms

@@ -24,7 +24,7 @@ use Rattle.cost.specs.Predictors.{usable_predictors, cost_at, cheapest_of, cheap
 use Rattle.cost.proofs.Bridge.{span-usable, span-cheapest, info-is}
 use Rattle.layout.specs.declared.NodeInfo.{NodeInfo}
 use Rattle.layout.specs.declared.Offer.{Offer}
-use Rattle.layout.specs.declared.Offer.TheVariants.{Nothing}
+use Rattle.std.specs.Prelude.{Option as Maybe, None}
 use Rattle.layout.specs.Values.{info_is, offer_is}
 use Rattle.evaluate.specs.Evaluated.{Evaluable, Evaluated, span_rows, scored_at, info_with}
 use Rattle.evaluate.proofs.Rooms.{take-zeros}
@@ -72,7 +72,7 @@ module _ {props : List ℤ} {tok : List ℕ} {first end : ℕ} {s : Settings} {l
 
     module _ (wanted : Bool) {scored : Bool} (test : scored ≡ scored_at t depth best.bits (end - first)) {info : NodeInfo} (own : info ≡ info_with best mode) where
       -- it is scored
-      pub evaluated_scored : (wanted && scored) ≡ true → {offer : Offer} → offer_is offer ≡ offer_of t best.bits (best_split t logs mine)
+      pub evaluated_scored : (wanted && scored) ≡ true → {offer : Maybe Offer} → offer_is offer ≡ offer_of t best.bits (best_split t logs mine)
           → Evaluated (record { info = info; offer = offer }) wanted t logs mode depth mine
       unfolding offered
       evaluated_scored e {offer} o =
@@ -85,7 +85,7 @@ module _ {props : List ℤ} {tok : List ℕ} {first end : ℕ} {s : Settings} {l
           record { info = ap info_is own ∙ beside; offer = here ∙ ap (λ (b : Bool). cond b theirs none) (sym both.0) }
 
       -- it is not
-      pub evaluated_not : (wanted && scored) ≡ false → Evaluated (record { info = info; offer = Nothing }) wanted t logs mode depth mine
+      pub evaluated_not : (wanted && scored) ≡ false → Evaluated (record { info = info; offer = None }) wanted t logs mode depth mine
       unfolding offered
       evaluated_not e = record { info = ap info_is own ∙ beside; offer = sym (go wanted e) }
         where

@@ -1,7 +1,7 @@
 -- The order of the properties: each stands at one place, and a twin before the property that may repeat it. Assumes nothing.
 use mathlib.Core.Path.{◌≡◌, refl, sym, ap, ◌∙◌}
 use mathlib.Core.Bool.{Bool, true, false, cond, ◌&&◌}
-use mathlib.Core.List.{◌∷◌, map}
+use mathlib.Core.List.{List, [], ◌∷◌, map}
 use mathlib.Core.Option.{Option, none, some}
 use mathlib.Core.Logic.{◌⊎◌, inl, inr}
 use Prim.Native.Nat.{ℕ, zero, suc, ◌+◌, ◌-◌, ◌≤◌, ◌<◌}
@@ -10,8 +10,8 @@ use native.Mathlib.Nat.{add-zero}
 use native.Mathlib.Omega.{arith}
 use borrow.Author.Tests.{ltb-true, eqb-true, ne_eqb}
 use lib.Dec.{eqb, ltb}
-use lib.ListN.{drop}
-use lib.Seq.{drop-cons}
+use lib.ListN.{get_or, take, drop}
+use lib.Seq.{drop-cons, get_or-take}
 use Rattle.model.specs.Lists.{range, all}
 use Rattle.model.specs.Evaluate.{property_order, twin}
 use Rattle.model.proofs.Places.{length-each, each_at}
@@ -32,7 +32,7 @@ order-more n k h =
     ∙ ap (λ (i : ℕ). order_at k ∷ drop i (map order_at (range 0 n))) e
 
 -- a test that a whole range passes
-in_each : (p : ℕ → Bool) (first n k : ℕ) → all p (range first n) ≡ true → k < n → p (first + k) ≡ true
+pub in_each : (p : ℕ → Bool) (first n k : ℕ) → all p (range first n) ≡ true → k < n → p (first + k) ≡ true
 in_each p first zero k e h = absurd (omega arith)
 in_each p first (suc n) zero e h = rw (add-zero first) (and-true (p first) (all p (range (suc first) n)) e).0
 in_each p first (suc n) (suc k) e h =
@@ -98,12 +98,6 @@ twin-before k a h e =
 abbrev IsNext : ℕ → Type 0
 IsNext q = (q ≡ 17) ⊎ ((q ≡ 19) ⊎ ((q ≡ 21) ⊎ (q ≡ 23)))
 
-pub next_positive : (q : ℕ) → IsNext q → 1 ≤ q
-next_positive q (inl e) = omega arith
-next_positive q (inr (inl e)) = omega arith
-next_positive q (inr (inr (inl e))) = omega arith
-next_positive q (inr (inr (inr e))) = omega arith
-
 pub twin-next : (q : ℕ) → IsNext q → some (q - 1) ≡ twin q
 unfolding twin
 twin-next q (inl e) = rw e
@@ -150,3 +144,19 @@ twin-low q a e = ltb-true a 24 (ap is_low (sym e) ∙ go (eqb q 6) (eqb q 7) (eq
 pub order-few : (weighted : Bool) → order_count weighted ≤ 24
 order-few true = omega arith
 order-few false = omega arith
+
+-- ---- the order, as the code's table has it
+
+abbrev pub table : List ℕ
+table = 0 ∷ 1 ∷ 2 ∷ 3 ∷ 4 ∷ 5 ∷ 6 ∷ 7 ∷ 8 ∷ 9 ∷ 10 ∷ 11 ∷ 12 ∷ 13 ∷ 14 ∷ 16 ∷ 17 ∷ 18 ∷ 19 ∷ 20 ∷ 21 ∷ 22 ∷ 23 ∷ 15 ∷ []
+
+is_listed : ℕ → Bool
+is_listed k = eqb (get_or table k 0) (order_at k)
+
+listed : (k : ℕ) → k < 24 → is_listed k ≡ true
+unfolding is_listed order_at
+listed k h = at_each is_listed k refl h
+
+pub table_at : (n k : ℕ) → n ≤ 24 → k < n → get_or (take n table) k 0 ≡ order_at k
+unfolding is_listed
+table_at n k few h = get_or-take n table k 0 h ∙ eqb-true (get_or table k 0) (order_at k) (listed k (omega arith))

@@ -1,6 +1,6 @@
 -- The properties of a span's rows, read from the flat list. Assumes nothing.
 use mathlib.Core.Path.{◌≡◌, refl, sym, ap, ◌∙◌}
-use mathlib.Core.Bool.{Bool, true, false, ◌&&◌}
+use mathlib.Core.Bool.{Bool, ◌&&◌}
 use mathlib.Core.List.{List, [], ◌∷◌, map}
 use Prim.Native.Nat.{ℕ, zero, suc, ◌+◌, ◌-◌, ◌*◌, ◌≤◌, ◌<◌}
 use native.Mathlib.Omega.{arith}
@@ -11,7 +11,6 @@ use Rattle.model.specs.Lists.{range, all, eq_z}
 use Rattle.model.specs.Rows.{Row, prop_of, rows_of}
 use Rattle.model.specs.Promise.{no_row}
 use Rattle.model.proofs.Places.{length_rows_of, property-at}
-use Rattle.model.proofs.Tests.{eq_z-same, eq_z-other}
 use Rattle.candidates.specs.Column.{column}
 use Rattle.evaluate.specs.Order.{equal_columns}
 use Rattle.evaluate.specs.Evaluated.{span_rows}
@@ -56,30 +55,3 @@ module _ (ps : List ℤ) (tok : List ℕ) (first end rows : ℕ) (rs : List ℤ)
       all_map p mine
       ∙ ap (all (λ (b : Bool). b)) (span-map p g (λ i h. rw (cell_at a i ha h, cell_at b i hb h)))
       ∙ sym (all_map g (range first (end - first)))
-
--- ---- row by row
-
-module _ (ps : List ℤ) (row end a b : ℕ) where
-  abbrev left : ℤ
-  left = get_or ps (row * 24 + a) (pos 0)
-
-  abbrev right : ℤ
-  right = get_or ps (row * 24 + b) (pos 0)
-
-  equal_more : row < end → equal_columns ps row end a b ≡ (eq_z left right && equal_columns ps (row + 1) end a b)
-  unfolding equal_columns
-  equal_more h =
-      let n : end - row ≡ suc (end - (row + 1)) = omega arith in
-      let e : suc row ≡ row + 1 = omega arith in
-      let p : ℕ → Bool = λ (i : ℕ). eq_z (get_or ps (i * 24 + a) (pos 0)) (get_or ps (i * 24 + b) (pos 0)) in
-      ap (λ (m : ℕ). all p (range row m)) n ∙ ap (λ (i : ℕ). eq_z left right && all p (range i (end - (row + 1)))) e
-
-  pub equal_turn : row < end → left ≡ right → equal_columns ps (row + 1) end a b ≡ equal_columns ps row end a b
-  equal_turn h e = sym (equal_more h ∙ ap (λ (x : Bool). x && equal_columns ps (row + 1) end a b) (ap (eq_z left) (sym e) ∙ eq_z-same left))
-
-  pub equal_stop : row < end → (left ≡ right → ⊥) → false ≡ equal_columns ps row end a b
-  equal_stop h n = sym (equal_more h ∙ ap (λ (x : Bool). x && equal_columns ps (row + 1) end a b) (eq_z-other left right n))
-
-  pub equal_end : end ≤ row → true ≡ equal_columns ps row end a b
-  unfolding equal_columns
-  equal_end h = let n : end - row ≡ 0 = omega arith in rw n

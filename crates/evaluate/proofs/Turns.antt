@@ -6,7 +6,7 @@ use Prim.Native.Nat.{ℕ, suc, ◌+◌, ◌≤◌, ◌<◌}
 use native.Mathlib.Omega.{arith}
 use lib.IntN.{ℤ, pos}
 use lib.Ieee.{Float}
-use lib.ListN.{length, get_or, take, set, replicate, length-set, length-take}
+use lib.ListN.{length, get_or, take, set, length-set, length-take}
 use lib.Seq.{take-length}
 use lib.Signed.{lt_z}
 use Rattle.model.specs.Lists.{is_empty, range}
@@ -17,24 +17,24 @@ use Rattle.model.specs.Score.{score_of}
 use Rattle.model.specs.Evaluate.{twin, nowhere, better, best_from, property_order}
 use Rattle.model.proofs.Paths.{T→true}
 use Rattle.model.proofs.Written.{length-written, take-written}
-use Rattle.candidates.specs.declared.Plan.TheVariants.{Candidates, Nothing}
+use Rattle.std.specs.Prelude.{Option, None, Some}
 use Rattle.candidates.specs.Column.{column}
 use Rattle.candidates.specs.Plan.{Picked}
 use Rattle.candidates.proofs.CandidateLaws.{candidates-few, candidates_at_most, candidates-ascending, planned-some, planned-none}
-use Rattle.evaluate.specs.declared.Best.{Best}
-use Rattle.evaluate.specs.declared.Best.TheVariants.{Nowhere}
-use Rattle.score.specs.declared.Score.{Score}
+use Rattle.std.specs.Prelude as std
+use Rattle.evaluate.specs.declared.Split.{Split}
+use Rattle.score.specs.declared.Threshold.{Threshold}
 use Rattle.score.specs.Scored.{score_is}
 use Rattle.evaluate.specs.Best.{best_is}
 use Rattle.evaluate.specs.Order.{order_at, order_count, repeats_in}
 use Rattle.evaluate.specs.Evaluated.{span_rows}
 use Rattle.evaluate.proofs.Orders.{order_is, order_below}
-use Rattle.evaluate.proofs.Planned.{PlannedTo, planned-none as none-planned, planned-skipped, planned-passed, planned-marked, plan-is, repeated-is}
+use Rattle.evaluate.proofs.Planned.{PlannedTo, planned-skipped, planned-passed, planned-marked, plan-is, repeated-is}
 use Rattle.evaluate.proofs.Folds.{rest, rest-skipped, rest-passed, rest-scored, rest_end}
 
 -- ---- the candidates as they are lent
 
-module _ (most : ℕ) (values cands cands' : List ℤ) (m : ℕ) (p : Picked most values cands (Candidates m) cands') where
+module _ (most : ℕ) (values cands cands' : List ℤ) (m : ℕ) (p : Picked most values cands (Some m) cands') where
   pub lent_is : take m cands' ≡ candidates_of most values
   lent_is =
       let count = planned-some (candidates_of most values) m (sym p.plan) in
@@ -66,13 +66,13 @@ module _ (most : ℕ) (values cands cands' : List ℤ) (m : ℕ) (p : Picked mos
 
 module _ (props : List ℤ) (tok : List ℕ) (first end : ℕ) (preds : List ℕ) (logs : List Float) (alphabet most n : ℕ) (counts₀ : List ℕ) where
   -- whatever settings and rows: what the properties from place k on make of the best so far is what all make of none
-  abbrev pub Left : Best → ℕ → Type 0
+  abbrev pub Left : std.Option Split → ℕ → Type 0
   Left best k =
       (t : model.Settings singles) (rows : ℕ) (rs : List ℤ) → t.alphabet ≡ alphabet → t.candidates ≡ most → end ≤ rows
       → rest t logs preds (span_rows first end props tok rows rs) n (best_is best) k ≡ rest t logs preds (span_rows first end props tok rows rs) n nowhere 0
 
   -- before place k
-  pub record Turn (counts : List ℕ) (planned : List Bool) (cands : List ℤ) (best : Best) (k : ℕ) : Type 0 where
+  pub record Turn (counts : List ℕ) (planned : List Bool) (cands : List ℤ) (best : std.Option Split) (k : ℕ) : Type 0 where
     pub upto : k ≤ n
     pub space : counts ≡ counts₀
     pub marks : length planned ≡ 24
@@ -80,10 +80,7 @@ module _ (props : List ℤ) (tok : List ℕ) (first end : ℕ) (preds : List ℕ
     pub plans : PlannedTo props first end most k planned
     pub left : Left best k
 
-  pub turn-first : Turn counts₀ (replicate 24 false) (replicate 32 (pos 0)) Nowhere 0
-  turn-first = record { upto = omega arith; space = refl; marks = refl; room = refl; plans = none-planned props first end most; left = λ t rows rs a c h. refl }
-
-  module _ (order : first ≤ end) (few : n ≤ 24) {counts : List ℕ} {marked : List Bool} {cands : List ℤ} {best : Best} {k : ℕ}
+  module _ (order : first ≤ end) (few : n ≤ 24) {counts : List ℕ} {marked : List Bool} {cands : List ℤ} {best : std.Option Split} {k : ℕ}
       (turn : Turn counts marked cands best k) (h : k < n) where
     -- the property's candidates
     abbrev chosen : List ℤ
@@ -105,7 +102,7 @@ module _ (props : List ℤ) (tok : List ℕ) (first end : ℕ) (preds : List ℕ
         }
 
     module _ {counts' : List ℕ} {cands' : List ℤ} (same : counts' ≡ counts) where
-      passed : Picked most (column props (order_at k) first end) cands Nothing cands' → Turn counts' marked cands' best (k + 1)
+      passed : Picked most (column props (order_at k) first end) cands None cands' → Turn counts' marked cands' best (k + 1)
       passed p =
           let inside : k < 24 = omega arith in
           let e : chosen ≡ [] = planned-none chosen (sym p.plan) in
@@ -122,7 +119,7 @@ module _ (props : List ℤ) (tok : List ℕ) (first end : ℕ) (preds : List ℕ
                 ∙ turn.left t rows rs a c l;
           }
 
-      module _ {m : ℕ} (p : Picked most (column props (order_at k) first end) cands (Candidates m) cands') where
+      module _ {m : ℕ} (p : Picked most (column props (order_at k) first end) cands (Some m) cands') where
         some-chosen : is_empty chosen ≡ false
         some-chosen = go chosen (omega (arith, lent-count most (column props (order_at k) first end) cands cands' m p))
           where
@@ -130,10 +127,10 @@ module _ (props : List ℤ) (tok : List ℕ) (first end : ℕ) (preds : List ℕ
             go [] q = absurd (omega arith)
             go (x ∷ xs) q = refl
 
-        scored : repeats_in marked props first end (order_at k) (twin (order_at k)) ≡ false → (s : Score)
+        scored : repeats_in marked props first end (order_at k) (twin (order_at k)) ≡ false → (s : Option Threshold)
             → ((t : model.Settings singles) (rows : ℕ) (rs : List ℤ) → t.alphabet ≡ alphabet → end ≤ rows
             → score_is s ≡ score_of t logs preds (order_at k) (span_rows first end props tok rows rs) (take m cands'))
-            → (next : Best) → best_is next ≡ better (best_is best) (order_at k) (score_is s) → Turn counts' (set marked (order_at k) true) cands' next (k + 1)
+            → (next : std.Option Split) → best_is next ≡ better (best_is best) (order_at k) (score_is s) → Turn counts' (set marked (order_at k) true) cands' next (k + 1)
         scored r s score next e =
             let inside : k < 24 = omega arith in
             record {
@@ -161,27 +158,24 @@ module _ (props : List ℤ) (tok : List ℕ) (first end : ℕ) (preds : List ℕ
       turn-skipped r = skipped (subst (λ (i : ℕ). repeats_in marked props first end i (twin i) ≡ true) at r)
 
       module _ {counts' : List ℕ} {cands' : List ℤ} (same : counts' ≡ counts) where
-        pub turn-passed : Picked most (column props q first end) cands Nothing cands' → Turn counts' marked cands' best (k + 1)
-        turn-passed p = passed same (subst (λ (i : ℕ). Picked most (column props i first end) cands Nothing cands') at p)
+        pub turn-passed : Picked most (column props q first end) cands None cands' → Turn counts' marked cands' best (k + 1)
+        turn-passed p = passed same (subst (λ (i : ℕ). Picked most (column props i first end) cands None cands') at p)
 
-        pub turn-scored : {m : ℕ} → Picked most (column props q first end) cands (Candidates m) cands' → repeats_in marked props first end q (twin q) ≡ false
-            → (s : Score)
+        pub turn-scored : {m : ℕ} → Picked most (column props q first end) cands (Some m) cands' → repeats_in marked props first end q (twin q) ≡ false
+            → (s : Option Threshold)
             → ((t : model.Settings singles) (rows : ℕ) (rs : List ℤ) → t.alphabet ≡ alphabet → end ≤ rows
             → score_is s ≡ score_of t logs preds q (span_rows first end props tok rows rs) (take m cands'))
-            → (next : Best) → best_is next ≡ better (best_is best) q (score_is s) → Turn counts' (set marked q true) cands' next (k + 1)
+            → (next : std.Option Split) → best_is next ≡ better (best_is best) q (score_is s) → Turn counts' (set marked q true) cands' next (k + 1)
         turn-scored {m} p r s score next e =
             subst (λ (i : ℕ). Turn counts' (set marked i true) cands' next (k + 1)) (sym at)
-            (scored same (subst (λ (i : ℕ). Picked most (column props i first end) cands (Candidates m) cands') at p)
+            (scored same (subst (λ (i : ℕ). Picked most (column props i first end) cands (Some m) cands') at p)
             (subst (λ (i : ℕ). repeats_in marked props first end i (twin i) ≡ false) at r) s
             (λ t rows rs a l. score t rows rs a l ∙ ap (λ (i : ℕ). score_of t logs preds i (span_rows first end props tok rows rs) (take m cands')) at)
             next (e ∙ ap (λ (i : ℕ). better (best_is best) i (score_is s)) at))
 
-      pub turn_below : q < 24
-      turn_below = subst (λ (i : ℕ). i < 24) (sym at) (order_below k (omega arith))
-
   -- ---- the end
 
-  pub turn_end : {counts : List ℕ} {marked : List Bool} {cands : List ℤ} {best : Best} {k : ℕ} → Turn counts marked cands best k → n ≤ k
+  pub turn_end : {counts : List ℕ} {marked : List Bool} {cands : List ℤ} {best : std.Option Split} {k : ℕ} → Turn counts marked cands best k → n ≤ k
       → (t : model.Settings singles) (rows : ℕ) (rs : List ℤ)
       → t.alphabet ≡ alphabet → t.candidates ≡ most → n ≡ order_count t.weighted → end ≤ rows
       → best_is best ≡ best_from t logs preds (span_rows first end props tok rows rs) nowhere (property_order t.weighted)

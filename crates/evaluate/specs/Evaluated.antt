@@ -12,6 +12,7 @@ use Rattle.model.specs.Refuse.{counts_wanted}
 use Rattle.model.specs.Accepting.{InRange}
 use Rattle.refuse.specs.declared.Settings.{Settings}
 use Rattle.refuse.specs.Given.{settings_of}
+use Rattle.cost.specs.declared.Allowed.{Allowed}
 use Rattle.cost.specs.declared.Cheapest.{Cheapest}
 use Rattle.cost.specs.Counted.{LogsReach}
 use Rattle.cost.specs.Histograms.{SpanFits, CountsSpan, span_of}
@@ -57,3 +58,7 @@ scored_at t depth cost rows = (leb t.smallest rows && ltb depth model.max_depth)
 -- a node's cost, predictor and offset: "offset = mode if predictor 0 wins, else 0"
 abbrev pub info_with : Cheapest → ℤ → NodeInfo
 info_with best mode = record { cost = best.bits; pred = best.pred; offset = cond (eqb best.pred 0) mode (pos 0) }
+
+-- the predictors that the settings allow a leaf
+abbrev pub allowed_in : Settings → Allowed
+allowed_in s = record { weighted = s.allow_wp; preds = s.allowed_preds }

@@ -1,10 +1,10 @@
 -- The order of the properties, and the twin that a property may repeat (document 01, "A node"). Assumes nothing.
 use Rattle.std.specs.Prelude.{ℕ, ◌+◌, ◌-◌, ◌*◌, Bool, false, cond, ◌&&◌, List, ltb, get_or, ℤ, pos}
+use Rattle.std.specs.Prelude as std
+use Rattle.std.specs.Prelude.{Some, None}
 use Rattle.std.proofs.Math.Option.{Option, none, some}
 use Rattle.model.specs.Lists.{range, all, eq_z}
 use Rattle.model.specs.Settings.{props_per_row}
-use Rattle.evaluate.specs.declared.Twin.{Twin}
-use Rattle.evaluate.specs.declared.Twin.TheVariants.{Absolute, Nothing}
 
 -- the property at place k of "0 to 14, 16 to 23, then 15"
 unfoldable pub order_at : ℕ → ℕ
@@ -15,9 +15,9 @@ abbrev pub order_count : Bool → ℕ
 order_count weighted = cond weighted props_per_row 23
 
 -- the model's twin, as the code hands it on
-abbrev pub twin_is : Twin → Option ℕ
-twin_is (Absolute a) = some a
-twin_is Nothing = none
+abbrev pub twin_is : std.Option ℕ → Option ℕ
+twin_is (Some a) = some a
+twin_is None = none
 
 -- "equals it in each row": two properties of the rows first, first + 1, .., end - 1 in the flat list
 unfoldable pub equal_columns : List ℤ → ℕ → ℕ → ℕ → ℕ → Bool

@@ -10,28 +10,41 @@ ghost use Rattle.cost.specs.Histograms.{CountsSpan};
 ghost use Rattle.cost.specs.Predictors.{node_costs};
 ghost use Rattle.layout.specs.Values.{offer_is};
 ghost use Rattle.score.specs.Scored.{score_is};
-ghost use Rattle.evaluate.specs.Order.{order_at, order_count, twin_is, equal_columns, repeats_in};
+ghost use Rattle.evaluate.specs.Order.{order_count, twin_is, equal_columns, repeats_in};
 ghost use Rattle.evaluate.specs.Best.{best_is};
 ghost use Rattle.evaluate.specs.Evaluated.{Evaluable, Evaluated, Splittable, span_rows, scored_at, info_with};
+ghost use Rattle.evaluate.specs.Evaluated.{allowed_in};
 
-use candidates::Plan;
-use cost::Cheapest;
-use layout::{Leaf, NodeInfo, Offer};
-use refuse::Settings;
-use score::Score;
+use candidates::Probe;
+use cost::{Allowed, Cheapest, NodeCounts};
+use layout::{Leaf, NodeInfo, Offer, Span};
+use refuse::{Job, Settings};
+use rows::Rows;
+use score::Threshold;
+use score_bins::SpanRows;
+use score_windows::SideWindows;
 
-// The property that another may repeat.
+// The properties in the order in which they are scored.
+const PROPERTY_ORDER: [usize; model::NUM_MA_PROPS] = [
+    0, 1, 2, 3, 4, 5, 6, 7, 8, 9, 10, 11, 12, 13, 14, 16, 17, 18, 19, 20, 21, 22, 23, 15,
+];
+
+// A split at a threshold of a property, and its cost in bits.
 #[derive(Clone, Copy)]
-enum Twin {
-    Absolute(usize),
-    Nothing,
+struct Split {
+    prop: u32,
+    val: i32,
+    bits: f32,
 }
 
-// The best split so far: a property, a threshold and its cost in bits.
-#[derive(Clone, Copy)]
-enum Best {
-    Nowhere,
-    At(u32, i32, f32),
+// The predictors that the settings allow a leaf.
+fn allowed_by(s: Settings) -> Allowed
+    ensures { result ≡ allowed_in s }
+{
+    Allowed {
+        weighted: s.allow_wp,
+        preds: u32::from(s.allowed_preds),
+    }
 }
 
 // How many properties are scored: 15, the last, only with the weighted predictor.
@@ -45,28 +58,14 @@ fn property_count(weighted: bool) -> usize
     }
 }
 
-// The property at place k of their order: 0 to 14, 16 to 23, then 15.
-fn property_at(k: usize) -> usize
-    requires { k < props_per_row }
-    ensures { result ≡ order_at k }
-{
-    if k < 15 {
-        return k;
-    }
-    if k < 23 {
-        return k + 1;
-    }
-    15
-}
-
 // The twin of a signed property: its absolute value, which may be the same throughout a node.
-fn twin_of(prop: usize) -> Twin
+fn twin_of(prop: usize) -> Option<usize>
     ensures { twin_is result ≡ twin prop }
 {
     match prop {
-        6 | 7 => Twin::Absolute(prop - 2),
-        17 | 19 | 21 | 23 => Twin::Absolute(prop - 1),
-        _ => Twin::Nothing,
+        6 | 7 => Some(prop - 2),
+        17 | 19 | 21 | 23 => Some(prop - 1),
+        _ => None,
     }
 }
 
@@ -75,14 +74,9 @@ fn columns_equal(props: &[i32], first: usize, end: usize, a: usize, b: usize) ->
     requires { (first ≤ end) × (end * props_per_row ≤ length props.now) × (a < props_per_row) × (b < props_per_row) }
     ensures { result ≡ equal_columns props.now first end a b }
 {
-    for row in first..end {
-        let x = props[row * model::NUM_MA_PROPS + a];
-        let y = props[row * model::NUM_MA_PROPS + b];
-        if x != y {
-            return false;
-        }
-    }
-    true
+    props[first * model::NUM_MA_PROPS..end * model::NUM_MA_PROPS]
+        .chunks_exact(model::NUM_MA_PROPS)
+        .all(|row| row[a] == row[b])
 }
 
 // Whether a property repeats its twin, which was planned. Its candidates and costs would be the twin's, and the earlier
@@ -92,161 +86,128 @@ fn is_repeated(props: &[i32], first: usize, end: usize, prop: usize, planned: &[
         × (length planned.now ≡ props_per_row) }
     ensures { result ≡ repeats_in planned.now props.now first end prop (twin prop) }
 {
-    let twin = twin_of(prop);
-    let Twin::Absolute(absolute) = twin else {
+    let Some(twin) = twin_of(prop) else {
         return false;
     };
-    if planned[absolute] {
-        return columns_equal(props, first, end, absolute, prop);
-    }
-    false
+    planned[twin] && columns_equal(props, first, end, twin, prop)
 }
 
 // The next score if it is lower than the best so far.
-fn better_of(best: Best, prop: u32, score: Score) -> Best
+fn better_of(best: Option<Split>, prop: u32, score: Option<Threshold>) -> Option<Split>
     ensures { best_is result ≡ better (best_is best) prop (score_is score) }
 {
-    let Score::Threshold(val, bits) = score else {
+    let Some(Threshold { val, bits }) = score else {
         return best;
     };
-    let Best::At(_, _, lowest) = best else {
-        return Best::At(prop, val, bits);
-    };
-    if bits < lowest {
-        return Best::At(prop, val, bits);
+    match best {
+        Some(lowest) if !(bits < lowest.bits) => best,
+        _ => Some(Split { prop, val, bits }),
     }
-    best
 }
 
 // The first of the lowest scores over the properties. A property that repeats another or yields no candidate is passed
 // over at once.
 fn best_split(
-    props: &[i32],
-    tok: &[u8],
-    preds: &[u32],
-    firsts: &[u32],
-    offs: &[u32],
+    span: SpanRows,
+    sides: SideWindows,
     hist: &[u32],
     counts: &mut [u32],
-    logs: &[f32],
-    s: Settings,
-    first: usize,
-    end: usize,
-) -> Best
-    requires { Splittable props.now tok.now first end s preds.now firsts.now offs.now hist.now
-        logs.now counts.old }
-    ensures answer { (rows : ℕ) (rs : List ℤ) → end ≤ rows
-        → best_is result ≡ best_from (settings_of s) logs.now preds.now
-        (span_rows first end props.now tok.now rows rs)
-        nowhere (property_order s.allow_wp) }
+    job: Job,
+) -> Option<Split>
+    requires { Splittable span.props.now span.tok.now span.first span.end job.settings
+        sides.preds.now sides.firsts.now sides.offs.now hist.now job.logs.now counts.old }
+    ensures answer { (rows : ℕ) (rs : List ℤ) → span.entry.end ≤ rows
+        → best_is result ≡ best_from (settings_of job.entry.settings) job.entry.logs.now sides.entry.preds.now
+        (span_rows span.entry.first span.entry.end span.entry.props.now span.entry.tok.now rows rs)
+        nowhere (property_order job.entry.settings.allow_wp) }
     ensures zeros { counts.new ≡ counts.old }
 {
+    let s = job.settings;
     let alphabet = s.alphabet as usize;
     let most = s.max_candidates as usize;
+    let node = NodeCounts {
+        hist,
+        total: (span.end - span.first) as u32,
+        alphabet,
+    };
     let room = distinct::PROBE_FLAGS + model::NUM_MA_PREDS * alphabet;
     let mut planned = [false; model::NUM_MA_PROPS];
     let mut cands = [0i32; 32];
-    let mut best = Best::Nowhere;
-    for k in 0..property_count(s.allow_wp) {
-        let prop = property_at(k);
-        if is_repeated(props, first, end, prop, &planned) {
+    let mut best = None;
+    for prop in &PROPERTY_ORDER[..property_count(s.allow_wp)] {
+        let prop = *prop;
+        if is_repeated(span.props, span.first, span.end, prop, &planned) {
             continue;
         }
-        let plan = candidates::pick_candidates(
-            props,
-            &mut counts[..distinct::PROBE_FLAGS],
-            &mut cands,
-            first,
-            end,
+        let probe = Probe {
+            props: span.props,
+            first: span.first,
+            end: span.end,
             prop,
-            most,
-        );
-        let Plan::Candidates(n) = plan else {
+        };
+        let flags = &mut counts[..distinct::PROBE_FLAGS];
+        let plan = candidates::pick_candidates(probe, flags, &mut cands, most);
+        let Some(n) = plan else {
             continue;
         };
         planned[prop] = true;
-        let score = score::score_property(
-            props,
-            tok,
-            &cands[..n],
-            preds,
-            firsts,
-            offs,
-            hist,
-            &mut counts[room..],
-            logs,
-            first,
-            end,
-            prop,
-            alphabet,
-        );
+        let rest = &mut counts[room..];
+        let score = score::score_property(span, prop, &cands[..n], sides, node, job.logs, rest);
         best = better_of(best, prop as u32, score);
     }
     best
 }
 
 // The split that a node offers: its best one, if that gains more than 0 over the node's cost.
-fn offer_of(best: Best, cost: f32, s: Settings) -> Offer
+fn offer_of(best: Option<Split>, cost: f32, s: Settings) -> Option<Offer>
     ensures { offer_is result ≡ offer_of (settings_of s) cost (best_is best) }
 {
-    let Best::At(prop, val, bits) = best else {
-        return Offer::Nothing;
-    };
-    let gain = (cost - bits) - s.split_cost_bits;
+    let split = best?;
+    let gain = (cost - split.bits) - s.split_cost_bits;
     if 0.0 < gain {
-        return Offer::Split { prop, val, gain };
+        return Some(Offer {
+            prop: split.prop,
+            val: split.val,
+            gain,
+        });
     }
-    Offer::Nothing
+    None
 }
 
 // The split that a node offers, from its histograms: the properties are scored with the windows of the cheapest
 // predictors.
 fn offer_split(
-    props: &[i32],
-    tok: &[u8],
+    span: SpanRows,
     hist: &[u32],
     costs: &[f32],
     counts: &mut [u32],
-    logs: &[f32],
-    s: Settings,
-    first: usize,
-    end: usize,
+    job: Job,
     cost: f32,
-) -> Offer
-    requires evaluable { Evaluable props.now tok.now first end s logs.now counts.old }
-    requires counts_span { CountsSpan tok.now first end hist.now s.alphabet }
-    requires costs_value { costs.now ≡ node_costs hist.now (end - first) s.alphabet s.allow_wp s.allowed_preds
-        logs.now }
-    ensures answer { (rows : ℕ) (rs : List ℤ) → end ≤ rows
-        → offer_is result ≡ offer_of (settings_of s) cost (best_split (settings_of s) logs.now
-        (span_rows first end props.now tok.now rows rs)) }
+) -> Option<Offer>
+    requires evaluable { Evaluable span.props.now span.tok.now span.first span.end
+        job.settings job.logs.now counts.old }
+    requires counts_span { CountsSpan span.tok.now span.first span.end hist.now job.settings.alphabet }
+    requires costs_value { costs.now ≡ node_costs hist.now (span.end - span.first) job.settings.alphabet
+        job.settings.allow_wp job.settings.allowed_preds job.logs.now }
+    ensures answer { (rows : ℕ) (rs : List ℤ) → span.entry.end ≤ rows
+        → offer_is result ≡ offer_of (settings_of job.entry.settings) cost
+        (best_split (settings_of job.entry.settings) job.entry.logs.now
+        (span_rows span.entry.first span.entry.end span.entry.props.now span.entry.tok.now rows rs)) }
     ensures zeros { counts.new ≡ counts.old }
 {
+    let s = job.settings;
     let alphabet = s.alphabet as usize;
     let mut preds = [0u32; model::NUM_MA_PREDS];
     let mut firsts = [0u32; model::NUM_MA_PREDS];
     let mut offs = [0u32; model::NUM_MA_PREDS + 1];
-    let sides = cost::cheapest_predictors(
-        costs,
-        s.allow_wp,
-        s.allowed_preds as u32,
-        s.side_preds as usize,
-        &mut preds,
-    );
+    let sides = cost::cheapest_predictors(costs, allowed_by(s), s.side_preds as usize, &mut preds);
     score_windows::set_windows(hist, &preds[..sides], &mut firsts, &mut offs, alphabet);
-    let best = best_split(
-        props,
-        tok,
-        &preds[..sides],
-        &firsts,
-        &offs,
-        hist,
-        counts,
-        logs,
-        s,
-        first,
-        end,
-    );
+    let windows = SideWindows {
+        preds: &preds[..sides],
+        firsts: &firsts,
+        offs: &offs,
+    };
+    let best = best_split(span, windows, hist, counts, job);
     offer_of(best, cost, s)
 }
 
@@ -271,84 +232,71 @@ fn info_of(best: Cheapest, mode: i32) -> NodeInfo
 }
 
 // A node from its counts: what stands beside it, and the split that it offers if it is to be scored.
+// Stays: rows, counts, job and span are structs by now; depth, mode and whether a split may follow are one number
+// each.
 pub fn evaluate_counts(
-    props: &[i32],
-    tok: &[u8],
+    span: SpanRows,
     hist: &[u32],
     counts: &mut [u32],
-    logs: &[f32],
-    s: Settings,
-    first: usize,
-    end: usize,
+    job: Job,
     depth: u32,
     mode: i32,
     score_split: bool,
 ) -> Leaf
-    requires evaluable { Evaluable props.now tok.now first end s logs.now counts.old }
-    requires counts_span { CountsSpan tok.now first end hist.now s.alphabet }
-    ensures answer { (rows : ℕ) (rs : List ℤ) → end ≤ rows
-        → Evaluated result score_split (settings_of s) logs.now mode depth
-        (span_rows first end props.now tok.now rows rs) }
+    requires evaluable { Evaluable span.props.now span.tok.now span.first span.end
+        job.settings job.logs.now counts.old }
+    requires counts_span { CountsSpan span.tok.now span.first span.end hist.now job.settings.alphabet }
+    ensures answer { (rows : ℕ) (rs : List ℤ) → span.entry.end ≤ rows
+        → Evaluated result score_split (settings_of job.entry.settings) job.entry.logs.now mode depth
+        (span_rows span.entry.first span.entry.end span.entry.props.now span.entry.tok.now rows rs) }
     ensures zeros { counts.new ≡ counts.old }
 {
-    let alphabet = s.alphabet as usize;
+    let s = job.settings;
+    let rows = span.end - span.first;
     let mut costs = [0.0f32; model::NUM_MA_PREDS];
-    let best = cost::predictor_costs(
+    let node = NodeCounts {
         hist,
-        &mut costs,
-        logs,
-        (end - first) as u32,
-        alphabet,
-        s.allow_wp,
-        s.allowed_preds as u32,
-    );
+        total: rows as u32,
+        alphabet: s.alphabet as usize,
+    };
+    let best = cost::predictor_costs(node, allowed_by(s), &mut costs, job.logs);
     let info = info_of(best, mode);
-    if score_split & is_scored(end - first, depth, best.bits, s) {
-        let offer = offer_split(
-            props, tok, hist, &costs, counts, logs, s, first, end, best.bits,
-        );
+    if score_split & is_scored(rows, depth, best.bits, s) {
+        let offer = offer_split(span, hist, &costs, counts, job, best.bits);
         return Leaf { info, offer };
     }
-    Leaf {
-        info,
-        offer: Offer::Nothing,
-    }
+    Leaf { info, offer: None }
 }
 
 // Counts the span's rows, and evaluates the node. The count space is as before.
+// Stays: rows, counts, job and span are structs by now; depth, mode and whether a split may follow are one number
+// each.
 pub fn evaluate_rows(
-    props: &[i32],
-    tok: &[u8],
+    rows: &Rows,
     counts: &mut [u32],
-    logs: &[f32],
-    s: Settings,
-    first: usize,
-    end: usize,
+    job: Job,
+    span: Span,
     depth: u32,
     mode: i32,
     score_split: bool,
 ) -> Leaf
-    requires { Evaluable props.now tok.now first end s logs.now counts.old }
-    ensures answer { (rows : ℕ) (rs : List ℤ) → end ≤ rows
-        → Evaluated result score_split (settings_of s) logs.now mode depth
-        (span_rows first end props.now tok.now rows rs) }
+    requires { Evaluable rows.now.props.now rows.now.tok.now span.first span.end
+        job.settings job.logs.now counts.old }
+    ensures answer { (n : ℕ) (rs : List ℤ) → span.end ≤ n
+        → Evaluated result score_split (settings_of job.entry.settings) job.entry.logs.now mode depth
+        (span_rows span.first span.end rows.now.props.now rows.now.tok.now n rs) }
     ensures zeros { counts.new ≡ counts.old }
 {
-    let alphabet = s.alphabet as usize;
+    let (first, end) = (span.first as usize, span.end as usize);
+    let alphabet = job.settings.alphabet as usize;
     let cells = model::NUM_MA_PREDS * alphabet;
     let mut hist = [0u32; model::NUM_MA_PREDS * 256];
-    cost::count_tokens(tok, first, end, alphabet, &mut hist[..cells]);
-    evaluate_counts(
-        props,
-        tok,
-        &hist[..cells],
-        counts,
-        logs,
-        s,
+    cost::count_tokens(rows.tok, first, end, alphabet, &mut hist[..cells]);
+    let span = SpanRows {
+        props: rows.props,
+        tok: rows.tok,
         first,
         end,
-        depth,
-        mode,
-        score_split,
-    )
+    };
+    evaluate_counts(span, &hist[..cells], counts, job, depth, mode, score_split)
 }

@@ -30,6 +30,11 @@ pub record CountsGroups (ps : List ℤ) (tok : List ℕ) (rows alphabet : ℕ) (
 
 -- ---- adding up
 
+-- the total with the lowest cost of a group of n rows; an empty group is passed over
+unfoldable pub with_lowest : List ℕ → ℕ → ℕ → Bool → ℕ → List Float → Float → Float
+with_lowest hist n alphabet weighted allowed logs bits =
+    cond (eqb n 0) bits (singles.add bits (cheapest_of (cost_at hist n alphabet logs) (usable_predictors weighted allowed)).bits)
+
 module _ (hist sizes : List ℕ) (alphabet : ℕ) (weighted : Bool) (allowed : ℕ) (logs : List Float) where
   -- the lowest cost of group g
   unfoldable pub group_bits : ℕ → Float

@@ -2,26 +2,23 @@
 // costs added in double precision.
 #![tactic(auto)]
 
-ghost use Rattle.std.specs.Prelude.{◌≡◌, List, ◌*◌, ◌<◌, ℤ, replicate};
+ghost use Rattle.std.specs.Prelude.{◌≡◌, List, ◌*◌, false, ℤ, replicate};
 ghost use Rattle.model.specs.Single.{singles};
 ghost use Rattle.model.specs.Settings.{Settings};
 ghost use Rattle.model.specs.Flat.{clamped, flat_bits};
 ghost use Rattle.model.specs.Rows.{rows_of};
-ghost use Rattle.cost.specs.Predictors.{Uses};
-ghost use Rattle.flat.specs.Flat.{RowsFit, GroupsEmpty, CountsGroups, with_group_bits, groups_bits};
+ghost use Rattle.model.specs.Lists.{is_empty};
+ghost use Rattle.cost.specs.Predictors.{Uses, NodeCounted, usable_predictors};
+ghost use Rattle.flat.specs.Flat.{RowsFit, GroupsEmpty, CountsGroups, with_lowest, groups_bits};
 ghost use Rattle.flat.specs.Flat.{GroupsCounted, FlatFits};
+
+use cost::{Allowed, NodeCounts};
 
 // The flat group of a row: its property 0, held to 0 to 3.
 fn group_of(v: i32) -> usize
     ensures { result ≡ clamped v }
 {
-    if v < 0 {
-        return 0;
-    }
-    if 3 < v {
-        return 3;
-    }
-    v as usize
+    v.clamp(0, 3) as usize
 }
 
 // Counts the rows of each flat group, and their tokens under each predictor, in one pass over the rows.
@@ -38,6 +35,7 @@ fn count_groups(
     ensures { CountsGroups props.now tok.now rows alphabet
         hist.new sizes.new }
 {
+    // Stays: the row's number says where its tokens stand as well, which `count_row` reads.
     for row in 0..rows {
         let group = group_of(props[row * model::NUM_MA_PROPS]);
         cost::bump(sizes, group);
@@ -52,61 +50,42 @@ fn count_groups(
 }
 
 // The total with a group's lowest cost. An empty group is passed over.
-fn add_group(
-    hist: &[u32],
-    sizes: &[u32],
-    logs: &[f32],
-    total: f64,
-    group: usize,
-    alphabet: usize,
-    weighted: bool,
-    allowed: u32,
-) -> f64
-    requires groups_counted { GroupsCounted hist.now sizes.now alphabet weighted allowed logs.now }
-    requires group_bound { group < 4 }
-    ensures { result ≡ with_group_bits hist.now sizes.now alphabet weighted allowed
-        logs.now total group }
+fn add_group(group: NodeCounts, allowed: Allowed, logs: &[f32], total: f64) -> f64
+    requires counted { NodeCounted group.hist.now group.total group.alphabet logs.now }
+    requires some { is_empty (usable_predictors allowed.weighted allowed.preds) ≡ false }
+    ensures { result ≡ with_lowest group.entry.hist.now group.entry.total group.entry.alphabet
+        allowed.weighted allowed.preds logs.now total }
 {
-    let size = sizes[group];
-    if size == 0 {
+    if group.total == 0 {
         return total;
     }
     let mut costs = [0.0f32; model::NUM_MA_PREDS];
-    let width = model::NUM_MA_PREDS * alphabet;
-    let first = group * width;
-    let best = cost::predictor_costs(
-        &hist[first..first + width],
-        &mut costs,
-        logs,
-        size,
-        alphabet,
-        weighted,
-        allowed,
-    );
-    total + best.bits as f64
+    let best = cost::predictor_costs(group, allowed, &mut costs, logs);
+    total + f64::from(best.bits)
 }
 
 // The groups' lowest costs, added in double precision.
-fn groups_cost(
-    hist: &[u32],
-    sizes: &[u32],
-    logs: &[f32],
-    alphabet: usize,
-    weighted: bool,
-    allowed: u32,
-) -> f64
-    requires { GroupsCounted hist.now sizes.now alphabet weighted allowed logs.now }
-    ensures { result ≡ groups_bits hist.now sizes.now alphabet weighted allowed
+fn groups_cost(hist: &[u32], sizes: &[u32], alphabet: usize, allowed: Allowed, logs: &[f32]) -> f64
+    requires { GroupsCounted hist.now sizes.now alphabet allowed.weighted allowed.preds logs.now }
+    ensures { result ≡ groups_bits hist.now sizes.now alphabet allowed.weighted allowed.preds
         logs.now 4 }
 {
+    let width = model::NUM_MA_PREDS * alphabet;
     let mut total = 0.0f64;
-    for group in 0..4 {
-        total = add_group(hist, sizes, logs, total, group, alphabet, weighted, allowed);
+    for (group, size) in sizes.iter().enumerate() {
+        let first = group * width;
+        let counts = NodeCounts {
+            hist: &hist[first..first + width],
+            total: *size,
+            alphabet,
+        };
+        total = add_group(counts, allowed, logs, total);
     }
     total
 }
 
 // Flat bits: the rows grouped by property 0 held to 0 to 3, each group at its lowest cost. The counts are zero again.
+// Stays: rows, room, logarithms and what a leaf may use come from four places, and are met together only here.
 pub fn flat_cost(
     props: &[i32],
     tok: &[u8],
@@ -114,17 +93,18 @@ pub fn flat_cost(
     logs: &[f32],
     rows: usize,
     alphabet: usize,
-    weighted: bool,
-    allowed: u32,
+    allowed: Allowed,
 ) -> f64
-    requires { FlatFits props.now tok.now rows alphabet weighted allowed logs.now hist.old }
-    ensures answer { (t : Settings singles) (rs : List ℤ) → Uses t alphabet weighted allowed
+    requires { FlatFits props.now tok.now rows alphabet allowed.weighted allowed.preds logs.now
+        hist.old }
+    ensures answer { (t : Settings singles) (rs : List ℤ)
+        → Uses t alphabet allowed.weighted allowed.preds
         → result ≡ flat_bits t logs.now (rows_of rows props.now tok.now rs) }
     ensures zeros { hist.new ≡ replicate (56 * alphabet) 0 }
 {
     let mut sizes = [0u32; 4];
     count_groups(props, tok, hist, &mut sizes, rows, alphabet);
-    let total = groups_cost(hist, &sizes, logs, alphabet, weighted, allowed);
-    lists::clear_u32(hist);
+    let total = groups_cost(hist, &sizes, alphabet, allowed, logs);
+    hist.fill(0);
     total
 }

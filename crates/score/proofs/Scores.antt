@@ -5,12 +5,12 @@ use mathlib.Core.Bool.{Bool, not}
 use mathlib.Core.List.{List, [], ◌∷◌, ◌++◌}
 use Prim.Native.Nat.{ℕ, zero, suc, ◌+◌, ◌-◌, ◌*◌, ◌≤◌, ◌<◌}
 use native.Mathlib.Numerals.{add-one}
-use native.Mathlib.Decide.{dec_lt, ℕ_discrete}
+use native.Mathlib.Decide.{dec_lt}
 use native.Mathlib.Omega.{arith}
 use borrow.Author.Tests.{eq-eqb, ne_eqb}
 use lib.IntN.{ℤ, pos}
-use lib.ListN.{length, get_or, set, take, drop, length-take, length-drop, take-append-drop, get_or-eq_default}
-use lib.Seq.{ext_get_or, get_or-take, get_or-drop, get_or-set_same, get_or-set_other, take-suc}
+use lib.ListN.{length, get_or, take, drop, length-take, length-drop, take-append-drop, get_or-eq_default}
+use lib.Seq.{ext_get_or, get_or-take, get_or-drop, take-suc}
 use lib.Ieee.{Float, nan}
 use Rattle.model.specs.Lists.{keep}
 use Rattle.model.specs.Settings.{Settings, max_rows}
@@ -20,14 +20,13 @@ use Rattle.model.specs.Cost.{with_count, has_token, histogram, log_of, entropy_f
 use Rattle.model.specs.Score.{Score, nothing, threshold, lower, lowest_cost, side_cost, score_sides, score_from}
 use Rattle.model.proofs.Places.{get_d_any}
 use Rattle.cost.specs.Counted.{rows_in}
-use Rattle.cost.specs.Histograms.{part}
 use Rattle.cost.proofs.Sums.{entropy_zeros}
 use Rattle.cost.proofs.Histograms.{histogram-length, histogram-rows}
 use Rattle.score_sides.specs.declared.Sides.{Sides}
 use Rattle.score_sides.specs.Sides.{rest, costs_of, lower_cost, SideCounted}
 use Rattle.score_sides.specs.Lowest.{run, lane_at, lowest_to}
 use Rattle.score_sides.proofs.Sweeps.{rest-length, rest_at}
-use Rattle.score.specs.Scored.{scored_sides, size_at, scored_at, scored_to, Extras}
+use Rattle.score.specs.Scored.{scored_sides, size_at, scored_at, scored_to}
 use Rattle.score.proofs.Packing.{histogram-at}
 use Rattle.score.proofs.Counting.{count-sides, rows_in-parts, rows_in-none}
 
@@ -311,17 +310,3 @@ module _ (cells node : List ℕ) (alphabet : ℕ) (preds firsts offs : List ℕ)
       ∙ ap (λ (n : ℕ). scored_sides n total val (lowest (get_or logs n singles.nought) (get_or logs (total - n) singles.nought))) is
 
 -- ---- for the loop that sets the node's extra bits
-
-module _ (node : List ℕ) (alphabet : ℕ) (preds : List ℕ) where
-  pub extras-none : (extras : List ℕ) → Extras node alphabet preds extras 0
-  extras-none extras = record { each = λ j m. absurd (omega arith) }
-
-  pub extras-step : (extras : List ℕ) (j v : ℕ) → Extras node alphabet preds extras j → v ≡ extra_from 0 (part alphabet (get_or preds j 0) node) → j < length extras
-      → Extras node alphabet preds (set extras j v) (j + 1)
-  extras-step extras j v x e l =
-      record {
-        each = λ i m. elim (ℕ_discrete i j) [
-          | yes s ↦ rw s (get_or-set_same extras j v 0 l ∙ e)
-          | no s ↦ get_or-set_other extras j i v 0 s ∙ x.each i (omega arith)
-        ];
-      }

@@ -1,6 +1,6 @@
 -- The score of a property: what a caller owes, and how it follows from bins, of which number k counts the rows at most candidate k (document 01,
 -- "Scoring"; the Rust's `score_split_plan`). Assumes nothing.
-use Rattle.std.specs.Prelude.{◌≡◌, cond, List, ℕ, zero, suc, ◌+◌, ◌-◌, ◌*◌, ◌≤◌, ◌<◌, eqb, ℤ, pos, length, get_or, replicate, Float}
+use Rattle.std.specs.Prelude.{◌≡◌, cond, List, ℕ, zero, suc, ◌+◌, ◌-◌, ◌*◌, ◌≤◌, ◌<◌, eqb, ℤ, pos, length, get_or, replicate, Float, Option, None, Some}
 use Rattle.model.specs.Settings.{props_per_row, toks_per_row, max_rows}
 use Rattle.model.specs.Single.{singles}
 use Rattle.model.specs.Cost.{log_of, extra_from}
@@ -10,13 +10,12 @@ use Rattle.cost.specs.Histograms.{part, SpanFits, CountsSpan}
 use Rattle.score_bins.specs.Bins.{Ascends}
 use Rattle.score_sides.specs.declared.Sides.{Sides}
 use Rattle.score_sides.specs.Lowest.{run, lane_at, lowest_to, Ready}
-use Rattle.score.specs.declared.Score.{Score}
-use Rattle.score.specs.declared.Score.TheVariants.{Nothing, Threshold}
+use Rattle.score.specs.declared.Threshold.{Threshold}
 
 -- the answer as the model has it: nothing to offer, or a threshold with its cost in bits
-abbrev pub score_is : Score → model.Score singles
-score_is Nothing = model.nothing
-score_is (Threshold v c) = model.threshold v c
+abbrev pub score_is : Option Threshold → model.Score singles
+score_is None = model.nothing
+score_is (Some t) = model.threshold t.val t.bits
 
 -- ---- what `score_property` asks
 

@@ -12,24 +12,29 @@ ghost use Rattle.cost.specs.Histograms.{span_of};
 ghost use Rattle.score_windows.specs.Windows.{Windows};
 ghost use Rattle.score.specs.Scored.{score_is, scored_at, scored_to, ExtrasFit, Extras, Binned, Scorable, Spare};
 
-// Nothing to offer, or a threshold with its cost in bits.
+use cost::NodeCounts;
+use score_bins::SpanRows;
+use score_sides::SideCounts;
+use score_windows::SideWindows;
+
+// A threshold with its cost in bits.
 #[derive(Clone, Copy)]
-pub enum Score {
-    Nothing,
-    Threshold(i32, f32),
+pub struct Threshold {
+    pub val: i32,
+    pub bits: f32,
 }
 
 // The lower of two scores, the first at a tie.
-fn lower_score(best: Score, next: Score) -> Score
+fn lower_score(best: Option<Threshold>, next: Option<Threshold>) -> Option<Threshold>
     ensures { score_is result ≡ lower (score_is best) (score_is next) }
 {
-    let Score::Threshold(_, b) = best else {
+    let Some(b) = best else {
         return next;
     };
-    let Score::Threshold(_, c) = next else {
+    let Some(c) = next else {
         return best;
     };
-    if c < b { next } else { best }
+    if c.bits < b.bits { next } else { best }
 }
 
 // How many rows a window counts.
@@ -38,188 +43,163 @@ fn rows_in(counts: &[u32]) -> u32
     ensures { result ≡ rows_in counts.now }
 {
     let mut rows = 0;
-    for t in 0..counts.len() {
-        rows += counts[t];
+    for &count in counts {
+        rows += count;
     }
     rows
 }
 
-// The score of candidate k.
+// The score of candidate k, from its bin: bin k counts the rows at most candidate k, and a bin has `stride` cells.
 fn score_at(
     cells: &[u32],
-    node: &[u32],
-    preds: &[u32],
-    firsts: &[u32],
-    offs: &[u32],
-    extras: &[u32],
+    counts: SideCounts,
     cands: &[i32],
-    logs: &[f32],
     stride: usize,
-    total: u32,
-    alphabet: usize,
     k: usize,
-) -> Score
-    requires binned { Binned cells.now node.now alphabet preds.now firsts.now offs.now extras.now
-        stride total (length cands.now) logs.now }
+) -> Option<Threshold>
+    requires binned { Binned cells.now counts.node.hist.now counts.node.alphabet
+        counts.windows.preds.now counts.windows.firsts.now counts.windows.offs.now counts.extras.now
+        stride counts.node.total (length cands.now) counts.logs.now }
     requires k_in_bounds { k < length cands.now }
-    ensures { score_is result ≡ scored_at cells.now node.now alphabet preds.now
-        firsts.now offs.now stride total cands.now logs.now k }
+    ensures { score_is result ≡ scored_at cells.now counts.entry.node.hist.now counts.entry.node.alphabet
+        counts.entry.windows.preds.now counts.entry.windows.firsts.now counts.entry.windows.offs.now
+        stride counts.entry.node.total cands.now counts.entry.logs.now k }
 {
+    let total = counts.node.total;
     // every row has one token in the first window
     let base = k * stride;
-    let end = base + offs[1] as usize;
+    let end = base + counts.windows.offs[1] as usize;
     let size = rows_in(&cells[base..end]);
     if size == 0 {
-        return Score::Nothing;
+        return None;
     }
     if size == total {
-        return Score::Nothing;
+        return None;
     }
-    let log_le = logs[size as usize];
-    let log_gt = logs[(total - size) as usize];
-    let sides = score_sides::lowest_sides(
-        cells, node, preds, firsts, offs, extras, logs, alphabet, base, log_le, log_gt,
-    );
-    Score::Threshold(cands[k], sides.le + sides.gt)
+    let log_le = counts.logs[size as usize];
+    let log_gt = counts.logs[(total - size) as usize];
+    let sides = score_sides::lowest_sides(cells, counts, base, log_le, log_gt);
+    Some(Threshold {
+        val: cands[k],
+        bits: sides.le + sides.gt,
+    })
 }
 
 // The first of the lowest scores over the candidates, from the bins.
 fn score_split_plan(
     cells: &[u32],
-    node: &[u32],
-    preds: &[u32],
-    firsts: &[u32],
-    offs: &[u32],
-    extras: &[u32],
+    counts: SideCounts,
     cands: &[i32],
-    logs: &[f32],
     stride: usize,
-    total: u32,
-    alphabet: usize,
-) -> Score
-    requires { Binned cells.now node.now alphabet preds.now firsts.now offs.now extras.now
-        stride total (length cands.now) logs.now }
+) -> Option<Threshold>
+    requires { Binned cells.now counts.node.hist.now counts.node.alphabet
+        counts.windows.preds.now counts.windows.firsts.now counts.windows.offs.now counts.extras.now
+        stride counts.node.total (length cands.now) counts.logs.now }
     ensures { score_is result ≡ scored_to
-        (scored_at cells.now node.now alphabet preds.now firsts.now
-        offs.now stride total cands.now logs.now) (length cands.now) }
+        (scored_at cells.now counts.entry.node.hist.now counts.entry.node.alphabet
+        counts.entry.windows.preds.now counts.entry.windows.firsts.now counts.entry.windows.offs.now
+        stride counts.entry.node.total cands.now counts.entry.logs.now) (length cands.now) }
 {
-    let mut best = Score::Nothing;
+    let mut best = None;
+    // Stays: a candidate's number is its bin's too.
     for k in 0..cands.len() {
-        let next = score_at(
-            cells, node, preds, firsts, offs, extras, cands, logs, stride, total, alphabet, k,
-        );
-        best = lower_score(best, next);
+        best = lower_score(best, score_at(cells, counts, cands, stride, k));
     }
     best
 }
 
 // The extra bits of the node's rows under each side predictor.
-fn set_extras(node: &[u32], preds: &[u32], extras: &mut [u32], alphabet: usize)
-    requires { ExtrasFit node.now alphabet preds.now extras.old }
-    ensures { Extras node.now alphabet preds.now extras.new
+fn set_extras(node: NodeCounts, preds: &[u32], extras: &mut [u32])
+    requires { ExtrasFit node.hist.now node.alphabet preds.now extras.old }
+    ensures { Extras node.entry.hist.now node.entry.alphabet preds.now extras.new
         (length preds.now) }
 {
-    for j in 0..preds.len() {
-        let start = preds[j] as usize * alphabet;
-        let end = start + alphabet;
-        extras[j] = score_sides::window_extra(&node[start..end], 0);
+    for (j, &pred) in preds.iter().enumerate() {
+        let start = pred as usize * node.alphabet;
+        extras[j] = score_sides::window_extra(&node.hist[start..start + node.alphabet], 0);
     }
 }
 
 // The score of one property in room of just the bins' length, which is all zeros before and after.
+// Stays: span, windows, node and candidates are one value each; the room is cut to the bins' length for this call.
 fn score_in(
-    props: &[i32],
-    tok: &[u8],
-    cands: &[i32],
-    preds: &[u32],
-    firsts: &[u32],
-    offs: &[u32],
-    node: &[u32],
-    room: &mut [u32],
-    logs: &[f32],
-    first: usize,
-    end: usize,
+    span: SpanRows,
     prop: usize,
+    cands: &[i32],
+    windows: SideWindows,
+    node: NodeCounts,
+    logs: &[f32],
+    room: &mut [u32],
     stride: usize,
-    alphabet: usize,
-) -> Score
-    requires scorable { Scorable props.now tok.now first end prop cands.now preds.now alphabet node.now
-        logs.now }
-    requires windows { Windows node.now alphabet preds.now firsts.now offs.now }
-    requires stride_value { stride ≡ get_or offs.now (length preds.now) 0 }
+) -> Option<Threshold>
+    requires scorable { Scorable span.props.now span.tok.now span.first span.end prop cands.now
+        windows.preds.now node.alphabet node.hist.now logs.now }
+    requires total_value { node.total ≡ span.end - span.first }
+    requires packed { Windows node.hist.now node.alphabet
+        windows.preds.now windows.firsts.now windows.offs.now }
+    requires stride_value { stride ≡ get_or windows.offs.now (length windows.preds.now) 0 }
     requires room_value { room.old ≡ replicate ((length cands.now + 1) * stride) 0 }
-    ensures answer { (t : Settings singles) (rows : ℕ) (rs : List ℤ) → t.alphabet ≡ alphabet → end ≤ rows
-        → score_is result ≡ score_of t logs.now preds.now prop
-        (within (span_of first end) (rows_of rows props.now tok.now rs)) cands.now }
+    ensures answer { (t : Settings singles) (rows : ℕ) (rs : List ℤ)
+        → t.alphabet ≡ node.entry.alphabet → span.entry.end ≤ rows
+        → score_is result ≡ score_of t logs.now windows.entry.preds.now prop
+        (within (span_of span.entry.first span.entry.end)
+        (rows_of rows span.entry.props.now span.entry.tok.now rs)) cands.now }
     ensures zeros { room.new ≡ room.old }
 {
-    let rows = end - first;
-    score_bins::scan_split_plan(
-        props, tok, cands, preds, firsts, offs, room, first, rows, prop, stride,
-    );
+    score_bins::scan_split_plan(span, prop, cands, windows, room, stride);
     score_bins::accumulate(room, stride, cands.len() * stride);
     let mut extras = [0u32; model::NUM_MA_PREDS];
-    set_extras(node, preds, &mut extras, alphabet);
-    let score = score_split_plan(
-        room,
+    set_extras(node, windows.preds, &mut extras);
+    let counts = SideCounts {
         node,
-        preds,
-        firsts,
-        offs,
-        &extras,
-        cands,
+        windows,
+        extras: &extras,
         logs,
-        stride,
-        rows as u32,
-        alphabet,
-    );
-    lists::clear_u32(room);
+    };
+    let score = score_split_plan(room, counts, cands, stride);
+    room.fill(0);
     score
 }
 
 // The score of one property over the span's rows: the candidates ascend, `node` has the span's histograms, and the
-// windows are the side predictors'. The room is all zeros, before and after; only the bins' part of it is touched.
+// windows are the side predictors'; how many rows there are, the span tells. None: the property has nothing to offer.
+// The room is all zeros, before and after; only the bins' part of it is touched.
+// Stays: span, windows, node and candidates are one value each, and met together only here.
 pub fn score_property(
-    props: &[i32],
-    tok: &[u8],
-    cands: &[i32],
-    preds: &[u32],
-    firsts: &[u32],
-    offs: &[u32],
-    node: &[u32],
-    room: &mut [u32],
-    logs: &[f32],
-    first: usize,
-    end: usize,
+    span: SpanRows,
     prop: usize,
-    alphabet: usize,
-) -> Score
-    requires scorable { Scorable props.now tok.now first end prop cands.now preds.now alphabet node.now
-        logs.now }
-    requires windows { Windows node.now alphabet preds.now firsts.now offs.now }
-    requires spare { Spare (length preds.now) alphabet (length cands.now) room.old }
-    ensures answer { (t : Settings singles) (rows : ℕ) (rs : List ℤ) → t.alphabet ≡ alphabet → end ≤ rows
-        → score_is result ≡ score_of t logs.now preds.now prop
-        (within (span_of first end) (rows_of rows props.now tok.now rs)) cands.now }
+    cands: &[i32],
+    windows: SideWindows,
+    node: NodeCounts,
+    logs: &[f32],
+    room: &mut [u32],
+) -> Option<Threshold>
+    requires scorable { Scorable span.props.now span.tok.now span.first span.end prop cands.now
+        windows.preds.now node.alphabet node.hist.now logs.now }
+    requires packed { Windows node.hist.now node.alphabet
+        windows.preds.now windows.firsts.now windows.offs.now }
+    requires spare { Spare (length windows.preds.now) node.alphabet (length cands.now) room.old }
+    ensures answer { (t : Settings singles) (rows : ℕ) (rs : List ℤ)
+        → t.alphabet ≡ node.entry.alphabet → span.entry.end ≤ rows
+        → score_is result ≡ score_of t logs.now windows.entry.preds.now prop
+        (within (span_of span.entry.first span.entry.end)
+        (rows_of rows span.entry.props.now span.entry.tok.now rs)) cands.now }
     ensures zeros { room.new ≡ room.old }
 {
-    let last = preds.len();
-    let stride = offs[last] as usize;
+    let node = NodeCounts {
+        total: (span.end - span.first) as u32,
+        ..node
+    };
+    let stride = windows.offs[windows.preds.len()] as usize;
     let bins = (cands.len() + 1) * stride;
     score_in(
-        props,
-        tok,
-        cands,
-        preds,
-        firsts,
-        offs,
-        node,
-        &mut room[..bins],
-        logs,
-        first,
-        end,
+        span,
         prop,
+        cands,
+        windows,
+        node,
+        logs,
+        &mut room[..bins],
         stride,
-        alphabet,
     )
 }

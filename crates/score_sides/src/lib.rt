@@ -9,6 +9,9 @@ ghost use Rattle.cost.specs.Counted.{rows_in};
 ghost use Rattle.score_sides.specs.Sides.{entropies_of, costs_of, lower_cost, lower_sides, SideCounted};
 ghost use Rattle.score_sides.specs.Lowest.{lane_at, lowest_to, Ready};
 
+use cost::NodeCounts;
+use score_windows::SideWindows;
+
 // The costs of the two sides of a threshold: the rows at most it, and those above.
 #[derive(Clone, Copy)]
 pub struct Sides {
@@ -23,19 +26,11 @@ fn window_entropies(left: &[u32], node: &[u32], logs: &[f32], log_le: f32, log_g
 {
     let mut le = 0.0f32;
     let mut gt = 0.0f32;
-    for t in 0..left.len() {
-        let l = left[t];
+    for (t, &l) in left.iter().enumerate() {
         le = cost::add_count(le, l, log_le, logs);
         gt = cost::add_count(gt, node[t] - l, log_gt, logs);
     }
     Sides { le, gt }
-}
-
-// How many tokens from `first` on have no extra bits.
-fn plain_tokens(first: usize) -> usize
-    ensures { result ≡ 16 - first }
-{
-    if first < 16 { 16 - first } else { 0 }
 }
 
 // The extra bits of a window's counts, from token 16 on; the first count is of the token `first`.
@@ -44,13 +39,15 @@ pub fn window_extra(counts: &[u32], first: usize) -> u32
     ensures { result ≡ extra_from first counts.now }
 {
     let mut extra = 0u32;
-    for t in plain_tokens(first)..counts.len() {
+    // Stays: the tokens below 16 have no extra bits, and an iterator that skips them would have to end at their number.
+    for t in 16usize.saturating_sub(first)..counts.len() {
         extra += counts[t] * ((first + t) as u32 / 4 - 2);
     }
     extra
 }
 
 // Both sides' costs under one predictor: the entropies, then the extra bits, of which the node has `extra`.
+// Stays: both sides' sums and what they are to be are four lists of one pass, which is the hot loop.
 fn window_costs(
     left: &[u32],
     node: &[u32],
@@ -73,6 +70,7 @@ fn window_costs(
 }
 
 // The lower of two costs.
+// Stays: the library's `min` leaves open which of two zeros it gives.
 fn lower_cost(best: f32, next: f32) -> f32
     ensures { result ≡ lower_cost best next }
 {
@@ -89,40 +87,46 @@ fn lower_sides(best: Sides, next: Sides) -> Sides
     }
 }
 
+// What a node counts, with the windows of its side predictors, the extra bits under each of them, and the logarithms.
+#[derive(Clone, Copy)]
+pub struct SideCounts<'a> {
+    pub node: NodeCounts<'a>,
+    pub windows: SideWindows<'a>,
+    pub extras: &'a [u32],
+    pub logs: &'a [f32],
+}
+
 // Side predictor j against the best so far, in the bin that starts at `base`.
+// Stays: both sides' sums and what they are to be are four lists of one pass, which is the hot loop.
 fn try_predictor(
     cells: &[u32],
-    node: &[u32],
-    preds: &[u32],
-    firsts: &[u32],
-    offs: &[u32],
-    extras: &[u32],
-    logs: &[f32],
-    best: Sides,
-    alphabet: usize,
+    counts: SideCounts,
     base: usize,
     log_le: f32,
     log_gt: f32,
+    best: Sides,
     j: usize,
 ) -> Sides
-    requires ready { Ready cells.now node.now alphabet preds.now firsts.now offs.now extras.now
-        base logs.now }
-    requires j_in_bounds { j < length preds.now }
+    requires ready { Ready cells.now counts.node.hist.now counts.node.alphabet
+        counts.windows.preds.now counts.windows.firsts.now counts.windows.offs.now counts.extras.now
+        base counts.logs.now }
+    requires j_in_bounds { j < length counts.windows.preds.now }
     ensures { result ≡ lower_sides best
-        (lane_at cells.now node.now alphabet preds.now firsts.now
-        offs.now base log_le log_gt logs.now j) }
+        (lane_at cells.now counts.entry.node.hist.now counts.entry.node.alphabet
+        counts.entry.windows.preds.now counts.entry.windows.firsts.now counts.entry.windows.offs.now
+        base log_le log_gt counts.entry.logs.now j) }
 {
-    let first = firsts[j] as usize;
-    let from = preds[j] as usize * alphabet + first;
-    let start = base + offs[j] as usize;
-    let end = base + offs[j + 1] as usize;
+    let first = counts.windows.firsts[j] as usize;
+    let from = counts.windows.preds[j] as usize * counts.node.alphabet + first;
+    let start = base + counts.windows.offs[j] as usize;
+    let end = base + counts.windows.offs[j + 1] as usize;
     let till = from + (end - start);
     let costs = window_costs(
         &cells[start..end],
-        &node[from..till],
-        logs,
+        &counts.node.hist[from..till],
+        counts.logs,
         first,
-        extras[j],
+        counts.extras[j],
         log_le,
         log_gt,
     );
@@ -132,31 +136,26 @@ fn try_predictor(
 // Each side's lowest cost over the side predictors.
 pub fn lowest_sides(
     cells: &[u32],
-    node: &[u32],
-    preds: &[u32],
-    firsts: &[u32],
-    offs: &[u32],
-    extras: &[u32],
-    logs: &[f32],
-    alphabet: usize,
+    counts: SideCounts,
     base: usize,
     log_le: f32,
     log_gt: f32,
 ) -> Sides
-    requires { Ready cells.now node.now alphabet preds.now firsts.now offs.now extras.now
-        base logs.now }
+    requires { Ready cells.now counts.node.hist.now counts.node.alphabet
+        counts.windows.preds.now counts.windows.firsts.now counts.windows.offs.now counts.extras.now
+        base counts.logs.now }
     ensures { result ≡ lowest_to
-        (lane_at cells.now node.now alphabet preds.now firsts.now
-        offs.now base log_le log_gt logs.now) (length preds.now) }
+        (lane_at cells.now counts.entry.node.hist.now counts.entry.node.alphabet
+        counts.entry.windows.preds.now counts.entry.windows.firsts.now counts.entry.windows.offs.now
+        base log_le log_gt counts.entry.logs.now) (length counts.entry.windows.preds.now) }
 {
     let mut best = Sides {
-        le: ieee::infinity(),
-        gt: ieee::infinity(),
+        le: f32::INFINITY,
+        gt: f32::INFINITY,
     };
-    for j in 0..preds.len() {
-        best = try_predictor(
-            cells, node, preds, firsts, offs, extras, logs, best, alphabet, base, log_le, log_gt, j,
-        );
+    // Stays: a side predictor's number is its place in four lists.
+    for j in 0..counts.windows.preds.len() {
+        best = try_predictor(cells, counts, base, log_le, log_gt, best, j);
     }
     best
 }

@@ -6,10 +6,20 @@ ghost use Rattle.std.specs.Prelude.{◌≡◌, ◌+◌, ◌-◌, ◌*◌, ◌≤
 ghost use Rattle.score_windows.specs.Windows.{widened, window_of, Windowable, Windows};
 
 // The tokens from `first` up to `end`; none: 0 and 0.
+// Stays: an Option would ask of each use that it takes the width of no window to be 0.
 #[derive(Clone, Copy)]
 pub struct Window {
     pub first: usize,
     pub end: usize,
+}
+
+// The side predictors of a node with their windows, packed one after the other: the first token of each, and where it
+// starts; after the last start stands the length of a bin.
+#[derive(Clone, Copy)]
+pub struct SideWindows<'a> {
+    pub preds: &'a [u32],
+    pub firsts: &'a [u32],
+    pub offs: &'a [u32],
 }
 
 // A window with one token more, if it is counted.
@@ -20,16 +30,11 @@ fn widen(w: Window, token: usize, count: u32) -> Window
     if count == 0 {
         return w;
     }
+    let end = token + 1;
     if w.end == 0 {
-        return Window {
-            first: token,
-            end: token + 1,
-        };
+        return Window { first: token, end };
     }
-    Window {
-        first: w.first,
-        end: token + 1,
-    }
+    Window { end, ..w }
 }
 
 // The least window outside which every count is zero.
@@ -38,8 +43,8 @@ fn window_of(hist: &[u32]) -> Window
     ensures { result ≡ window_of hist.now (length hist.now) }
 {
     let mut w = Window { first: 0, end: 0 };
-    for t in 0..hist.len() {
-        w = widen(w, t, hist[t]);
+    for (t, &count) in hist.iter().enumerate() {
+        w = widen(w, t, count);
     }
     w
 }
@@ -58,10 +63,9 @@ pub fn set_windows(
         firsts.new offs.new }
 {
     offs[0] = 0;
-    for j in 0..preds.len() {
-        let start = preds[j] as usize * alphabet;
-        let end = start + alphabet;
-        let w = window_of(&node[start..end]);
+    for (j, &pred) in preds.iter().enumerate() {
+        let start = pred as usize * alphabet;
+        let w = window_of(&node[start..start + alphabet]);
         firsts[j] = w.first as u32;
         offs[j + 1] = offs[j] + (w.end - w.first) as u32;
     }

@@ -1,10 +1,7 @@
 -- `evaluate::twin_of` meets its contract. Assumes nothing.
 use native.Mathlib.Omega.{arith}
-use Rattle.evaluate.proofs.Orders.{twin-next, twin-two, twin-none, next_positive}
+use Rattle.evaluate.proofs.Orders.{twin-next, twin-two, twin-none}
 use Rattle.evaluate.proofs.twin_of.Goals as goal
-
-pub overflow_sub-result : goal.overflow_sub-result
-overflow_sub-result c = next_positive c.args.prop c.in-17.is
 
 pub returns-in-17 : goal.returns-in-17
 returns-in-17 c = twin-next c.args.prop c.in-17.is

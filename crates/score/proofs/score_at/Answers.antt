@@ -35,44 +35,17 @@ width at n = omega arith
 found : (cells offs : List ℕ) (at size : ℕ) → size ≡ rows_in (take (at + get_or offs 1 0 - at) (drop at cells)) → size ≡ size_at cells offs at
 found cells offs at size e = rw (width at (get_or offs 1 0)) at e
 
-pub overflow_mul-base : goal.overflow_mul-base
-overflow_mul-base c = omega (arith, here _ _ _ _ _ _ _ _ _ _ _ _ c.requires.binned c.requires.k_in_bounds)
-
-pub bounds-offs-1 : goal.bounds-offs-1
-bounds-offs-1 c = omega (arith, here _ _ _ _ _ _ _ _ _ _ _ _ c.requires.binned c.requires.k_in_bounds)
-
-pub overflow_cast-end : goal.overflow_cast-end
-overflow_cast-end c = omega (arith, here _ _ _ _ _ _ _ _ _ _ _ _ c.requires.binned c.requires.k_in_bounds)
-
-pub overflow_add-end : goal.overflow_add-end
-overflow_add-end c = omega (arith, here _ _ _ _ _ _ _ _ _ _ _ _ c.requires.binned c.requires.k_in_bounds)
-
-pub offset_bounds-cells-base : goal.offset_bounds-cells-base
-offset_bounds-cells-base c = omega (arith, here _ _ _ _ _ _ _ _ _ _ _ _ c.requires.binned c.requires.k_in_bounds)
-
-pub slice_bounds-rows_in-end : goal.slice_bounds-rows_in-end
-slice_bounds-rows_in-end c = omega (arith, here _ _ _ _ _ _ _ _ _ _ _ _ c.requires.binned c.requires.k_in_bounds)
-
-pub rows_in-size-requires : goal.rows_in-size-requires
-rows_in-size-requires c = rw (width (c.args.k * c.args.stride) (get_or c.args.offs.now 1 0)) (omega (arith, here _ _ _ _ _ _ _ _ _ _ _ _ c.requires.binned c.requires.k_in_bounds))
-
 pub returns-then-size-eq0 : goal.returns-then-size-eq0
-returns-then-size-eq0 c = at_no_le _ _ _ _ _ _ _ _ _ _ _ c.rows_in-size.result (found c.args.cells.now c.args.offs.now (c.args.k * c.args.stride) c.rows_in-size.result c.rows_in-size.ensures) c.if-size-eq0.true
+returns-then-size-eq0 c = at_no_le _ _ _ _ _ _ _ _ _ _ _ c.rows_in-size.result (found c.args.cells.now c.args.counts.windows.offs.now (c.args.k * c.args.stride) c.rows_in-size.result c.rows_in-size.ensures) c.if-size-eq0.true
 
 pub returns-then-size-total : goal.returns-then-size-total
-returns-then-size-total c = at_no_gt _ _ _ _ _ _ _ _ _ _ _ c.rows_in-size.result (found c.args.cells.now c.args.offs.now (c.args.k * c.args.stride) c.rows_in-size.result c.rows_in-size.ensures) c.if-size-eq0.false c.if-size-total.true
-
-pub bounds-logs-size : goal.bounds-logs-size
-bounds-logs-size c = omega (arith, here _ _ _ _ _ _ _ _ _ _ _ _ c.requires.binned c.requires.k_in_bounds, found c.args.cells.now c.args.offs.now (c.args.k * c.args.stride) c.rows_in-size.result c.rows_in-size.ensures)
-
-pub overflow_sub-log_gt : goal.overflow_sub-log_gt
-overflow_sub-log_gt c = omega (arith, here _ _ _ _ _ _ _ _ _ _ _ _ c.requires.binned c.requires.k_in_bounds, found c.args.cells.now c.args.offs.now (c.args.k * c.args.stride) c.rows_in-size.result c.rows_in-size.ensures)
+returns-then-size-total c = at_no_gt _ _ _ _ _ _ _ _ _ _ _ c.rows_in-size.result (found c.args.cells.now c.args.counts.windows.offs.now (c.args.k * c.args.stride) c.rows_in-size.result c.rows_in-size.ensures) c.if-size-eq0.false c.if-size-total.true
 
 pub lowest_sides-sides-requires : goal.lowest_sides-sides-requires
 lowest_sides-sides-requires c = c.requires.binned.ready c.args.k c.requires.k_in_bounds
 
 pub returns : goal.returns
-returns c = let h = here _ _ _ _ _ _ _ _ _ _ _ _ c.requires.binned c.requires.k_in_bounds in
-    let size = found c.args.cells.now c.args.offs.now (c.args.k * c.args.stride) c.rows_in-size.result c.rows_in-size.ensures in
+returns c = let h = here c.args.cells.now c.args.counts.node.hist.now c.args.counts.node.alphabet c.args.counts.windows.preds.now c.args.counts.windows.firsts.now c.args.counts.windows.offs.now c.args.counts.extras.now c.args.stride c.args.counts.node.total (length c.args.cands.now) c.args.counts.logs.now c.args.k c.requires.binned c.requires.k_in_bounds in
+    let size = found c.args.cells.now c.args.counts.windows.offs.now (c.args.k * c.args.stride) c.rows_in-size.result c.rows_in-size.ensures in
     rw (to_z-of_z w32 (get_or c.args.cands.now c.args.k (pos 0)) (search rules))
     (at_both _ _ _ _ _ _ _ _ _ _ _ c.rows_in-size.result size c.if-size-eq0.false c.if-size-total.false (omega (arith, h, size)) h.reach c.lowest_sides-sides.result c.lowest_sides-sides.ensures)

@@ -2,7 +2,7 @@
 use borrow.Author.Rules.{rules}
 use mathlib.Core.Path.{◌≡◌, refl, sym, ap, ◌∙◌}
 use mathlib.Core.List.{List}
-use Prim.Native.Nat.{ℕ, ◌≤◌, ◌<◌, ◌+◌, ◌*◌}
+use Prim.Native.Nat.{ℕ, ◌≤◌, ◌<◌, ◌-◌, ◌+◌, ◌*◌}
 use native.Mathlib.Omega.{arith}
 use mir.Syntax.{w32}
 use mir.Val.{of_z, to_z}
@@ -31,58 +31,49 @@ pub loop-k-init : goal.loop-k-init
 loop-k-init c = (omega arith, sym (rows_none _ _ _), refl)
 
 pub overflow_add-row : goal.overflow_add-row
-overflow_add-row c = omega (arith, c.requires.rows_there, c.requires.prop_lt_props_per_row, c.loop-k-test.true)
+overflow_add-row c = omega (arith, c.requires.rows_there.0, c.requires.rows_there.1, c.requires.prop_lt_props_per_row, c.loop-k-test.true)
 
 pub overflow_mul-row : goal.overflow_mul-row
-overflow_mul-row c = omega (arith, c.requires.rows_there, c.requires.prop_lt_props_per_row, c.loop-k-test.true)
+overflow_mul-row c = omega (arith, c.requires.rows_there.0, c.requires.rows_there.1, c.requires.prop_lt_props_per_row, c.loop-k-test.true)
 
 pub overflow_add-row-in-loop-k : goal.overflow_add-row-in-loop-k
-overflow_add-row-in-loop-k c = omega (arith, c.requires.rows_there, c.requires.prop_lt_props_per_row, c.loop-k-test.true)
+overflow_add-row-in-loop-k c = omega (arith, c.requires.rows_there.0, c.requires.rows_there.1, c.requires.prop_lt_props_per_row, c.loop-k-test.true)
 
-pub offset_bounds-props-row : goal.offset_bounds-props-row
-offset_bounds-props-row c = omega (arith, c.requires.rows_there, c.requires.prop_lt_props_per_row, c.loop-k-test.true)
+pub offset_bounds-span-row : goal.offset_bounds-span-row
+offset_bounds-span-row c = omega (arith, c.requires.rows_there.0, c.requires.rows_there.1, c.requires.prop_lt_props_per_row, c.loop-k-test.true)
 
-pub bounds-props-row : goal.bounds-props-row
-bounds-props-row c = omega (arith, c.requires.rows_there, c.requires.prop_lt_props_per_row, c.loop-k-test.true)
+pub bounds-span-row : goal.bounds-span-row
+bounds-span-row c = omega (arith, c.requires.rows_there.0, c.requires.rows_there.1, c.requires.prop_lt_props_per_row, c.loop-k-test.true)
 
 pub bin_for-bin-requires : goal.bin_for-bin-requires
 bin_for-bin-requires c = c.requires.prop_lt_props_per_row.1
 
 pub overflow_cast-bin : goal.overflow_cast-bin
-overflow_cast-bin c = omega (arith, found c.args.cands.now c.args.props.now c.args.prop (c.args.first + c.loop-k.k) _ (search rules) c.bin_for-bin.ensures, bin-le c.args.cands.now c.args.props.now c.args.prop (c.args.first + c.loop-k.k), c.requires.prop_lt_props_per_row.1)
+overflow_cast-bin c = omega (arith, found c.args.cands.now c.args.span.props.now c.args.prop (c.args.span.first + c.loop-k.k) _ (search rules) c.bin_for-bin.ensures, bin-le c.args.cands.now c.args.span.props.now c.args.prop (c.args.span.first + c.loop-k.k), c.requires.prop_lt_props_per_row.1)
 
 pub overflow_mul-bin : goal.overflow_mul-bin
 overflow_mul-bin c = let k = c.loop-k.k in
-    omega (arith, part_end c.bin_for-bin.result (length c.args.cands.now + 1) c.args.stride (omega (arith, found c.args.cands.now c.args.props.now c.args.prop (c.args.first + c.loop-k.k) _ (search rules) c.bin_for-bin.ensures, bin-le c.args.cands.now c.args.props.now c.args.prop (c.args.first + k))), c.requires.prop_lt_props_per_row.2)
+    omega (arith, part_end c.bin_for-bin.result (length c.args.cands.now + 1) c.args.stride (omega (arith, found c.args.cands.now c.args.span.props.now c.args.prop (c.args.span.first + c.loop-k.k) _ (search rules) c.bin_for-bin.ensures, bin-le c.args.cands.now c.args.span.props.now c.args.prop (c.args.span.first + k))), c.requires.prop_lt_props_per_row.2)
 
 pub scan_row-requires : goal.scan_row-requires
 scan_row-requires c = let p = c.requires in
     let w = p.lanes in
     let a = c.args in
-    let taken : c.loop-k.k < a.rows = c.loop-k-test.true in
-    let room = bin-room a.props.now a.tok.now a.first a.rows a.prop a.cands.now a.preds.now a.firsts.now a.offs.now a.stride w in
-    let inside = in_lanes a.props.now a.tok.now a.first a.rows a.prop a.cands.now a.preds.now a.firsts.now a.offs.now a.stride w c.loop-k.k (length c.loop-k.cells) taken p.rows_there
+    let taken : c.loop-k.k < (a.span.end - a.span.first) = c.loop-k-test.true in
+    let room = bin-room a.span.props.now a.span.tok.now a.span.first (a.span.end - a.span.first) a.prop a.cands.now a.windows.preds.now a.windows.firsts.now a.windows.offs.now a.stride w in
+    let inside = in_lanes a.span.props.now a.span.tok.now a.span.first (a.span.end - a.span.first) a.prop a.cands.now a.windows.preds.now a.windows.firsts.now a.windows.offs.now a.stride w c.loop-k.k (length c.loop-k.cells) taken p.rows_there.1
     (omega (arith, c.loop-k.invariant.2, p.prop_lt_props_per_row.2)) in
-    let low = rows-turn (bin_cell c.args.props.now c.args.tok.now c.args.first c.args.prop c.args.cands.now c.args.preds.now c.args.firsts.now c.args.offs.now c.args.stride) (length a.preds.now) c.loop-k.k a.rows a.cells.now c.loop-k.cells (λ k j l m. omega (arith, room k j l m, p.prop_lt_props_per_row.2)) p.low w.few p.rows_there.few taken
+    let low = rows-turn (bin_cell c.args.span.props.now c.args.span.tok.now c.args.span.first c.args.prop c.args.cands.now c.args.windows.preds.now c.args.windows.firsts.now c.args.windows.offs.now c.args.stride) (length a.windows.preds.now) c.loop-k.k (a.span.end - a.span.first) a.cells.now c.loop-k.cells (λ k j l m. omega (arith, room k j l m, p.prop_lt_props_per_row.2)) p.low w.few p.rows_there.1.few taken
     c.loop-k.invariant.1 in
-    record { in_lanes = rw (found c.args.cands.now c.args.props.now c.args.prop (c.args.first + c.loop-k.k) _ (search rules) c.bin_for-bin.ensures) inside; low = low }
-
-pub overflow_step-k : goal.overflow_step-k
-overflow_step-k c = omega (arith, c.requires.rows_there, c.requires.prop_lt_props_per_row, c.loop-k-test.true)
-
-pub loop-k-smaller : goal.loop-k-smaller
-loop-k-smaller c = omega (arith, c.requires.rows_there, c.requires.prop_lt_props_per_row, c.loop-k-test.true)
+    record { in_lanes = rw (found c.args.cands.now c.args.span.props.now c.args.prop (c.args.span.first + c.loop-k.k) _ (search rules) c.bin_for-bin.ensures) inside; low = low }
 
 pub loop-k-preserved : goal.loop-k-preserved
-loop-k-preserved c = let cells = rw (found c.args.cands.now c.args.props.now c.args.prop (c.args.first + c.loop-k.k) _ (search rules) c.bin_for-bin.ensures) at c.scan_row.ensures in (
+loop-k-preserved c = let cells = rw (found c.args.cands.now c.args.span.props.now c.args.prop (c.args.span.first + c.loop-k.k) _ (search rules) c.bin_for-bin.ensures) at c.scan_row.ensures in (
   omega (arith, c.loop-k-test.true),
-  cells ∙ ap (tallied (bin_cell c.args.props.now c.args.tok.now c.args.first c.args.prop c.args.cands.now c.args.preds.now c.args.firsts.now c.args.offs.now c.args.stride c.loop-k.k) (length c.args.preds.now)) c.loop-k.invariant.1 ∙ sym (rows_more (bin_cell c.args.props.now c.args.tok.now c.args.first c.args.prop c.args.cands.now c.args.preds.now c.args.firsts.now c.args.offs.now c.args.stride) (length c.args.preds.now) c.loop-k.k c.args.cells.now),
+  cells ∙ ap (tallied (bin_cell c.args.span.props.now c.args.span.tok.now c.args.span.first c.args.prop c.args.cands.now c.args.windows.preds.now c.args.windows.firsts.now c.args.windows.offs.now c.args.stride c.loop-k.k) (length c.args.windows.preds.now)) c.loop-k.invariant.1 ∙ sym (rows_more (bin_cell c.args.span.props.now c.args.span.tok.now c.args.span.first c.args.prop c.args.cands.now c.args.windows.preds.now c.args.windows.firsts.now c.args.windows.offs.now c.args.stride) (length c.args.windows.preds.now) c.loop-k.k c.args.cells.now),
   c.scan_row.auto.cells ∙ c.loop-k.invariant.2,
 )
 
-pub shape_of-cells : goal.shape_of-cells
-shape_of-cells c = c.loop-k.invariant.2
-
 pub returns : goal.returns
-returns c = let all : c.loop-k.k ≡ c.args.rows = omega (arith, c.loop-k.invariant.0, c.loop-k-test.false) in
+returns c = let all : c.loop-k.k ≡ (c.args.span.end - c.args.span.first) = omega (arith, c.loop-k.invariant.0, c.loop-k-test.false) in
     rw all at c.loop-k.invariant.1

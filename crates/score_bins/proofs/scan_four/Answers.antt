@@ -2,7 +2,7 @@
 use borrow.Author.Rules.{rules}
 use mathlib.Core.Path.{◌≡◌, refl, sym, ap, ◌∙◌}
 use mathlib.Core.List.{List}
-use Prim.Native.Nat.{ℕ, suc, ◌≤◌, ◌<◌, ◌+◌, ◌*◌}
+use Prim.Native.Nat.{ℕ, suc, ◌≤◌, ◌<◌, ◌-◌, ◌+◌, ◌*◌}
 use native.Mathlib.Omega.{arith}
 use mir.Syntax.{w32}
 use mir.Val.{of_z, to_z}
@@ -113,65 +113,56 @@ pub loop-k-init : goal.loop-k-init
 loop-k-init c = (omega arith, sym (rows_none _ _ _), refl)
 
 pub overflow_add-row : goal.overflow_add-row
-overflow_add-row c = omega (arith, c.requires.rows_there, c.requires.prop_lt_props_per_row, c.loop-k-test.true)
+overflow_add-row c = omega (arith, c.requires.rows_there.0, c.requires.rows_there.1, c.requires.prop_lt_props_per_row, c.loop-k-test.true)
 
 pub overflow_mul-row : goal.overflow_mul-row
-overflow_mul-row c = omega (arith, c.requires.rows_there, c.requires.prop_lt_props_per_row, c.loop-k-test.true)
+overflow_mul-row c = omega (arith, c.requires.rows_there.0, c.requires.rows_there.1, c.requires.prop_lt_props_per_row, c.loop-k-test.true)
 
 pub overflow_add-row-in-loop-k : goal.overflow_add-row-in-loop-k
-overflow_add-row-in-loop-k c = omega (arith, c.requires.rows_there, c.requires.prop_lt_props_per_row, c.loop-k-test.true)
+overflow_add-row-in-loop-k c = omega (arith, c.requires.rows_there.0, c.requires.rows_there.1, c.requires.prop_lt_props_per_row, c.loop-k-test.true)
 
-pub offset_bounds-props-row : goal.offset_bounds-props-row
-offset_bounds-props-row c = omega (arith, c.requires.rows_there, c.requires.prop_lt_props_per_row, c.loop-k-test.true)
+pub offset_bounds-span-row : goal.offset_bounds-span-row
+offset_bounds-span-row c = omega (arith, c.requires.rows_there.0, c.requires.rows_there.1, c.requires.prop_lt_props_per_row, c.loop-k-test.true)
 
-pub bounds-props-row : goal.bounds-props-row
-bounds-props-row c = omega (arith, c.requires.rows_there, c.requires.prop_lt_props_per_row, c.loop-k-test.true)
+pub bounds-span-row : goal.bounds-span-row
+bounds-span-row c = omega (arith, c.requires.rows_there.0, c.requires.rows_there.1, c.requires.prop_lt_props_per_row, c.loop-k-test.true)
 
 pub bin_for-bin-requires : goal.bin_for-bin-requires
 bin_for-bin-requires c = c.requires.prop_lt_props_per_row.1
 
 pub overflow_cast-bin : goal.overflow_cast-bin
-overflow_cast-bin c = omega (arith, found c.args.cands.now c.args.props.now c.args.prop (c.args.first + c.loop-k.k) _ (search rules) c.bin_for-bin.ensures, bin-le c.args.cands.now c.args.props.now c.args.prop (c.args.first + c.loop-k.k), c.requires.prop_lt_props_per_row.1)
+overflow_cast-bin c = omega (arith, found c.args.cands.now c.args.span.props.now c.args.prop (c.args.span.first + c.loop-k.k) _ (search rules) c.bin_for-bin.ensures, bin-le c.args.cands.now c.args.span.props.now c.args.prop (c.args.span.first + c.loop-k.k), c.requires.prop_lt_props_per_row.1)
 
 pub overflow_mul-base : goal.overflow_mul-base
-overflow_mul-base c = omega (arith, part_end c.bin_for-bin.result (length c.args.cands.now + 1) c.args.stride (omega (arith, found c.args.cands.now c.args.props.now c.args.prop (c.args.first + c.loop-k.k) _ (search rules) c.bin_for-bin.ensures, bin-le c.args.cands.now c.args.props.now c.args.prop (c.args.first + c.loop-k.k))), c.requires.prop_lt_props_per_row.2)
+overflow_mul-base c = omega (arith, part_end c.bin_for-bin.result (length c.args.cands.now + 1) c.args.stride (omega (arith, found c.args.cands.now c.args.span.props.now c.args.prop (c.args.span.first + c.loop-k.k) _ (search rules) c.bin_for-bin.ensures, bin-le c.args.cands.now c.args.span.props.now c.args.prop (c.args.span.first + c.loop-k.k))), c.requires.prop_lt_props_per_row.2)
 
 pub count_token-requires : goal.count_token-requires
-count_token-requires c = fits-a _ _ _ _ _ _ _ _ _ _ _ _ _ _ c.requires.rows_there c.requires.prop_lt_props_per_row.2 c.requires.lanes c.requires.low c.requires.preds_len
-    c.loop-k-test.true c.loop-k.invariant.1 c.loop-k.invariant.2 (found c.args.cands.now c.args.props.now c.args.prop (c.args.first + c.loop-k.k) _ (search rules) c.bin_for-bin.ensures)
+count_token-requires c = fits-a _ _ _ _ _ _ _ _ _ _ _ _ _ _ c.requires.rows_there.1 c.requires.prop_lt_props_per_row.2 c.requires.lanes c.requires.low c.requires.preds_len
+    c.loop-k-test.true c.loop-k.invariant.1 c.loop-k.invariant.2 (found c.args.cands.now c.args.span.props.now c.args.prop (c.args.span.first + c.loop-k.k) _ (search rules) c.bin_for-bin.ensures)
     _ c.lane_at-a.ensures
 
 pub count_token-requires-in-loop-k : goal.count_token-requires-in-loop-k
-count_token-requires-in-loop-k c = fits-b _ _ _ _ _ _ _ _ _ _ _ _ _ _ c.requires.rows_there c.requires.prop_lt_props_per_row.2 c.requires.lanes c.requires.low c.requires.preds_len
-    c.loop-k-test.true c.loop-k.invariant.1 c.loop-k.invariant.2 (found c.args.cands.now c.args.props.now c.args.prop (c.args.first + c.loop-k.k) _ (search rules) c.bin_for-bin.ensures)
+count_token-requires-in-loop-k c = fits-b _ _ _ _ _ _ _ _ _ _ _ _ _ _ c.requires.rows_there.1 c.requires.prop_lt_props_per_row.2 c.requires.lanes c.requires.low c.requires.preds_len
+    c.loop-k-test.true c.loop-k.invariant.1 c.loop-k.invariant.2 (found c.args.cands.now c.args.span.props.now c.args.prop (c.args.span.first + c.loop-k.k) _ (search rules) c.bin_for-bin.ensures)
     _ c.lane_at-a.ensures _ c.lane_at-b.ensures _ c.count_token.ensures
 
 pub count_token-requires-in-loop-k-2 : goal.count_token-requires-in-loop-k-2
-count_token-requires-in-loop-k-2 c = fits-c _ _ _ _ _ _ _ _ _ _ _ _ _ _ c.requires.rows_there c.requires.prop_lt_props_per_row.2 c.requires.lanes c.requires.low c.requires.preds_len
-    c.loop-k-test.true c.loop-k.invariant.1 c.loop-k.invariant.2 (found c.args.cands.now c.args.props.now c.args.prop (c.args.first + c.loop-k.k) _ (search rules) c.bin_for-bin.ensures)
+count_token-requires-in-loop-k-2 c = fits-c _ _ _ _ _ _ _ _ _ _ _ _ _ _ c.requires.rows_there.1 c.requires.prop_lt_props_per_row.2 c.requires.lanes c.requires.low c.requires.preds_len
+    c.loop-k-test.true c.loop-k.invariant.1 c.loop-k.invariant.2 (found c.args.cands.now c.args.span.props.now c.args.prop (c.args.span.first + c.loop-k.k) _ (search rules) c.bin_for-bin.ensures)
     _ c.lane_at-a.ensures _ c.lane_at-b.ensures _ c.count_token.ensures _ c.lane_at-c.ensures _ c.count_token-in-loop-k.ensures
 
 pub count_token-requires-in-loop-k-3 : goal.count_token-requires-in-loop-k-3
-count_token-requires-in-loop-k-3 c = fits-d _ _ _ _ _ _ _ _ _ _ _ _ _ _ c.requires.rows_there c.requires.prop_lt_props_per_row.2 c.requires.lanes c.requires.low c.requires.preds_len
-    c.loop-k-test.true c.loop-k.invariant.1 c.loop-k.invariant.2 (found c.args.cands.now c.args.props.now c.args.prop (c.args.first + c.loop-k.k) _ (search rules) c.bin_for-bin.ensures)
+count_token-requires-in-loop-k-3 c = fits-d _ _ _ _ _ _ _ _ _ _ _ _ _ _ c.requires.rows_there.1 c.requires.prop_lt_props_per_row.2 c.requires.lanes c.requires.low c.requires.preds_len
+    c.loop-k-test.true c.loop-k.invariant.1 c.loop-k.invariant.2 (found c.args.cands.now c.args.span.props.now c.args.prop (c.args.span.first + c.loop-k.k) _ (search rules) c.bin_for-bin.ensures)
     _ c.lane_at-a.ensures _ c.lane_at-b.ensures _ c.count_token.ensures _ c.lane_at-c.ensures _ c.count_token-in-loop-k.ensures _ c.lane_at-d.ensures _ c.count_token-in-loop-k-2.ensures
-
-pub overflow_step-k : goal.overflow_step-k
-overflow_step-k c = omega (arith, c.requires.rows_there, c.requires.prop_lt_props_per_row, c.loop-k-test.true)
-
-pub loop-k-smaller : goal.loop-k-smaller
-loop-k-smaller c = omega (arith, c.requires.rows_there, c.requires.prop_lt_props_per_row, c.loop-k-test.true)
 
 pub loop-k-preserved : goal.loop-k-preserved
 loop-k-preserved c =
-    let next = all_four _ _ _ _ _ _ _ _ _ _ _ _ _ _ c.requires.rows_there c.requires.prop_lt_props_per_row.2 c.requires.lanes c.requires.low c.requires.preds_len
-    c.loop-k-test.true c.loop-k.invariant.1 c.loop-k.invariant.2 (found c.args.cands.now c.args.props.now c.args.prop (c.args.first + c.loop-k.k) _ (search rules) c.bin_for-bin.ensures)
+    let next = all_four _ _ _ _ _ _ _ _ _ _ _ _ _ _ c.requires.rows_there.1 c.requires.prop_lt_props_per_row.2 c.requires.lanes c.requires.low c.requires.preds_len
+    c.loop-k-test.true c.loop-k.invariant.1 c.loop-k.invariant.2 (found c.args.cands.now c.args.span.props.now c.args.prop (c.args.span.first + c.loop-k.k) _ (search rules) c.bin_for-bin.ensures)
     _ c.lane_at-a.ensures _ c.lane_at-b.ensures _ c.count_token.ensures _ c.lane_at-c.ensures _ c.count_token-in-loop-k.ensures _ c.lane_at-d.ensures _ c.count_token-in-loop-k-2.ensures _ c.count_token-in-loop-k-3.ensures in
-    (omega (arith, c.loop-k-test.true), next, ap length next ∙ rows-length (bin_cell c.args.props.now c.args.tok.now c.args.first c.args.prop c.args.cands.now c.args.preds.now c.args.firsts.now c.args.offs.now c.args.stride) (length c.args.preds.now) (c.loop-k.k + 1) c.args.cells.now)
-
-pub shape_of-cells : goal.shape_of-cells
-shape_of-cells c = c.loop-k.invariant.2
+    (omega (arith, c.loop-k-test.true), next, ap length next ∙ rows-length (bin_cell c.args.span.props.now c.args.span.tok.now c.args.span.first c.args.prop c.args.cands.now c.args.windows.preds.now c.args.windows.firsts.now c.args.windows.offs.now c.args.stride) (length c.args.windows.preds.now) (c.loop-k.k + 1) c.args.cells.now)
 
 pub returns : goal.returns
-returns c = let all : c.loop-k.k ≡ c.args.rows = omega (arith, c.loop-k.invariant.0, c.loop-k-test.false) in
+returns c = let all : c.loop-k.k ≡ (c.args.span.end - c.args.span.first) = omega (arith, c.loop-k.invariant.0, c.loop-k-test.false) in
     rw all at c.loop-k.invariant.1

@@ -5,35 +5,14 @@ use Rattle.score_sides.proofs.Sweeps.{extra-turn, extra-end, extra-start}
 use Rattle.score_sides.proofs.window_extra.Goals as goal
 
 pub loop-t-init : goal.loop-t-init
-loop-t-init c = let is = c.plain_tokens-t.ensures in
+loop-t-init c = let is = c.saturating_sub-t.ensures in
     (refl, omega arith, rw is (omega (arith, extra-start c.args.first c.args.counts.now)))
-
-pub offset_bounds-counts-t : goal.offset_bounds-counts-t
-offset_bounds-counts-t c = omega (arith, extra-turn c.args.counts.now c.args.first c.loop-t.t c.loop-t.extra _ c.requires.0 c.requires.1 c.loop-t.invariant.1 c.loop-t-test.true refl c.loop-t.invariant.2)
-
-pub bounds-counts-t : goal.bounds-counts-t
-bounds-counts-t c = omega (arith, extra-turn c.args.counts.now c.args.first c.loop-t.t c.loop-t.extra _ c.requires.0 c.requires.1 c.loop-t.invariant.1 c.loop-t-test.true refl c.loop-t.invariant.2)
-
-pub overflow_add-extra : goal.overflow_add-extra
-overflow_add-extra c = omega (arith, extra-turn c.args.counts.now c.args.first c.loop-t.t c.loop-t.extra _ c.requires.0 c.requires.1 c.loop-t.invariant.1 c.loop-t-test.true refl c.loop-t.invariant.2)
-
-pub overflow_cast-extra : goal.overflow_cast-extra
-overflow_cast-extra c = omega (arith, extra-turn c.args.counts.now c.args.first c.loop-t.t c.loop-t.extra _ c.requires.0 c.requires.1 c.loop-t.invariant.1 c.loop-t-test.true refl c.loop-t.invariant.2)
-
-pub overflow_sub-extra : goal.overflow_sub-extra
-overflow_sub-extra c = omega (arith, extra-turn c.args.counts.now c.args.first c.loop-t.t c.loop-t.extra _ c.requires.0 c.requires.1 c.loop-t.invariant.1 c.loop-t-test.true refl c.loop-t.invariant.2)
 
 pub overflow_mul-extra : goal.overflow_mul-extra
 overflow_mul-extra c = omega (arith, extra-turn c.args.counts.now c.args.first c.loop-t.t c.loop-t.extra _ c.requires.0 c.requires.1 c.loop-t.invariant.1 c.loop-t-test.true refl c.loop-t.invariant.2)
 
 pub overflow_add-extra-in-loop-t : goal.overflow_add-extra-in-loop-t
 overflow_add-extra-in-loop-t c = omega (arith, extra-turn c.args.counts.now c.args.first c.loop-t.t c.loop-t.extra _ c.requires.0 c.requires.1 c.loop-t.invariant.1 c.loop-t-test.true refl c.loop-t.invariant.2)
-
-pub overflow_step-t : goal.overflow_step-t
-overflow_step-t c = omega (arith, extra-turn c.args.counts.now c.args.first c.loop-t.t c.loop-t.extra _ c.requires.0 c.requires.1 c.loop-t.invariant.1 c.loop-t-test.true refl c.loop-t.invariant.2)
-
-pub loop-t-smaller : goal.loop-t-smaller
-loop-t-smaller c = omega (arith, extra-turn c.args.counts.now c.args.first c.loop-t.t c.loop-t.extra _ c.requires.0 c.requires.1 c.loop-t.invariant.1 c.loop-t-test.true refl c.loop-t.invariant.2)
 
 pub loop-t-preserved : goal.loop-t-preserved
 loop-t-preserved c = (refl, omega (arith, c.loop-t.invariant.1), (extra-turn c.args.counts.now c.args.first c.loop-t.t c.loop-t.extra _ c.requires.0 c.requires.1 c.loop-t.invariant.1 c.loop-t-test.true refl c.loop-t.invariant.2).whole)
