@@ -27,7 +27,7 @@ use Rattle.model.proofs.Bounded.{held, cost-within}
 use Rattle.model.proofs.SingleLawful.{single-lawful}
 use Rattle.cost.proofs.Bounded.{log_within}
 use Rattle.refuse.specs.Given.{settings_of}
-use Rattle.refuse.specs.declared.Settings.{Settings}
+use Rattle.refuse.specs.declared.Job.{Job}
 use Rattle.rows.specs.Flat.{Flat, row_count}
 use Rattle.lent.specs.Fitting.{Fitting}
 use Rattle.lent.specs.Grows.{Number}
@@ -83,18 +83,21 @@ all_from test z (x ∷ xs) each = both (test x) (all test xs) (each 0 (omega ari
     both true b p q = q
     both false b p q = absurd p
 
-module _ {s : Settings} {logs : List Float} {counts : List ℕ} {x : Flat} (f : Fitting s logs counts x) where
+module _ {job : Job} {counts : List ℕ} {x : Flat} (f : Fitting job counts x) where
+  abbrev logs : List Float
+  logs = job.logs.now
+
   logs_in : LogsWithin (row_count x) logs
   logs_in = log_within (row_count x) logs f.logs_reach
 
-  pub evaluated_within : (mode : ℤ) (rows : List Row) → length rows ≤ row_count x → Within (257 * 2 ^ 22) (info_of (settings_of s) logs mode rows).cost
+  pub evaluated_within : (mode : ℤ) (rows : List Row) → length rows ≤ row_count x → Within (257 * 2 ^ 22) (info_of (settings_of job.settings) logs mode rows).cost
   unfolding info_of
   evaluated_within mode rows h =
-      cost-within (settings_of s) logs rows (best_predictor (settings_of s) logs rows) f.settings.alphabet.1 (omega (arith, f.few)) (λ c p q. logs_in c p (omega arith))
+      cost-within (settings_of job.settings) logs rows (best_predictor (settings_of job.settings) logs rows) f.settings.alphabet.1 (omega (arith, f.few)) (λ c p q. logs_in c p (omega arith))
 
   -- of what stands beside a node, as `root-sized` and `seed-sized` want it
-  pub evaluated_number : (mode : ℤ) (rows : List Row) → length rows ≤ row_count x → Number (info_of (settings_of s) logs mode rows).cost
-  evaluated_number mode rows h = within_not_nan (info_of (settings_of s) logs mode rows).cost (257 * 2 ^ 22) (evaluated_within mode rows h)
+  pub evaluated_number : (mode : ℤ) (rows : List Row) → length rows ≤ row_count x → Number (info_of (settings_of job.settings) logs mode rows).cost
+  evaluated_number mode rows h = within_not_nan (info_of (settings_of job.settings) logs mode rows).cost (257 * 2 ^ 22) (evaluated_within mode rows h)
 
   logs_fit_lem : T (single.logs_fit (take (row_count x) (drop 1 logs)))
   logs_fit_lem = all_from (is_between (fin false 0 (pos 0)) (fin false 1 (pos 5))) singles.nought (take (row_count x) (drop 1 logs)) each
@@ -109,8 +112,8 @@ module _ {s : Settings} {logs : List Float} {counts : List ℕ} {x : Flat} (f : 
           rw read (f.logs_reach.fit (suc i) (omega arith) few)
 
   -- as `root-healthy`, `seed-healthy` and `steps-healthy` want it
-  pub job-fits : (uses : Bool) → JobFits SingleSmall (job_of single (settings_of s) logs uses) (row_count x)
-  job-fits uses = single-lawful.fits (settings_of s) logs uses (row_count x) f.settings.price f.settings.alphabet.1 f.few f.logs_reach.long logs_fit_lem
+  pub job-fits : (uses : Bool) → JobFits SingleSmall (job_of single (settings_of job.settings) logs uses) (row_count x)
+  job-fits uses = single-lawful.fits (settings_of job.settings) logs uses (row_count x) f.settings.price f.settings.alphabet.1 f.few f.logs_reach.long logs_fit_lem
 
 -- ---- what is offered
 pub offered-shallow : {M : Meter} (t : model.Settings M) (logs : List M.Cost) (depth : ℕ) (cost : M.Cost) (rows : List Row) (o : Offer M)

@@ -1,24 +1,29 @@
--- The answer of learning and of deepening in document 01's numbers and values. Assumes nothing.
-use Rattle.std.specs.Prelude.{◌+◌, ◌/◌, ◌≤◌, ◌≡◌, length}
+-- The learner's answer in the numbers and values of document 01 ("Which number comes back"). Assumes nothing.
+use Rattle.std.specs.Prelude.{◌+◌, ◌/◌, ◌≤◌, ◌≡◌, length, Result as Fallible, Ok, Err}
 use Rattle.model.specs.Settings.{max_nodes}
 use Rattle.model.specs.Single.{singles}
 use Rattle.model.specs.Learn.{Result}
 use Rattle.model.specs.Operations.{Outcome, refused, accepted, After, Tree}
+use Rattle.model.specs.Answered.{refusal_of}
+use Rattle.model.specs.declared.Refusal.{Refusal}
 use Rattle.lent.specs.declared.Finished.{Finished}
 use Rattle.lent.specs.declared.Learned.{Learned}
-use Rattle.lent.specs.declared.Learned.TheVariants.{Grown, Refused}
 
--- node count, leaf count, estimated bits and flat bits, or the number of the refusal and its place
-abbrev pub tree_outcome : Learned → Outcome (Tree singles)
-tree_outcome (Grown nodes leaves bits flat) = accepted (record { nodes = nodes; leaves = leaves; bits = bits; flat = flat })
-tree_outcome (Refused number place) = refused (record { number = number; place = place })
+-- node count, leaf count, estimated bits and flat bits
+abbrev pub tree_of : Learned → Tree singles
+tree_of r = record { nodes = r.nodes; leaves = r.leaves; bits = r.bits; flat = r.flat }
+
+-- they, or the number of the refusal and its place
+abbrev pub tree_outcome : Fallible Learned Refusal → Outcome (Tree singles)
+tree_outcome (Ok r) = accepted (tree_of r)
+tree_outcome (Err cause) = refused (refusal_of cause)
 
 -- a finished tree, which has one leaf more than splits
 abbrev pub answer_of : Finished → Tree singles
 answer_of r = record { nodes = r.nodes; leaves = (r.nodes + 1) / 2; bits = r.bits; flat = r.flat }
 
 -- the answer, and what the lent lists hold at exit
-abbrev pub after : {L : Type 0} → Learned → L → After (Tree singles) L
+abbrev pub after : {L : Type 0} → Fallible Learned Refusal → L → After (Tree singles) L
 after r x = record { outcome = tree_outcome r; lent = x }
 
 -- the finished tree is the model's result: its nodes and leaves, how many entries were written, and its bits

@@ -6,49 +6,52 @@ use Rattle.model.specs.Settings.{max_nodes, max_depth}
 use Rattle.model.specs.Rows.{Row}
 use Rattle.model.specs.Single.{singles}
 use Rattle.model.specs.Profile.{job_of, single}
-use Rattle.model.specs.Job.{Offer, Job}
+use Rattle.model.specs.Job as model
+use Rattle.model.specs.Job.{Offer}
 use Rattle.model.specs.Grow.{State, no_entry}
 use Rattle.model.specs.Accepting.{SingleSmall}
 use Rattle.model.specs.Kept.{Invariant, Healthy, Sized}
 use Rattle.refuse.specs.Given.{settings_of}
-use Rattle.refuse.specs.declared.Settings.{Settings}
+use Rattle.refuse.specs.declared.Job.{Job}
 use Rattle.layout.specs.declared.Tree.{Tree}
 use Rattle.layout.specs.Tree.{NodeLists, holding, HasRoom}
-use Rattle.layout.specs.Waiting.{QueueLists, Queued, QueueRoom, queue_of}
+use Rattle.layout.specs.Waiting.{Queued, QueueRoom, queue_of}
+use Rattle.queue.specs.Lent.{queue_in}
+use Rattle.queue.specs.declared.Queue.{Queue}
 use Rattle.rows.specs.Flat.{Flat, held_in, row_count}
 use Rattle.lent.specs.Fitting.{uses_of, Fitting}
 
--- the job of these settings, logarithms and rows
-abbrev pub job_in : Settings → List Float → Flat → Job singles
-job_in s logs x = job_of single (settings_of s) logs (uses_of s x)
+-- the job over these rows, as the model has it
+abbrev pub job_in : Job → Flat → model.Job singles
+job_in job x = job_of single (settings_of job.settings) job.logs.now (uses_of job.settings x)
 
 -- no NaN: the growth term then is none either, and can be added in double
 abbrev pub Number : Float → Type 0
 Number c = T (not (is_nan c))
 
 -- The lists hold the state `st`, over what was `lent`, and there is room for `more` splits. What waits is looked at only if there are more splits to make
-pub record Grows (s : Settings) (logs : List Float) (counts : List ℕ) (x : Flat) (lists : NodeLists) (q : QueueLists)
+pub record Grows (job : Job) (counts : List ℕ) (x : Flat) (lists : NodeLists) (q : Queue)
     (tree : Tree) (more : ℕ) (lent : NodeLists) (st : State singles) (seeds : ℕ → Bool) (given : List Row) : Type 0 where
-  pub fitting : Fitting s logs counts x
+  pub fitting : Fitting job counts x
   pub rows : held_in x ≡ st.rows
   pub nodes : lists ≡ holding st.tree lent
   pub room : HasRoom (length st.tree + 2 * more) lent
   pub few : length st.tree + 2 * more ≤ max_nodes
-  pub queued : 0 < more → Queued tree.waiting q (queue_of st.tree)
-  pub queue_room : QueueRoom (tree.waiting + more) q
+  pub queued : 0 < more → Queued q.waiting (queue_in q) (queue_of st.tree)
+  pub queue_room : QueueRoom (q.waiting + more) (queue_in q)
   pub counted : tree.nodes ≡ length st.tree
   pub summed : tree.bits ≡ st.bits
-  pub inv : Invariant (uses_of s x) seeds given st
+  pub inv : Invariant (uses_of job.settings x) seeds given st
   pub healthy : Healthy SingleSmall seeds given st
   pub sized : Sized Number (row_count x) st
   pub shallow : (k : ℕ) → k < length st.tree → (o : Offer singles)
       → (get_or st.tree k no_entry).offer ≡ some o → (get_or st.tree k no_entry).depth < max_depth
 
 -- there is such a state
-pub record Growable (s : Settings) (logs : List Float) (counts : List ℕ) (x : Flat) (lists : NodeLists) (q : QueueLists)
+pub record Growable (job : Job) (counts : List ℕ) (x : Flat) (lists : NodeLists) (q : Queue)
     (tree : Tree) (more : ℕ) : Type 0 where
   pub lent : NodeLists
   pub state : State singles
   pub seeds : ℕ → Bool
   pub given : List Row
-  pub grows : Grows s logs counts x lists q tree more lent state seeds given
+  pub grows : Grows job counts x lists q tree more lent state seeds given

@@ -1,7 +1,7 @@
 -- What the first parts of learning and deepening ask for once the checks have passed (document 01, "The learner, leaves first"). Assumes nothing.
-use Rattle.std.specs.Prelude.{ℕ, ◌*◌, ◌-◌, ◌≡◌, List, ℤ, Float}
+use Rattle.std.specs.Prelude.{ℕ, ◌*◌, ◌-◌, List, ℤ}
 use Rattle.model.specs.Accepting.{LogsWithin, SingleSmall, JobFits}
-use Rattle.refuse.specs.declared.Settings.{Settings}
+use Rattle.refuse.specs.declared.Job.{Job}
 use Rattle.layout.specs.Tree.{NodeLists, HasRoom}
 use Rattle.layout.specs.Waiting.{QueueLists, QueueRoom}
 use Rattle.rows.specs.Flat.{Flat, flat, row_count}
@@ -9,16 +9,14 @@ use Rattle.lent.specs.Fitting.{Fitting}
 use Rattle.lent.specs.Grows.{job_in}
 
 -- the lists have room for a tree of so many leaves
-pub record Plantable (s : Settings) (logs : List Float) (counts : List ℕ) (x : Flat) (n : NodeLists) (q : QueueLists) (rows : ℕ) : Type 0 where
-  pub fitting : Fitting s logs counts x
-  pub lawful : JobFits SingleSmall (job_in s logs x) (row_count x)
-  pub logs_small : LogsWithin (row_count x) logs
-  pub counted : rows ≡ row_count x
-  pub room : HasRoom (2 * s.max_leaves - 1) n
-  pub queue_room : QueueRoom s.max_leaves q
+pub record Plantable (job : Job) (counts : List ℕ) (x : Flat) (n : NodeLists) (q : QueueLists) : Type 0 where
+  pub fitting : Fitting job counts x
+  pub lawful : JobFits SingleSmall (job_in job x) (row_count x)
+  pub logs_small : LogsWithin (row_count x) job.logs.now
+  pub room : HasRoom (2 * job.settings.max_leaves - 1) n
+  pub queue_room : QueueRoom job.settings.max_leaves q
 
 -- properties and tokens of fitting lists, with whatever residuals
-pub record Flattened (s : Settings) (logs : List Float) (counts : List ℕ) (props : List ℤ) (tok : List ℕ) (rows : ℕ) : Type 0 where
+pub record Flattened (job : Job) (counts : List ℕ) (x : Flat) : Type 0 where
   pub res : List ℤ
-  pub fitting : Fitting s logs counts (flat props tok res)
-  pub counted : rows ≡ row_count (flat props tok res)
+  pub fitting : Fitting job counts (flat x.props x.toks res)

@@ -1,34 +1,27 @@
-// What learning and deepening share (specs/): their number lists as one value, lists that fit an accepted job, and what
-// they hold while a tree grows. How many waiting leaves the queue has room for, flat bits (document 01, "Flat bits"),
-// and what both answer.
+// What learning and deepening share (specs/): their lists as one value, lists that fit an accepted job, and what they
+// hold while a tree grows. Flat bits (document 01, "Flat bits"), and what both answer.
 #![tactic(auto)]
 
-ghost use Rattle.std.specs.Prelude.{◌≡◌, List, ◌≤◌, ℤ};
+ghost use Rattle.std.specs.Prelude.{◌≡◌, ◌≤◌, List, ℤ};
 ghost use Rattle.model.specs.Settings.{max_nodes};
 ghost use Rattle.model.specs.Flat.{flat_bits};
 ghost use Rattle.model.specs.Rows.{rows_held};
-ghost use Rattle.model.specs.Operations.{accepted};
 ghost use Rattle.refuse.specs.Given.{settings_of};
-ghost use Rattle.lent.specs.Lists.{leaves_lent};
-ghost use Rattle.lent.specs.Answer.{tree_outcome, answer_of};
+ghost use Rattle.rows.specs.Lent.{flat_in};
+ghost use Rattle.lent.specs.Answer.{tree_of, answer_of};
 ghost use Rattle.lent.specs.Starts.{Flattened};
 
-use refuse::Settings;
+use cost::Allowed;
+use refuse::Job;
+use rows::Rows;
 
-// The answer: how many nodes and leaves the tree has, its estimated bits and the flat bits; or a refusal, with the
-// place that it names.
+// The answer: how many nodes and leaves the tree has, its estimated bits and the flat bits.
 #[derive(Clone, Copy)]
-pub enum Learned {
-    Grown {
-        nodes: u32,
-        leaves: u32,
-        bits: f64,
-        flat: f64,
-    },
-    Refused {
-        number: u32,
-        place: u32,
-    },
+pub struct Learned {
+    pub nodes: u32,
+    pub leaves: u32,
+    pub bits: f64,
+    pub flat: f64,
 }
 
 // A finished tree: its nodes; how many entries of the node and span lists were written while it grew, those that
@@ -41,49 +34,39 @@ pub struct Finished {
     pub flat: f64,
 }
 
-// How many waiting leaves have all their words, a threshold and a gain.
-pub fn queue_room(words: &[u32], values: &[i32], gains: &[f32]) -> usize
-    ensures { result ≡ leaves_lent words.now values.now gains.now }
-{
-    let held = lists::smaller(layout::leaves_in(words.len()), values.len());
-    lists::smaller(held, gains.len())
-}
-
-// Flat bits of the rows as first given. The counts are zero, before and after.
-pub fn flat_bits(
-    props: &[i32],
-    tok: &[u8],
-    counts: &mut [u32],
-    logs: &[f32],
-    s: Settings,
-    rows: usize,
-) -> f64
-    requires { Flattened s logs.now counts.old props.now tok.now rows }
+// Flat bits of the rows as first given, whatever their residuals. The counts are zero, before and after.
+pub fn flat_bits(rows: &Rows, counts: &mut [u32], job: Job) -> f64
+    requires { Flattened job counts.old (flat_in rows.now) }
     ensures answer { (rs : List ℤ) → result
-        ≡ flat_bits (settings_of s) logs.now (rows_held props.now tok.now rs) }
+        ≡ flat_bits (settings_of job.entry.settings) job.entry.logs.now
+        (rows_held rows.now.props.now rows.now.tok.now rs) }
     ensures zeros { counts.new ≡ counts.old }
 {
+    let s = job.settings;
     let alphabet = s.alphabet as usize;
     let wide = refuse::FLAT_COUNTS * alphabet;
+    let allowed = Allowed {
+        weighted: s.allow_wp,
+        preds: u32::from(s.allowed_preds),
+    };
     flat::flat_cost(
-        props,
-        tok,
+        rows.props,
+        rows.tok,
         &mut counts[..wide],
-        logs,
-        rows,
+        job.logs,
+        rows.count(),
         alphabet,
-        s.allow_wp,
-        s.allowed_preds as u32,
+        allowed,
     )
 }
 
 // The answer for a finished tree.
 pub fn answer(tree: Finished) -> Learned
     requires { tree.nodes ≤ max_nodes }
-    ensures { tree_outcome result ≡ accepted (answer_of tree) }
+    ensures { tree_of result ≡ answer_of tree }
 {
     let nodes = tree.nodes;
-    Learned::Grown {
+    Learned {
         nodes: nodes as u32,
         leaves: layout::leaves_of(nodes) as u32,
         bits: tree.bits,

@@ -1,13 +1,13 @@
 -- What an answer of the code says of the model's: each of the two is read off the other. Assumes nothing.
 use mathlib.Core.Path.{◌≡◌, refl, sym, ap, ◌∙◌}
 use mathlib.Core.Bool.{Bool, not, not-not}
-use mathlib.Core.Option.{Option, none, some}
+use mathlib.Core.Option as maybe
 use Prim.Native.Nat.{ℕ}
 use native.Mathlib.Omega.{arith}
 use Rattle.model.specs.Refuse.{Refusal}
-use Rattle.refuse.specs.declared.Found.TheVariants.{Row, Nothing}
-use Rattle.refuse.specs.declared.Check.TheVariants.{Pass, Refused}
-use Rattle.refuse.specs.Given.{found_of, check_of}
+use Rattle.model.specs.Operations.{refused, accepted, outcome_of}
+use Rattle.std.specs.Prelude.{Some, None}
+use Rattle.refuse.specs.Given.{found_of}
 
 -- what a test of a call's result says of the condition b that the result denies
 pub tested : (b : Bool) {r v : Bool} → r ≡ not b → not r ≡ v → b ≡ v
@@ -18,22 +18,19 @@ pub told : (b : Bool) {r v : Bool} → r ≡ not b → r ≡ v → b ≡ not v
 told b e f = tested b e (ap not f)
 
 -- ---- the search for a row
-pub row-found : (o : Option ℕ) (p : ℕ) → found_of o ≡ Row p → o ≡ some p
-row-found none p e = let z : ◌≡◌ {A = ℕ} 0 1 = cc in absurd (omega arith)
-row-found (some q) p e = let s : q ≡ p = cc in ap some s
+pub row-found : (o : maybe.Option ℕ) (p : ℕ) → found_of o ≡ Some p → o ≡ maybe.some p
+row-found maybe.none p e = let z : ◌≡◌ {A = ℕ} 0 1 = cc in absurd (omega arith)
+row-found (maybe.some q) p e = let s : q ≡ p = cc in ap maybe.some s
 
-pub nothing-found : (o : Option ℕ) → found_of o ≡ Nothing → o ≡ none
-nothing-found none e = refl
-nothing-found (some q) e = let z : ◌≡◌ {A = ℕ} 0 1 = cc in absurd (omega arith)
+pub nothing-found : (o : maybe.Option ℕ) → found_of o ≡ None → o ≡ maybe.none
+nothing-found maybe.none e = refl
+nothing-found (maybe.some q) e = let z : ◌≡◌ {A = ℕ} 0 1 = cc in absurd (omega arith)
 
 -- ---- a pass and a refusal
-pub pass_is : (o : Option Refusal) (rows n : ℕ) → check_of rows o ≡ Pass n → (o ≡ none) × (n ≡ rows)
-pass_is none rows n e = (refl, cc)
-pass_is (some r) rows n e = let z : ◌≡◌ {A = ℕ} 0 1 = cc in absurd (omega arith)
+pub pass_is : (o : maybe.Option Refusal) (rows n : ℕ) → accepted n ≡ outcome_of o rows → (o ≡ maybe.none) × (n ≡ rows)
+pass_is maybe.none rows n e = (refl, cc)
+pass_is (maybe.some r) rows n e = let z : ◌≡◌ {A = ℕ} 0 1 = cc in absurd (omega arith)
 
-pub refused-is : (o : Option Refusal) (rows n p : ℕ) → check_of rows o ≡ Refused n p → o ≡ some (record { number = n; place = p })
-refused-is none rows n p e = let z : ◌≡◌ {A = ℕ} 0 1 = cc in absurd (omega arith)
-refused-is (some r) rows n p e =
-    let a : r.number ≡ n = cc in
-    let b : r.place ≡ p = cc in
-    λ i. some (record { number = a i; place = b i })
+pub refused-is : (o : maybe.Option Refusal) (rows : ℕ) (r : Refusal) → refused r ≡ outcome_of o rows → o ≡ maybe.some r
+refused-is maybe.none rows r e = let z : ◌≡◌ {A = ℕ} 0 1 = cc in absurd (omega arith)
+refused-is (maybe.some q) rows r e = let s : q ≡ r = cc in ap maybe.some s

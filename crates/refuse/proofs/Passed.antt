@@ -15,15 +15,14 @@ use Rattle.model.specs.Profile.{Profile, single}
 use Rattle.model.specs.Tree.{fault_of}
 use Rattle.model.specs.Lent.{Lent, row_count, tree_in, lent_after}
 use Rattle.model.specs.Refuse.{Refusal, refuse_if, refuse_at, refuse_with, is_short_of_seed_room, Besides, room_besides, refused_before, learn_refusal, seed_besides, deepen_refusal}
-use Rattle.model.specs.Operations.{learn, tree_of}
+use Rattle.model.specs.Operations.{refused, accepted, outcome_of, learn, tree_of}
 use Rattle.model.specs.Accepting.{SeedRooms, Passed}
 use Rattle.model.proofs.Accepted.{seed_rooms_in, learned_from, learn-accepted}
 use Rattle.model.proofs.Bounded.{logs-within}
 use Rattle.model.proofs.Tests.{neither, passed, named}
 use Rattle.model.proofs.Keeping.{all-at}
 use Rattle.refuse.specs.declared.Settings.{Settings}
-use Rattle.refuse.specs.declared.Check.TheVariants.{Pass, Refused}
-use Rattle.refuse.specs.Given.{settings_of, check_of}
+use Rattle.refuse.specs.Given.{settings_of}
 use Rattle.refuse.specs.Accepted.{Accepted}
 use Rattle.refuse.proofs.Scan.{logs_at}
 use Rattle.refuse.proofs.Answers.{pass_is, refused-is}
@@ -85,11 +84,11 @@ module _ (s : Settings) (logs : List Float) (x : Lent singles) where
   abbrev pub learning : Option Refusal
   learning = learn_refusal single (settings_of s) logs x
 
-  pub learn-passed : (rows : ℕ) → check_of (row_count x) learning ≡ Pass rows → (learning ≡ none) × Accepted s logs x rows
+  pub learn-passed : (rows : ℕ) → accepted rows ≡ outcome_of learning (row_count x) → (learning ≡ none) × Accepted s logs x rows
   learn-passed rows e = let h = pass_is learning (row_count x) rows e in (h.0, facts rows h.1 (unrefused h.0))
 
-  pub learn-refused : (n p : ℕ) → check_of (row_count x) learning ≡ Refused n p → learning ≡ some (record { number = n; place = p })
-  learn-refused n p e = refused-is learning (row_count x) n p e
+  pub learn-refused : (r : Refusal) → refused r ≡ outcome_of learning (row_count x) → learning ≡ some r
+  learn-refused r e = refused-is learning (row_count x) r e
 
   -- ---- deepening a seed of `count` nodes
   module _ (count : ℕ) where
@@ -105,7 +104,7 @@ module _ (s : Settings) (logs : List Float) (x : Lent singles) where
     unfolding deepen_refusal
     deepen-then = before_last single (settings_of s) logs x (seed_besides count x)
 
-    pub deepen-passed : (rows : ℕ) → check_of (row_count x) deepening ≡ Pass rows
+    pub deepen-passed : (rows : ℕ) → accepted rows ≡ outcome_of deepening (row_count x)
         → (deepen_refusal single (settings_of s) logs count x ≡ fault) × Accepted s logs x rows × SeedRooms count x
     unfolding or_else
     deepen-passed rows e =
@@ -113,6 +112,6 @@ module _ (s : Settings) (logs : List Float) (x : Lent singles) where
         let learns = before-none single (settings_of s) logs x (is_short_of_seed_room count x) h.0 in
         (deepen-then ∙ rw h.0, facts rows h.1 (unrefused learns.0), seed_rooms_in count x learns.1)
 
-    pub deepen-refused : (n p : ℕ) → check_of (row_count x) deepening ≡ Refused n p → deepen_refusal single (settings_of s) logs count x ≡ some (record { number = n; place = p })
+    pub deepen-refused : (r : Refusal) → refused r ≡ outcome_of deepening (row_count x) → deepen_refusal single (settings_of s) logs count x ≡ some r
     unfolding or_else
-    deepen-refused n p e = deepen-then ∙ rw (refused-is deepening (row_count x) n p e)
+    deepen-refused r e = deepen-then ∙ rw (refused-is deepening (row_count x) r e)

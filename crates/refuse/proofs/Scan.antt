@@ -1,7 +1,8 @@
 -- A scan that stops at the first misfit gives the answer of the model's test: predictors, tokens and logarithms. Assumes nothing.
-use mathlib.Core.Path.{◌≡◌, refl}
-use mathlib.Core.Bool.{Bool, true, false, ◌&&◌, or-true}
+use mathlib.Core.Path.{◌≡◌, refl, ap}
+use mathlib.Core.Bool.{Bool, true, false, cond, not, ◌&&◌, ◌||◌, not-not}
 use mathlib.Core.List.{List, [], ◌∷◌}
+use mathlib.Core.Option as maybe
 use mathlib.Core.Option.{none, some}
 use Prim.Native.Nat.{ℕ, zero, suc, ◌+◌, ◌-◌, ◌*◌, ◌/◌, ◌≤◌, ◌<◌}
 use native.Mathlib.Nat.{zero-add}
@@ -12,7 +13,9 @@ use lib.ListN.{length, get_or, take, drop, length-take, length-drop}
 use lib.Seq.{get_or-take, get_or-drop}
 use lib.Dec.{T, ltb}
 use lib.Ieee.{Float, nan}
-use Rattle.model.specs.Lists.{range, keep, all, is_empty}
+use Rattle.std.specs.Prelude.{Option, Some, None, MatchOption}
+use Rattle.std.specs.List.{list_any, list_all, range_with_len, AllWithin, HoldsAt}
+use Rattle.model.specs.Lists.{keep, all, is_empty}
 use Rattle.model.specs.Settings.{Settings}
 use Rattle.model.specs.Cost.{is_usable, usable}
 use Rattle.model.specs.Meter.{Meter}
@@ -40,22 +43,18 @@ module _ {A : Type 0} (p : A → Bool) (z : A) where
       go true e = e
       go false e = refl
 
--- ---- 2: of the predictors from p on, none is usable
-module _ {M : Meter} (t : Settings M) where
-  abbrev pub none_from : ℕ → Bool
-  none_from p = is_empty (keep (is_usable t) (range p (14 - p)))
+-- ---- 2: a predictor is kept if one passes the test
+any-kept : (p : ℕ → Bool) (xs : List ℕ) → list_any p xs ≡ not (is_empty (keep p xs))
+any-kept p [] = refl
+any-kept p (x ∷ xs) = go (p x) (any-kept p xs)
+  where
+    go : (b : Bool) → list_any p xs ≡ not (is_empty (keep p xs)) → (b || list_any p xs) ≡ not (is_empty (cond b (x ∷ keep p xs) (keep p xs)))
+    go true e = refl
+    go false e = e
 
-  pub none_first : has_no_predictor t ≡ none_from 0
-  unfolding has_no_predictor usable
-  none_first = refl
-
-  pub none_here : (p : ℕ) → p < 14 → is_usable t p ≡ true → none_from p ≡ false
-  none_here p h u = let e : 14 - p ≡ suc (13 - p) = omega arith in rw (e, u)
-
-  pub none-further : (p : ℕ) → p < 14 → is_usable t p ≡ false → none_from p ≡ none_from (p + 1)
-  none-further p h u =
-      let e : 14 - p ≡ suc (14 - (p + 1)) = omega arith in
-      let f : p + 1 ≡ suc p = omega arith in rw (e, u, f)
+pub usable-any : {M : Meter} (t : Settings M) → list_any (is_usable t) (range_with_len 0 14) ≡ not (has_no_predictor t)
+unfolding has_no_predictor usable
+usable-any t = any-kept (is_usable t) (range_with_len 0 14)
 
 -- ---- 4: the tokens, a row at a time
 row_bad : (a n i k : ℕ) (toks : List ℕ) → k < 14 → k < length toks → a ≤ get_or toks k 0 → bad_row_from a (suc n) i toks ≡ some i
@@ -100,12 +99,32 @@ bad_none a (suc n) i toks good =
     rw (row-good a n i toks (λ j h l. good j l))
     (bad_none a n (suc i) (drop 14 toks) (λ j h. let d = length-drop 14 toks in rw (get_or-drop 14 toks j 0) (good (14 + j) (omega arith))))
 
+-- the row of a cell
+abbrev pub row_in : Option ℕ → maybe.Option ℕ
+row_in None = maybe.none
+row_in (Some cell) = maybe.some (cell / 14)
+
+-- the first token that is not below the alphabet names its row
+pub row-of : (a : ℕ) (toks : List ℕ) (o : Option ℕ) → length toks ≡ 14 * (length toks / 14)
+    → MatchOption o (AllWithin (λ t. t < a) toks 0 (length toks)) (λ i. (i < length toks) × HoldsAt (λ t. a ≤ t) toks i × AllWithin (λ t. t < a) toks 0 i)
+    → bad_row_from a (length toks / 14) 0 toks ≡ row_in o
+row-of a toks None e h = bad_none a (length toks / 14) 0 toks (λ j l. h j 0 (omega arith) l)
+row-of a toks (Some i) e h = bad_found a i toks e h.0 (λ j l. h.2 j 0 (omega arith) l) (h.1 0)
+
 -- ---- 6: the logarithms
+
+each-all : {A : Type 0} (p : A → Bool) (xs : List A) → list_all p xs ≡ all p xs
+each-all p [] = refl
+each-all p (x ∷ xs) = ap (λ (b : Bool). p x && b) (each-all p xs)
 
 module _ (logs : List Float) (x : Lent singles) where
   pub logs-short : length logs ≤ row_count x → is_bad_logs single logs x ≡ true
   unfolding is_bad_logs
   logs-short h = rw (lt-ltb (length logs) (row_count x + 1) (omega arith))
+
+  pub logs-tested : row_count x < length logs → list_all log_fits (take (row_count x) (drop 1 logs)) ≡ not (is_bad_logs single logs x)
+  unfolding is_bad_logs
+  logs-tested h = rw (le-ltb (length logs) (row_count x + 1) (omega arith), not-not) (each-all log_fits (take (row_count x) (drop 1 logs)))
 
   -- entry i of those looked at is entry i + 1 of the list
   abbrev looked : List Float
@@ -117,21 +136,6 @@ module _ (logs : List Float) (x : Lent singles) where
 
     looked-at : (i : ℕ) → i < row_count x → get_or looked i nan ≡ get_or logs (1 + i) nan
     looked-at i h = rw (get_or-take (row_count x) (drop 1 logs) i nan h, get_or-drop 1 logs i nan)
-
-    pub logs-found : (k : ℕ) → 0 < k → k ≤ row_count x → log_fits (get_or logs k nan) ≡ false → is_bad_logs single logs x ≡ true
-    unfolding is_bad_logs
-    logs-found k p h bad =
-        let at : 1 + (k - 1) ≡ k = omega arith in
-        let here : log_fits (get_or looked (k - 1) nan) ≡ false = rw (looked-at (k - 1) (omega arith), at) bad in
-        rw (one-fails log_fits nan looked (k - 1) (omega (arith, looked-length)) here) (or-true (ltb (length logs) (row_count x + 1)))
-
-    pub logs-good : ((k : ℕ) → 0 < k → k ≤ row_count x → log_fits (get_or logs k nan) ≡ true) → is_bad_logs single logs x ≡ false
-    unfolding is_bad_logs
-    logs-good good =
-        rw (
-          le-ltb (length logs) (row_count x + 1) (omega arith),
-          all_pass log_fits nan looked (λ i h. let k : i < row_count x = omega (arith, looked-length) in rw (looked-at i k) (good (1 + i) (omega arith) (omega arith))),
-        )
 
     pub logs_at : T (single.logs_fit looked) → (k : ℕ) → 0 < k → k ≤ row_count x → T (log_fits (get_or logs k nan))
     logs_at t k p h =

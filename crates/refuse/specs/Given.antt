@@ -1,6 +1,6 @@
 -- What the checks are given, and what they answer, in the model's terms (document 01, "Which number comes back"). Assumes nothing.
-use Rattle.std.specs.Prelude.{◌≡◌, refl, List, ℕ, ◌*◌, ◌/◌, ◌≤◌, length, replicate, ℤ}
-use Rattle.std.proofs.Math.Option.{Option, none, some}
+use Rattle.std.specs.Prelude.{◌≡◌, refl, Option, Some, None, ℕ, ◌*◌, ◌/◌, ◌≤◌, length, replicate}
+use Rattle.std.proofs.Math.Option as maybe
 use Rattle.std.proofs.lemmas.List.{length-replicate}
 use Rattle.model.specs.Meter.{Meter}
 use Rattle.model.specs.Settings as model
@@ -8,13 +8,9 @@ use Rattle.model.specs.Single.{singles}
 use Rattle.model.specs.Rows.{no_span}
 use Rattle.model.specs.Tree.{blank_record}
 use Rattle.model.specs.Lent.{Lent, stored, no_waiting}
-use Rattle.model.specs.Refuse.{Refusal}
+use Rattle.rows.specs.Flat.{Flat}
 use Rattle.refuse.specs.declared.Settings.{Settings}
 use Rattle.refuse.specs.declared.Rooms.{Rooms}
-use Rattle.refuse.specs.declared.Found.{Found}
-use Rattle.refuse.specs.declared.Found.TheVariants.{Row, Nothing}
-use Rattle.refuse.specs.declared.Check.{Check}
-use Rattle.refuse.specs.declared.Check.TheVariants.{Pass, Refused}
 
 -- the settings of a job (document 01, "A job and its rows")
 abbrev pub settings_of : Settings → model.Settings singles
@@ -47,27 +43,27 @@ pub record HasRooms {M : Meter} (room : Rooms) (x : Lent M) : Type 0 where
   pub counts : length x.counts ≡ room.counts
 
 -- These lists are lent, with rooms of so many entries. The checks promise their answer for every such x: what the rooms hold is all the same to them
-pub record Lends {M : Meter} (ps : List ℤ) (ts : List ℕ) (rs : List ℤ) (room : Rooms) (x : Lent M) : Type 0 where
-  pub props : x.props ≡ ps
-  pub toks : x.toks ≡ ts
-  pub res : x.res ≡ rs
+pub record Lends {M : Meter} (rows : Flat) (room : Rooms) (x : Lent M) : Type 0 where
+  pub props : x.props ≡ rows.props
+  pub toks : x.toks ≡ rows.toks
+  pub res : x.res ≡ rows.res
   pub rooms : HasRooms room x
 
 -- there are such lists: those whose rooms are blank
-abbrev pub lent_of : {M : Meter} → List ℤ → List ℕ → List ℤ → Rooms → Lent M
-lent_of ps ts rs room =
+abbrev pub lent_of : {M : Meter} → Flat → Rooms → Lent M
+lent_of rows room =
     record {
-      props = ps;
-      toks = ts;
-      res = rs;
+      props = rows.props;
+      toks = rows.toks;
+      res = rows.res;
       nodes = replicate room.nodes (stored blank_record);
       spans = replicate room.spans no_span;
       queue = replicate room.queue no_waiting;
       counts = replicate room.counts 0;
     }
 
-pub lends : {M : Meter} (ps : List ℤ) (ts : List ℕ) (rs : List ℤ) (room : Rooms) → Lends {M = M} ps ts rs room (lent_of ps ts rs room)
-lends ps ts rs room =
+pub lends : {M : Meter} (rows : Flat) (room : Rooms) → Lends {M = M} rows room (lent_of rows room)
+lends rows room =
     record {
       props = refl;
       toks = refl;
@@ -87,11 +83,6 @@ pub record WholeRows (n : ℕ) : Type 0 where
   pub few : n / 14 ≤ 65536
 
 -- the row to name, if any
-abbrev pub found_of : Option ℕ → Found
-found_of none = Nothing
-found_of (some row) = Row row
-
--- 01's number and named place, or the number of rows of a job that may begin
-abbrev pub check_of : ℕ → Option Refusal → Check
-check_of rows none = Pass rows
-check_of rows (some r) = Refused r.number r.place
+abbrev pub found_of : maybe.Option ℕ → Option ℕ
+found_of maybe.none = None
+found_of (maybe.some row) = Some row

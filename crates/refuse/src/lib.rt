@@ -13,8 +13,14 @@ ghost use Rattle.model.specs.Refuse.{is_outside, has_no_predictor, is_uneven};
 ghost use Rattle.model.specs.Refuse.{bad_row_from, is_short_alphabet, is_bad_logs};
 ghost use Rattle.model.specs.Refuse.{counts_wanted, is_short_of_room, is_short_of_seed_room, room_besides};
 ghost use Rattle.model.specs.Refuse.{refused_before, learn_refusal};
+ghost use Rattle.model.specs.Operations.{outcome_of};
+ghost use Rattle.model.specs.Answered.{outcome_of_result};
 ghost use Rattle.model.specs.Accepting.{InRange};
-ghost use Rattle.refuse.specs.Given.{settings_of, Holds, HasRooms, Lends, WholeRows, found_of, check_of};
+ghost use Rattle.rows.specs.Lent.{flat_in};
+ghost use Rattle.refuse.specs.Given.{settings_of, Holds, HasRooms, Lends, WholeRows, found_of};
+
+use model::Refusal;
+use rows::Rows;
 
 // The weighted predictor.
 pub const PRED_WEIGHTED: usize = 6;
@@ -42,6 +48,13 @@ pub struct Settings {
     pub settle: bool,
 }
 
+// What a job goes by besides its rows: the settings, and the logarithms of the counts.
+#[derive(Clone, Copy)]
+pub struct Job<'a> {
+    pub settings: Settings,
+    pub logs: &'a [f32],
+}
+
 // How many entries of nodes, spans, queue and count space the caller lends.
 #[derive(Clone, Copy)]
 pub struct Rooms {
@@ -49,20 +62,6 @@ pub struct Rooms {
     pub spans: usize,
     pub queue: usize,
     pub counts: usize,
-}
-
-// What a search for a row finds.
-#[derive(Clone, Copy)]
-pub enum Found {
-    Row(u32),
-    Nothing,
-}
-
-// The job has so many rows and may begin, or it is refused with 01's number and the named place, else 0.
-#[derive(Clone, Copy)]
-pub enum Check {
-    Pass(usize),
-    Refused { number: u32, place: u32 },
 }
 
 // ---- 1: the settings
@@ -101,14 +100,7 @@ pub fn is_usable(s: Settings, p: usize) -> bool
 pub fn any_usable(s: Settings) -> bool
     ensures { result ≡ not (has_no_predictor (settings_of s)) }
 {
-    let mut p: usize = 0;
-    while p < model::NUM_MA_PREDS {
-        if is_usable(s, p) {
-            return true;
-        }
-        p += 1;
-    }
-    false
+    (0..model::NUM_MA_PREDS).any(|p| is_usable(s, p))
 }
 
 // ---- 3: the lists are whole rows
@@ -127,18 +119,12 @@ pub fn shape_fits(props: usize, tok: usize, res: usize) -> bool
 // ---- 4: every token is below the alphabet
 
 // The lowest row with a token that is not below the alphabet.
-pub fn first_bad_row(tok: &[u8], alphabet: u32) -> Found
+pub fn first_bad_row(tok: &[u8], alphabet: u32) -> Option<u32>
     requires { WholeRows (length tok.now) }
     ensures { result ≡ found_of (bad_row_from alphabet (length tok.now / toks_per_row) 0 tok.now) }
 {
-    let mut k: usize = 0;
-    while k < tok.len() {
-        if alphabet <= tok[k] as u32 {
-            return Found::Row((k / model::NUM_MA_PREDS) as u32);
-        }
-        k += 1;
-    }
-    Found::Nothing
+    let cell = tok.iter().position(|&t| alphabet <= u32::from(t))?;
+    Some((cell / model::NUM_MA_PREDS) as u32)
 }
 
 // ---- 5: the alphabet has room for every zero token, where modal offsets are in use
@@ -164,17 +150,7 @@ pub fn log_fits(x: f32) -> bool
 pub fn logs_fit(logs: &[f32], rows: usize) -> bool
     ensures { (x : Lent singles) → row_count x ≡ rows → result ≡ not (is_bad_logs single logs.now x) }
 {
-    if logs.len() <= rows {
-        return false;
-    }
-    let mut k: usize = 1;
-    while k <= rows {
-        if !log_fits(logs[k]) {
-            return false;
-        }
-        k += 1;
-    }
-    true
+    rows < logs.len() && logs[1..rows + 1].iter().all(|&x| log_fits(x))
 }
 
 // ---- 7: the rooms
@@ -185,9 +161,9 @@ pub fn counts_wanted(s: Settings) -> usize
     ensures { result ≡ counts_wanted (settings_of s) }
 {
     let a = s.alphabet as usize;
-    let sides = lists::larger(s.side_preds as usize, 1);
+    let sides = (s.side_preds as usize).max(1);
     let scored = model::NUM_MA_PREDS * a + sides * a * (s.max_candidates as usize + 2);
-    FIRST_COUNTS + lists::larger(FLAT_COUNTS * a, scored)
+    FIRST_COUNTS + (FLAT_COUNTS * a).max(scored)
 }
 
 // What learning and deepening ask for: a node and a span for each node of the largest tree, a place in the queue for
@@ -217,80 +193,60 @@ pub fn seed_rooms_fit(rooms: Rooms, rows: usize, count: usize) -> bool
 
 // ---- the first condition that holds
 
-// A refusal that names no place.
-fn refused(number: u32) -> Check
-    ensures { result ≡ Check.Refused number 0 }
-{
-    Check::Refused { number, place: 0 }
-}
-
 // Conditions 1 to 7. `short` says that the room which this operation asks for besides is too small.
-fn check_job(
-    props: &[i32],
-    tok: &[u8],
-    res: &[i32],
-    logs: &[f32],
-    s: Settings,
-    rooms: Rooms,
-    short: bool,
-) -> Check
-    ensures { (x : Lent singles) → Lends props.now tok.now res.now rooms x
-        → result ≡ check_of (row_count x) (refused_before single (settings_of s) logs.now x (room_besides short)) }
+// Stays: what else is asked is known before the checks and told last among them, so it is handed in as known.
+fn check_job(rows: &Rows, job: Job, rooms: Rooms, short: bool) -> Result<usize, Refusal>
+    ensures { (x : Lent singles) → Lends (flat_in rows.now) rooms x
+        → outcome_of_result result ≡ outcome_of
+        (refused_before single (settings_of job.entry.settings) job.entry.logs.now x
+        (room_besides short)) (row_count x) }
 {
+    let s = job.settings;
     if !settings_fit(s) {
-        return refused(1);
+        return Err(Refusal::BadSetting);
     }
     if !any_usable(s) {
-        return refused(2);
+        return Err(Refusal::NoPredictor);
     }
-    if !shape_fits(props.len(), tok.len(), res.len()) {
-        return refused(3);
+    if !shape_fits(rows.props.len(), rows.tok.len(), rows.res.len()) {
+        return Err(Refusal::UnevenRows);
     }
-    if let Found::Row(place) = first_bad_row(tok, s.alphabet) {
-        return Check::Refused { number: 4, place };
+    if let Some(row) = first_bad_row(rows.tok, s.alphabet) {
+        return Err(Refusal::BadToken(row));
     }
-    let rows = props.len() / model::NUM_MA_PROPS;
-    if !alphabet_fits(s, rows, res.len()) {
-        return refused(5);
+    let count = rows.count();
+    if !alphabet_fits(s, count, rows.res.len()) {
+        return Err(Refusal::ShortAlphabet);
     }
-    if !logs_fit(logs, rows) {
-        return refused(6);
+    if !logs_fit(job.logs, count) {
+        return Err(Refusal::BadLogarithms);
     }
     if !rooms_fit(s, rooms) | short {
-        return refused(7);
+        return Err(Refusal::ShortOfRoom);
     }
-    Check::Pass(rows)
+    Ok(count)
 }
 
-// Conditions 1 to 7 of learning.
-pub fn check_learn(
-    props: &[i32],
-    tok: &[u8],
-    res: &[i32],
-    logs: &[f32],
-    s: Settings,
-    rooms: Rooms,
-) -> Check
-    ensures { (x : Lent singles) → Lends props.now tok.now res.now rooms x
-        → result ≡ check_of (row_count x) (learn_refusal single (settings_of s) logs.now x) }
+// Conditions 1 to 7 of learning; how many rows there are.
+pub fn check_learn(rows: &Rows, job: Job, rooms: Rooms) -> Result<usize, Refusal>
+    ensures { (x : Lent singles) → Lends (flat_in rows.now) rooms x
+        → outcome_of_result result
+        ≡ outcome_of (learn_refusal single (settings_of job.entry.settings) job.entry.logs.now x) (row_count x) }
 {
-    check_job(props, tok, res, logs, s, rooms, false)
+    check_job(rows, job, rooms, false)
 }
 
-// Conditions 1 to 7 of deepening a seed of `count` nodes. Whether the seed is a sound tree (8) is asked after a pass.
-pub fn check_deepen(
-    props: &[i32],
-    tok: &[u8],
-    res: &[i32],
-    logs: &[f32],
-    s: Settings,
-    rooms: Rooms,
-    count: usize,
-) -> Check
-    ensures { (x : Lent singles) → Lends props.now tok.now res.now rooms x
-        → result ≡ check_of (row_count x) (refused_before single (settings_of s) logs.now x
-        (room_besides (is_short_of_seed_room count x))) }
+// Conditions 1 to 7 of deepening a seed of `seeds` nodes. Whether the seed is a sound tree (8) is asked after a pass.
+pub fn check_deepen(rows: &Rows, job: Job, rooms: Rooms, seeds: usize) -> Result<usize, Refusal>
+    ensures { (x : Lent singles) → Lends (flat_in rows.now) rooms x
+        → outcome_of_result result ≡ outcome_of
+        (refused_before single (settings_of job.entry.settings) job.entry.logs.now x
+        (room_besides (is_short_of_seed_room seeds x))) (row_count x) }
 {
-    let short = !seed_rooms_fit(rooms, props.len() / model::NUM_MA_PROPS, count);
-    check_job(props, tok, res, logs, s, rooms, short)
+    check_job(
+        rows,
+        job,
+        rooms,
+        !seed_rooms_fit(rooms, rows.count(), seeds),
+    )
 }

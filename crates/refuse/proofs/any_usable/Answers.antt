@@ -1,23 +1,15 @@
--- The invariant: what is left of the predictors has a usable one if and only if all have. Assumes nothing.
-use mathlib.Core.Path.{sym, ap, ◌∙◌}
-use mathlib.Core.Bool.{not}
-use native.Mathlib.Nat.{le_antisymm}
+-- A predictor passes the test if one is kept. Assumes nothing.
 use borrow.Author.Rules.{rules}
+use borrow.Author.Tests.{tests}
+use mathlib.Core.Path.{refl, ◌∙◌}
+use Rattle.std.proofs.lemmas.Iterator.{YieldsList-from_range}
+use Rattle.std.proofs.lemmas.Iterator.Search.{any_from_yields_List}
+use Rattle.model.specs.Cost.{is_usable}
 use Rattle.refuse.specs.Given.{settings_of}
-use Rattle.refuse.proofs.Scan.{none_from, none_first, none_here, none-further}
+use Rattle.refuse.proofs.Scan.{usable-any}
 use Rattle.refuse.proofs.any_usable.Goals as goal
 
-pub loop-p-init : goal.loop-p-init
-loop-p-init c = (search rules, none_first _)
-
-pub returns-then-is_usable : goal.returns-then-is_usable
-returns-then-is_usable c = let t = settings_of c.args.s in
-    ap not (sym (c.loop-p.invariant.1 ∙ none_here t _ c.loop-p-test.true (sym c.is_usable.ensures ∙ c.if-is_usable.true)))
-
-pub loop-p-preserved : goal.loop-p-preserved
-loop-p-preserved c = let t = settings_of c.args.s in
-    (search rules, c.loop-p.invariant.1 ∙ none-further t _ c.loop-p-test.true (sym c.is_usable.ensures ∙ c.if-is_usable.false))
-
 pub returns : goal.returns
-returns c = let t = settings_of c.args.s in
-    ap not (sym (c.loop-p.invariant.1 ∙ ap (none_from t) (le_antisymm c.loop-p.invariant.0 c.loop-p-test.false)))
+returns c =
+    let t = settings_of c.args.s in
+    any_from_yields_List (is_usable t) _ _ _ c.any.ensures.ran (YieldsList-from_range 0 14 14 refl refl) (λ x b q k. search (rules, tests)) ∙ usable-any t

@@ -3,8 +3,8 @@ use mathlib.Core.Path.{◌≡◌, refl, sym, ap, ◌∙◌}
 use mathlib.Core.Bool.{Bool, false, ◌||◌}
 use mathlib.Core.List.{List}
 use mathlib.Core.Option.{Option, none, some}
+use Rattle.std.specs.Prelude as std
 use Prim.Native.Nat.{ℕ, ◌/◌}
-use Rattle.std.specs.Prelude.{ℤ}
 use lib.ListN.{length}
 use lib.Ieee.{Float}
 use Rattle.model.specs.Settings.{Settings}
@@ -13,10 +13,10 @@ use Rattle.model.specs.Profile.{single}
 use Rattle.model.specs.Lent.{Lent, row_count}
 use Rattle.model.specs.Refuse.{Refusal, refuse_if, refuse_at, is_outside, has_no_predictor, is_uneven, bad_row_from, is_short_alphabet, is_bad_logs, is_short_of_room, room_besides, refused_before}
 use Rattle.refuse.specs.declared.Rooms.{Rooms}
-use Rattle.refuse.specs.declared.Found.{Found}
-use Rattle.refuse.specs.declared.Check.{Check}
-use Rattle.refuse.specs.declared.Check.TheVariants.{Refused}
-use Rattle.refuse.specs.Given.{settings_of, Holds, Lends, lent_of, lends, found_of, check_of}
+use Rattle.refuse.specs.Given.{settings_of, Holds, Lends, lent_of, lends, found_of}
+use Rattle.rows.specs.Flat.{Flat}
+use Rattle.rows.specs.Lent.{flat_in}
+use Rattle.model.specs.Operations.{refused, outcome_of}
 use Rattle.model.proofs.Accepted.{in_range}
 use Rattle.refuse.proofs.Ranges.{whole-rows}
 use Rattle.refuse.proofs.Answers.{tested, told, row-found, nothing-found}
@@ -77,102 +77,101 @@ module _ (t : Settings singles) (logs : List Float) (x : Lent singles) (short : 
   up_to_7 a b d e = up_to_6 a b d ∙ settled 7 none e
 
   -- what the search for a row found is the model's bad row
-  row_is : is_uneven x ≡ false → (toks : List ℕ) → x.toks ≡ toks → {r : Found} → r ≡ found_of (bad_row_from t.alphabet (length toks / 14) 0 toks) → found_of bad_row ≡ r
+  row_is : is_uneven x ≡ false → (toks : List ℕ) → x.toks ≡ toks → {r : std.Option ℕ} → r ≡ found_of (bad_row_from t.alphabet (length toks / 14) 0 toks) → found_of bad_row ≡ r
   row_is e toks h f = sym (f ∙ rw (← h, (whole-rows x e).1))
 
 -- the lists that are lent have these lengths
-lengths : {ps : List ℤ} {ts : List ℕ} {rs : List ℤ} {room : Rooms} {x : Lent singles} → Lends ps ts rs room x → Holds (length ps) (length ts) (length rs) x
+lengths : {rows : Flat} {room : Rooms} {x : Lent singles} → Lends rows room x → Holds (length rows.props) (length rows.toks) (length rows.res) x
 lengths h = record { props = ap length h.props; toks = ap length h.toks; res = ap length h.res }
 
 -- a refusal of the chain is the check's
-refuses : {r : Check} (o : Option Refusal) (n rows : ℕ) → r ≡ Refused n 0 → o ≡ some (record { number = n; place = 0 }) → r ≡ check_of rows o
-refuses o n rows e f = e ∙ ap (check_of rows) (sym f)
+refuses : {o : Option Refusal} (r : Refusal) (rows : ℕ) → o ≡ some r → refused r ≡ outcome_of o rows
+refuses r rows f = ap (λ (o : Option Refusal). outcome_of o rows) (sym f)
 
 pub returns-then-not-settings_fit : goal.returns-then-not-settings_fit
 returns-then-not-settings_fit c = λ x h.
-    refuses _ 1 _ c.refused.ensures (up_to_1 _ _ x _ (told (is_outside single _) c.settings_fit.ensures c.if-not-settings_fit.true))
+    refuses (record { number = 1; place = 0 }) _ (up_to_1 _ _ x _ (told (is_outside single _) c.settings_fit.ensures c.if-not-settings_fit.true))
 
 pub returns-then-not-any_usable : goal.returns-then-not-any_usable
 returns-then-not-any_usable c = λ x h.
     let a = told (is_outside single _) c.settings_fit.ensures c.if-not-settings_fit.false in
-    refuses _ 2 _ c.refused-then-not-any_usable.ensures (up_to_2 _ _ x _ a (told (has_no_predictor _) c.any_usable.ensures c.if-not-any_usable.true))
+    refuses (record { number = 2; place = 0 }) _ (up_to_2 _ _ x _ a (told (has_no_predictor _) c.any_usable.ensures c.if-not-any_usable.true))
 
 pub returns-then-not-shape_fits : goal.returns-then-not-shape_fits
 returns-then-not-shape_fits c = λ x h.
     let a = told (is_outside single _) c.settings_fit.ensures c.if-not-settings_fit.false in
     let b = told (has_no_predictor _) c.any_usable.ensures c.if-not-any_usable.false in
-    refuses _ 3 _ c.refused-then-not-shape_fits.ensures (up_to_3 _ _ x _ a b (told (is_uneven x) (c.shape_fits.ensures x (lengths h)) c.if-not-shape_fits.true))
+    refuses (record { number = 3; place = 0 }) _ (up_to_3 _ _ x _ a b (told (is_uneven x) (c.shape_fits.ensures x (lengths h)) c.if-not-shape_fits.true))
 
 pub first_bad_row-requires : goal.first_bad_row-requires
 first_bad_row-requires c =
-    let job = c.args in
-    let h = lends {M = singles} job.props.now job.tok.now job.res.now job.rooms in
-    let x : Lent singles = lent_of job.props.now job.tok.now job.res.now job.rooms in
+    let h = lends {M = singles} (flat_in c.args.rows.now) c.args.rooms in
+    let x : Lent singles = lent_of (flat_in c.args.rows.now) c.args.rooms in
     (whole-rows x (told (is_uneven x) (c.shape_fits.ensures x (lengths h)) c.if-not-shape_fits.false)).0
 
-pub returns-in-Row : goal.returns-in-Row
-returns-in-Row c = λ x h.
-    let t = settings_of c.args.s in
+pub returns-in-Some : goal.returns-in-Some
+returns-in-Some c = λ x h.
+    let t = settings_of c.args.job.settings in
     let a = told (is_outside single _) c.settings_fit.ensures c.if-not-settings_fit.false in
     let b = told (has_no_predictor _) c.any_usable.ensures c.if-not-any_usable.false in
     let d = told (is_uneven x) (c.shape_fits.ensures x (lengths h)) c.if-not-shape_fits.false in
-    let row = row-found (bad_row t c.args.logs.now x c.args.short) _ (row_is t c.args.logs.now x c.args.short d _ h.toks c.first_bad_row.ensures ∙ c.in-Row.is) in
-    ap (check_of (row_count x)) (sym (up_to_4 t c.args.logs.now x c.args.short a b d (some _) row))
+    let row = row-found (bad_row t c.args.job.logs.now x c.args.short) _ (row_is t c.args.job.logs.now x c.args.short d _ h.toks c.first_bad_row.ensures ∙ c.in-Some.is) in
+    ap (λ (o : Option Refusal). outcome_of o (row_count x)) (sym (up_to_4 t c.args.job.logs.now x c.args.short a b d (some _) row))
 
 -- after the search for a row
 
 pub returns-then-not-alphabet_fits : goal.returns-then-not-alphabet_fits
 returns-then-not-alphabet_fits c = λ x h.
-    let t = settings_of c.args.s in
+    let t = settings_of c.args.job.settings in
     let a = told (is_outside single _) c.settings_fit.ensures c.if-not-settings_fit.false in
     let b = told (has_no_predictor _) c.any_usable.ensures c.if-not-any_usable.false in
     let l = lengths h in
     let d = told (is_uneven x) (c.shape_fits.ensures x l) c.if-not-shape_fits.false in
-    let none-bad = nothing-found (bad_row t c.args.logs.now x c.args.short) (row_is t c.args.logs.now x c.args.short d _ h.toks c.first_bad_row.ensures ∙ c.in_default.is) in
-    let e = up_to_4 t c.args.logs.now x c.args.short a b d none none-bad in
-    refuses _ 5 _ c.refused-then-not-alphabet_fits.ensures
-    (up_to_5 t c.args.logs.now x c.args.short e (told (is_short_alphabet _ x) (c.alphabet_fits.ensures x (rw l.props refl) l.res) c.if-not-alphabet_fits.true))
+    let none-bad = nothing-found (bad_row t c.args.job.logs.now x c.args.short) (row_is t c.args.job.logs.now x c.args.short d _ h.toks c.first_bad_row.ensures ∙ c.in_default.is) in
+    let e = up_to_4 t c.args.job.logs.now x c.args.short a b d none none-bad in
+    refuses (record { number = 5; place = 0 }) _
+    (up_to_5 t c.args.job.logs.now x c.args.short e (told (is_short_alphabet _ x) (c.alphabet_fits.ensures x (rw (l.props, c.count-count.ensures) refl) l.res) c.if-not-alphabet_fits.true))
 
 pub returns-then-not-logs_fit : goal.returns-then-not-logs_fit
 returns-then-not-logs_fit c = λ x h.
-    let t = settings_of c.args.s in
+    let t = settings_of c.args.job.settings in
     let a = told (is_outside single _) c.settings_fit.ensures c.if-not-settings_fit.false in
     let b = told (has_no_predictor _) c.any_usable.ensures c.if-not-any_usable.false in
     let l = lengths h in
     let d = told (is_uneven x) (c.shape_fits.ensures x l) c.if-not-shape_fits.false in
-    let none-bad = nothing-found (bad_row t c.args.logs.now x c.args.short) (row_is t c.args.logs.now x c.args.short d _ h.toks c.first_bad_row.ensures ∙ c.in_default.is) in
-    let e = up_to_4 t c.args.logs.now x c.args.short a b d none none-bad in
-    let f = told (is_short_alphabet _ x) (c.alphabet_fits.ensures x (rw l.props refl) l.res) c.if-not-alphabet_fits.false in
-    refuses _ 6 _ c.refused-then-not-logs_fit.ensures
-    (up_to_6 t c.args.logs.now x c.args.short e f (told (is_bad_logs single _ x) (c.logs_fit.ensures x (rw l.props refl)) c.if-not-logs_fit.true))
+    let none-bad = nothing-found (bad_row t c.args.job.logs.now x c.args.short) (row_is t c.args.job.logs.now x c.args.short d _ h.toks c.first_bad_row.ensures ∙ c.in_default.is) in
+    let e = up_to_4 t c.args.job.logs.now x c.args.short a b d none none-bad in
+    let f = told (is_short_alphabet _ x) (c.alphabet_fits.ensures x (rw (l.props, c.count-count.ensures) refl) l.res) c.if-not-alphabet_fits.false in
+    refuses (record { number = 6; place = 0 }) _
+    (up_to_6 t c.args.job.logs.now x c.args.short e f (told (is_bad_logs single _ x) (c.logs_fit.ensures x (rw (l.props, c.count-count.ensures) refl)) c.if-not-logs_fit.true))
 
 pub returns-then-rooms_fit-short : goal.returns-then-rooms_fit-short
 returns-then-rooms_fit-short c = λ x h.
-    let t = settings_of c.args.s in
+    let t = settings_of c.args.job.settings in
     let a = told (is_outside single _) c.settings_fit.ensures c.if-not-settings_fit.false in
     let b = told (has_no_predictor _) c.any_usable.ensures c.if-not-any_usable.false in
     let l = lengths h in
     let d = told (is_uneven x) (c.shape_fits.ensures x l) c.if-not-shape_fits.false in
-    let none-bad = nothing-found (bad_row t c.args.logs.now x c.args.short) (row_is t c.args.logs.now x c.args.short d _ h.toks c.first_bad_row.ensures ∙ c.in_default.is) in
-    let e = up_to_4 t c.args.logs.now x c.args.short a b d none none-bad in
-    let f = told (is_short_alphabet _ x) (c.alphabet_fits.ensures x (rw l.props refl) l.res) c.if-not-alphabet_fits.false in
-    let g = told (is_bad_logs single _ x) (c.logs_fit.ensures x (rw l.props refl)) c.if-not-logs_fit.false in
+    let none-bad = nothing-found (bad_row t c.args.job.logs.now x c.args.short) (row_is t c.args.job.logs.now x c.args.short d _ h.toks c.first_bad_row.ensures ∙ c.in_default.is) in
+    let e = up_to_4 t c.args.job.logs.now x c.args.short a b d none none-bad in
+    let f = told (is_short_alphabet _ x) (c.alphabet_fits.ensures x (rw (l.props, c.count-count.ensures) refl) l.res) c.if-not-alphabet_fits.false in
+    let g = told (is_bad_logs single _ x) (c.logs_fit.ensures x (rw (l.props, c.count-count.ensures) refl)) c.if-not-logs_fit.false in
     let roomy = ap (λ (b : Bool). b || c.args.short) (tested (is_short_of_room t x) (c.rooms_fit.ensures x h.rooms) refl) in
-    refuses _ 7 _ c.refused-then-rooms_fit-short.ensures (up_to_7 t c.args.logs.now x c.args.short e f g (roomy ∙ c.if-rooms_fit-short.true))
+    refuses (record { number = 7; place = 0 }) _ (up_to_7 t c.args.job.logs.now x c.args.short e f g (roomy ∙ c.if-rooms_fit-short.true))
 
 pub returns : goal.returns
 returns c = λ x h.
-    let t = settings_of c.args.s in
+    let t = settings_of c.args.job.settings in
     let a = told (is_outside single _) c.settings_fit.ensures c.if-not-settings_fit.false in
     let b = told (has_no_predictor _) c.any_usable.ensures c.if-not-any_usable.false in
     let l = lengths h in
     let d = told (is_uneven x) (c.shape_fits.ensures x l) c.if-not-shape_fits.false in
-    let none-bad = nothing-found (bad_row t c.args.logs.now x c.args.short) (row_is t c.args.logs.now x c.args.short d _ h.toks c.first_bad_row.ensures ∙ c.in_default.is) in
-    let e = up_to_4 t c.args.logs.now x c.args.short a b d none none-bad in
-    let f = told (is_short_alphabet _ x) (c.alphabet_fits.ensures x (rw l.props refl) l.res) c.if-not-alphabet_fits.false in
-    let g = told (is_bad_logs single _ x) (c.logs_fit.ensures x (rw l.props refl)) c.if-not-logs_fit.false in
+    let none-bad = nothing-found (bad_row t c.args.job.logs.now x c.args.short) (row_is t c.args.job.logs.now x c.args.short d _ h.toks c.first_bad_row.ensures ∙ c.in_default.is) in
+    let e = up_to_4 t c.args.job.logs.now x c.args.short a b d none none-bad in
+    let f = told (is_short_alphabet _ x) (c.alphabet_fits.ensures x (rw (l.props, c.count-count.ensures) refl) l.res) c.if-not-alphabet_fits.false in
+    let g = told (is_bad_logs single _ x) (c.logs_fit.ensures x (rw (l.props, c.count-count.ensures) refl)) c.if-not-logs_fit.false in
     let roomy = ap (λ (b : Bool). b || c.args.short) (tested (is_short_of_room t x) (c.rooms_fit.ensures x h.rooms) refl) in
-    rw (← h.props) (ap (check_of (row_count x)) (sym (up_to_7 t c.args.logs.now x c.args.short e f g (roomy ∙ c.if-rooms_fit-short.false))))
+    rw (c.count-count.ensures, ← h.props) (ap (λ (o : Option Refusal). outcome_of o (row_count x)) (sym (up_to_7 t c.args.job.logs.now x c.args.short e f g (roomy ∙ c.if-rooms_fit-short.false))))
 
 pub rooms_fit-requires : goal.rooms_fit-requires
 rooms_fit-requires c = in_range single _ (told (is_outside single _) c.settings_fit.ensures c.if-not-settings_fit.false)

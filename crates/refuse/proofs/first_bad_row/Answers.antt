@@ -1,20 +1,24 @@
--- The invariant: every token passed is below the alphabet. Assumes nothing.
-use mathlib.Core.Path.{sym, ap}
-use native.Mathlib.Omega.{arith}
-use borrow.Author.Count.{below_none, below_more}
+-- The first cell that is not below the alphabet stands in the row to name. Assumes nothing.
 use borrow.Author.Rules.{rules}
+use borrow.Author.Tests.{tests}
+use mathlib.Core.Path.{sym, ap, ◌∙◌}
+use Prim.Native.Nat.{ℕ, ◌≤◌, ◌<◌}
+use Rattle.std.specs.Prelude.{Option}
+use Rattle.std.proofs.lemmas.Iterator.{IsFirst-from_position, YieldsList-from_slice}
 use Rattle.refuse.specs.Given.{found_of}
-use Rattle.refuse.proofs.Scan.{bad_found, bad_none}
+use Rattle.refuse.proofs.Scan.{row-of, row_in}
 use Rattle.refuse.proofs.first_bad_row.Goals as goal
 
-pub loop-k-init : goal.loop-k-init
-loop-k-init c = (search rules, below_none _)
-
-pub returns-then-alphabet-tok : goal.returns-then-alphabet-tok
-returns-then-alphabet-tok c = ap found_of (sym (bad_found _ _ c.args.tok.now c.requires.whole c.loop-k-test.true c.loop-k.invariant.1 c.if-alphabet-tok.true))
-
-pub loop-k-preserved : goal.loop-k-preserved
-loop-k-preserved c = (search rules, below_more _ _ c.loop-k.invariant.1 c.if-alphabet-tok.false)
+pub returns-in_err-cell : goal.returns-in_err-cell
+returns-in_err-cell c =
+    let a = c.args.alphabet in
+    let toks = c.args.tok.now in
+    let first = IsFirst-from_position _ _ c.position.result (λ t. a ≤ t) (λ t. t < a) c.position.ensures.ran (YieldsList-from_slice toks cc) (λ x q k. search (rules, tests)) (λ x q k. search (rules, tests)) in
+    c.from_residual.ensures ∙ sym (ap found_of (row-of a toks c.position.result c.requires.whole first) ∙ ap (λ (o : Option ℕ). found_of (row_in o)) c.in_err-cell.was)
 
 pub returns : goal.returns
-returns c = ap found_of (sym (bad_none _ _ 0 _ (λ j h. c.loop-k.invariant.1 j (omega arith))))
+returns c =
+    let a = c.args.alphabet in
+    let toks = c.args.tok.now in
+    let first = IsFirst-from_position _ _ c.position.result (λ t. a ≤ t) (λ t. t < a) c.position.ensures.ran (YieldsList-from_slice toks cc) (λ x q k. search (rules, tests)) (λ x q k. search (rules, tests)) in
+    sym (ap found_of (row-of a toks c.position.result c.requires.whole first) ∙ ap (λ (o : Option ℕ). found_of (row_in o)) c.in_ok-cell.was)

@@ -1,26 +1,22 @@
--- The invariant: every entry passed, from 1 on, lies in its range. Assumes nothing.
-use mathlib.Core.Path.{sym, ap, ◌∙◌}
-use mathlib.Core.Bool.{not}
+-- Entries 1 to `rows` are tested, no others. Assumes nothing.
+use borrow.Author.Rules.{rules}
+use borrow.Author.Tests.{tests, le-ltb}
+use mathlib.Core.Path.{◌≡◌, sym, ap, ◌∙◌}
+use Prim.Native.Nat.{◌+◌, ◌-◌}
 use native.Mathlib.Omega.{arith}
-use borrow.Author.Count.{below_more}
-use Rattle.refuse.proofs.Scan.{logs-short, logs-found, logs-good}
+use mathlib.Core.Bool.{not}
+use Rattle.std.proofs.lemmas.Iterator.{YieldsList-from_slice}
+use Rattle.std.proofs.lemmas.Iterator.Search.{all_from_yields_List}
+use Rattle.model.specs.Lent.{row_count}
+use Rattle.refuse.specs.Accepted.{log_fits}
+use Rattle.refuse.proofs.Scan.{logs-short, logs-tested}
 use Rattle.refuse.proofs.logs_fit.Goals as goal
 
-pub returns-then-logs-rows : goal.returns-then-logs-rows
-returns-then-logs-rows c = λ x h. ap not (sym (logs-short _ x (rw h c.if-logs-rows.true)))
+pub returns-then-rows-logs : goal.returns-then-rows-logs
+returns-then-rows-logs c = λ x h.
+    let all = all_from_yields_List log_fits _ _ _ c.all.ensures.ran (YieldsList-from_slice _ c.iter.ensures.rest) (λ x b q k. search (rules, tests)) in
+    let count : c.args.rows + 1 - 1 ≡ row_count x = omega arith in
+    all ∙ rw count (logs-tested c.args.logs.now x (rw h c.if-rows-logs.true))
 
-pub loop-k-init : goal.loop-k-init
-loop-k-init c = (omega arith, omega arith, λ j h p. absurd (omega arith))
-
-pub returns-then-not-log_fits : goal.returns-then-not-log_fits
-returns-then-not-log_fits c = λ x h.
-    let k = c.loop-k.k in
-    let bad = c.if-not-log_fits.true in
-    ap not (sym (logs-found _ x (omega arith) k c.loop-k.invariant.0 (omega arith) (sym c.log_fits.ensures ∙ bad)))
-
-pub loop-k-preserved : goal.loop-k-preserved
-loop-k-preserved c = (omega arith, omega arith, below_more _ _ c.loop-k.invariant.2 (λ p. sym c.log_fits.ensures ∙ c.if-not-log_fits.false))
-
-pub returns : goal.returns
-returns c = λ x h.
-    ap not (sym (logs-good _ x (omega arith) (λ k p l. c.loop-k.invariant.2 k (omega arith) p)))
+pub returns-else-rows-logs : goal.returns-else-rows-logs
+returns-else-rows-logs c = λ x h. rw (le-ltb _ _ c.if-rows-logs.false) (ap not (sym (logs-short _ x (rw h c.if-rows-logs.false))))
