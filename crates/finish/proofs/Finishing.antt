@@ -1,7 +1,7 @@
 -- Pruning and settling on the lists are the model's. Assumes nothing.
 use mathlib.Core.Path.{◌≡◌, refl, sym, ap, ◌∙◌, subst}
 use mathlib.Core.Bool.{Bool, true, false, cond}
-use mathlib.Core.List.{List, [], ◌∷◌, ◌++◌, map, append-nil}
+use mathlib.Core.List.{List, [], ◌∷◌, map}
 use Prim.Native.Nat.{ℕ, ◌+◌, ◌-◌, ◌*◌, ◌/◌, ◌^◌, ◌≤◌, ◌<◌}
 use native.Mathlib.Omega.{arith}
 use lib.ListN.{length, get_or, replicate, length-map, length-append, length-replicate, get_or-replicate}
@@ -12,7 +12,8 @@ use Rattle.model.specs.Settings.{max_nodes}
 use Rattle.model.specs.Single.{singles}
 use Rattle.model.specs.Rows.{Row}
 use Rattle.model.specs.Tree.{Node, nodes_of}
-use Rattle.model.specs.Job.{Job, prunes}
+use Rattle.model.specs.Job as model
+use Rattle.model.specs.Job.{prunes}
 use Rattle.model.specs.Grow.{Entry, State, no_entry, record_of, tree_nodes, steps}
 use Rattle.model.specs.Profile.{job_of, single}
 use Rattle.model.specs.Prune.{pruned_tree, pruned_bits}
@@ -30,20 +31,24 @@ use Rattle.model.proofs.SingleLawful.{single-lawful}
 use Rattle.model.proofs.Sound.{Rooted}
 use Rattle.model.proofs.Tally.{tree-count}
 use Rattle.refuse.specs.Given.{settings_of}
-use Rattle.refuse.specs.declared.Settings.{Settings}
+use Rattle.refuse.specs.declared.Job.{Job}
 use Rattle.layout.specs.declared.Tree.{Tree}
-use Rattle.layout.specs.Tree.{laid, entry_words, NodeListsOf, NodeLists, holding}
+use Rattle.layout.specs.Records.{no_span_record, kind_at}
+use Rattle.layout.specs.Tree.{NodeLists, HasRoom, holding}
 use Rattle.lent.specs.declared.Finished.{Finished}
-use Rattle.lent.specs.Lists.{with_spans, record_words, record_values, record_costs, nodes_after, clear_queue}
+use Rattle.std.proofs.lemmas.Simd.{map-map}
+use Rattle.lent.specs.Lists.{node_written, span_written, nodes_after}
+use Rattle.queue.specs.Room.{cleared}
+use Rattle.queue.specs.declared.Queue.{Queue}
 use Rattle.mode.specs.Lent.{Clear}
-use Rattle.prune.specs.Held.{HoldsTree, Prunable, PrunedAs}
+use Rattle.prune.specs.Held.{HoldsTree}
 use Rattle.prune.proofs.Front.{front-held, front-room}
 use Rattle.settle.specs.Leaves.{HoldsLeaves}
 use Rattle.rows.specs.Flat.{Flat, held_in, row_count, SameSize, Changed}
 use Rattle.rows.proofs.Cells.{length-held}
 use Rattle.rows.proofs.Shapes.{size_same, size-then, count_still}
-use Rattle.layout.specs.Waiting.{QueueListsOf, QueueLists, SameQueue}
-use Rattle.layout.proofs.Held.{room-fewer}
+use Rattle.layout.specs.Waiting.{QueueLists, SameQueue}
+use Rattle.layout.proofs.Held.{holding-room, room-fewer}
 use Rattle.lent.specs.Fitting.{uses_of, Fitting}
 use Rattle.lent.specs.Grows.{job_in, Number, Grows}
 use Rattle.grow.specs.Grown.{GrownTo}
@@ -53,40 +58,17 @@ use Rattle.leaf.proofs.Making.{residuals-given, uses_still}
 
 -- ---- pruning, or not
 
-pub cut-pruned : (price : Float) (tree : List (Entry singles)) (bits : Float) (lent y : NodeLists) (r : Tree) → singles.less singles.nought price ≡ true
-    → PrunedAs price tree lent y r → Cut price tree bits lent y r
-cut-pruned price tree bits lent y r e p = record { lists = rw e p.lists; nodes = rw e p.nodes; bits_are = rw e p.bits }
-
-pub cut-kept : (price : Float) (tree : List (Entry singles)) (lent x : NodeLists) (r : Tree) → singles.less singles.nought price ≡ false
-    → HoldsTree x r.nodes price tree lent → Cut price tree r.bits lent x r
-cut-kept price tree lent x r e h =
-    let none : length tree - length tree ≡ 0 = omega arith in
-    record {
-      lists = rw (e, none, append-nil) h.lists;
-      nodes = rw e h.many;
-      bits_are = rw e;
-    }
-
 -- ---- the lists of a result
 
-laid-map : {D E A : Type 0} (part : E → List A) (f : D → E) (l : List D) → laid part (map f l) ≡ laid (λ (d : D). part (f d)) l
-laid-map part f [] = refl
-laid-map part f (d ∷ l) = ap (λ (r : List _). part (f d) ++ r) (laid-map part f l)
-
-with_spans_lem : {M : Meter} (es : List (Entry M))
-    → laid record_words (with_spans (map record_of es) (map (λ (e : Entry M). e.span) es)) ≡ laid entry_words es
-with_spans_lem [] = refl
-with_spans_lem (e ∷ es) = ap (λ (r : List ℕ). entry_words e ++ r) (with_spans_lem es)
-
-after-holding : {M : Meter} (f : State M) (written : ℕ) (flatly : M.Total) (lent : NodeListsOf M) → nodes_after (result_of f written flatly) lent ≡ holding (with_vacated written f.tree) lent
+after-holding : (f : State singles) (written : ℕ) (flatly : Float) (lent : NodeLists) → nodes_after (result_of f written flatly) lent ≡ holding (with_vacated written f.tree) lent
 unfolding nodes_after result_of holding
-after-holding {M} f written flatly lent =
+after-holding f written flatly lent =
     let es = with_vacated written f.tree in
-    rw (with_spans_lem es, laid-map record_values record_of es, laid-map record_costs record_of es)
+    rw (map-map node_written record_of es, map-map span_written (λ (e : Entry singles). e.span) es)
 
 -- ---- a state pruned and settled, field by field
 
-module _ {M : Meter} (j : Job M) (st : State M) where
+module _ {M : Meter} (j : model.Job M) (st : State M) where
   -- what pruning makes of it
   abbrev cut : State M
   cut = record { rows = st.rows; tree = pruned_tree j.price st.tree; bits = pruned_bits j.price st.tree }
@@ -150,13 +132,13 @@ leaves_are {M} es rooted some =
 
 -- ---- lists that hold a grown state
 
-module _ {s : Settings} {logs : List Float} {counts : List ℕ} {x : Flat} {n : NodeLists} {r : Tree} {lent : NodeLists} {st : State singles} {seeds : ℕ → Bool} {given : List Row}
-    (g : Grew s logs counts x n r lent st seeds given) where
-  abbrev j : Job singles
-  j = job_in s logs x
+module _ {job : Job} {counts : List ℕ} {x : Flat} {n : NodeLists} {r : Tree} {lent : NodeLists} {st : State singles} {seeds : ℕ → Bool} {given : List Row}
+    (g : Grew job counts x n r lent st seeds given) where
+  abbrev j : model.Job singles
+  j = job_in job x
 
   abbrev price : Float
-  price = s.prune_leaf_bits
+  price = job.settings.prune_leaf_bits
 
   abbrev tree : List (Entry singles)
   tree = st.tree
@@ -164,7 +146,7 @@ module _ {s : Settings} {logs : List Float} {counts : List ℕ} {x : Flat} {n : 
   abbrev new : List (Entry singles)
   new = cut_tree price tree
 
-  fitting : Fitting s logs counts x
+  fitting : Fitting job counts x
   fitting = g.grown.fitting
 
   some-nodes : 0 < length tree
@@ -182,9 +164,6 @@ module _ {s : Settings} {logs : List Float} {counts : List ℕ} {x : Flat} {n : 
     price_number = within_not_nan price (2 ^ 20) (price-within price fitting.settings.price);
   }
 
-  pub grew_prunable : Prunable n r.nodes price
-  grew_prunable = record { tree = tree; lent = lent; holds = grew-holds }
-
   pub clear-counts : Clear counts
   clear-counts = record {
     long = omega (arith, fitting.room);
@@ -192,8 +171,8 @@ module _ {s : Settings} {logs : List Float} {counts : List ℕ} {x : Flat} {n : 
   }
 
   -- the pruned tree is in order
-  cut_done : Done (uses_of s x) given (length tree) (pruned j st)
-  cut_done = pruned_done single-lawful.bounds j seeds given st g.inv g.healthy g.few (job-fits fitting (uses_of s x)).price_small
+  cut_done : Done (uses_of job.settings x) given (length tree) (pruned j st)
+  cut_done = pruned_done single-lawful.bounds j seeds given st g.inv g.healthy g.few (job-fits fitting (uses_of job.settings x)).price_small
 
   -- ---- settling: the leaves of what is left
 
@@ -201,26 +180,30 @@ module _ {s : Settings} {logs : List Float} {counts : List ℕ} {x : Flat} {n : 
   held-count = ap length (sym g.grown.rows) ∙ length-held x.props x.toks x.res
 
   module _ {m : NodeLists} {kept : Tree} (k : Cut price tree r.bits lent m kept) where
-    vacated : List (Entry singles)
-    vacated = replicate (length tree - length new) no_entry
-
     -- what the lists hold behind the tree
     abbrev pub behind : NodeLists
     behind = holding (with_vacated (length tree) new) lent
 
-    pub cut-leaves : HoldsLeaves m.words kept.nodes (uses_of s x) x new behind
+    pub cut-leaves : HoldsLeaves m kept.nodes (uses_of job.settings x) x new behind
     cut-leaves =
         let here = k.lists ∙ front-held new (replicate (length tree - length new) no_entry) lent in
         record {
-          words_are = ap (λ (l : NodeLists). l.words) here;
+          kinds = λ i h. ap (λ (l : NodeLists). kind_at l.nodes i) here;
+          spans = λ i h. ap (λ (l : NodeLists). get_or l.spans i no_span_record) here;
           room = front-room new (replicate (length tree - length new) no_entry) lent;
           many = k.nodes;
           shaped = fitting.shaped;
           few = fitting.few;
-          given = λ e. residuals-given s.modal_offsets x.res e;
+          given = λ e. residuals-given job.settings.modal_offsets x.res e;
           inside = λ i h lf. let b = subst (λ (es : List (Entry singles)). (a : ℕ) → a < length es → ((get_or es a no_entry).span.first ≤ (get_or es a no_entry).span.end) × ((get_or es a no_entry).span.end ≤ length (pruned j st).rows)) (pruned-tree j st) cut_done.placed.bounds i h in
               (b.0, omega (arith, b.1, ap length (pruned-rows j st), held-count));
         }
+
+    -- and there is room for it
+    pub kept-room : HasRoom kept.nodes m
+    kept-room =
+        let fewer : kept.nodes ≤ length tree = omega (arith, k.nodes, ap length (pruned-tree j st), cut_done.shorter) in
+        rw k.lists (holding-room (with_vacated (length tree) new) lent (room-fewer g.room fewer))
 
     few-kept : kept.nodes ≤ max_nodes
     few-kept = omega (arith, k.nodes, ap length (pruned-tree j st), cut_done.shorter, g.few)
@@ -232,10 +215,10 @@ module _ {s : Settings} {logs : List Float} {counts : List ℕ} {x : Flat} {n : 
     done-bits : (settled_state j (pruned j st)).bits ≡ cut_bits price tree st.bits
     done-bits = settled-bits j (pruned j st) ∙ pruned-bits j st
 
-    done-rows : (settled_state j (pruned j st)).rows ≡ cond s.settle (settled (uses_of s x) new (held_in x)) (held_in x)
+    done-rows : (settled_state j (pruned j st)).rows ≡ cond job.settings.settle (settled (uses_of job.settings x) new (held_in x)) (held_in x)
     done-rows =
-        settled-rows j (pruned j st) ∙ ap (λ (es : List (Entry singles)). cond s.settle (settled (uses_of s x) es (pruned j st).rows) (pruned j st).rows) (pruned-tree j st)
-        ∙ ap (λ (l : List Row). cond s.settle (settled (uses_of s x) new l) l) (pruned-rows j st ∙ sym g.grown.rows)
+        settled-rows j (pruned j st) ∙ ap (λ (es : List (Entry singles)). cond job.settings.settle (settled (uses_of job.settings x) es (pruned j st).rows) (pruned j st).rows) (pruned-tree j st)
+        ∙ ap (λ (l : List Row). cond job.settings.settle (settled (uses_of job.settings x) new l) l) (pruned-rows j st ∙ sym g.grown.rows)
 
     new-leaves : length new + 1 ≡ 2 * leaf_count (tree_nodes new)
     new-leaves =
@@ -252,7 +235,7 @@ module _ {s : Settings} {logs : List Float} {counts : List ℕ} {x : Flat} {n : 
         let grown = g.grown.counted in
         omega arith
 
-    pub finished-lists : {y : Flat} {f : Finished} (flatly : Float) → Changed (λ (rows : List Row). cond s.settle (settled (uses_of s x) new rows) rows) x y
+    pub finished-lists : {y : Flat} {f : Finished} (flatly : Float) → Changed (λ (rows : List Row). cond job.settings.settle (settled (uses_of job.settings x) new rows) rows) x y
         → f.nodes ≡ kept.nodes → f.written ≡ r.nodes → f.bits ≡ kept.bits → f.flat ≡ flatly → FinishedTo x y m f lent (finished j st flatly)
     unfolding finished result_of
     finished-lists {f = f} flatly changed nodes written bits same =
@@ -289,24 +272,24 @@ finished_from size f = record {
 }
 
 -- flat bits by another name
-pub flat-is : {x y : Flat} {n lent : NodeLists} {r : Finished} (j : Job singles) (st : State singles) {a b : Float} → a ≡ b
+pub flat-is : {x y : Flat} {n lent : NodeLists} {r : Finished} (j : model.Job singles) (st : State singles) {a b : Float} → a ≡ b
     → FinishedTo x y n r lent (finished j st a) → FinishedTo x y n r lent (finished j st b)
 flat-is {x} {y} {n} {lent} {r} j st e f = subst (λ (v : Float). FinishedTo x y n r lent (finished j st v)) e f
 
-module _ {s : Settings} {logs : List Float} {counts : List ℕ} {x : Flat} {n : NodeLists} {q : QueueLists} {tree : Tree} {more : ℕ} {lent : NodeLists} {st : State singles}
-    {seeds : ℕ → Bool} {given : List Row} (g : Grows s logs counts x n q tree more lent st seeds given) where
+module _ {job : Job} {counts : List ℕ} {x : Flat} {n : NodeLists} {q : Queue} {tree : Tree} {more : ℕ} {lent : NodeLists} {st : State singles}
+    {seeds : ℕ → Bool} {given : List Row} (g : Grows job counts x n q tree more lent st seeds given) where
   -- the state that has grown
   abbrev pub grown_state : State singles
-  grown_state = steps (job_in s logs x) more st
+  grown_state = steps (job_in job x) more st
 
   given-many : length given ≡ row_count x
   given-many = sym g.healthy.counted ∙ ap length (sym g.rows) ∙ length-held x.props x.toks x.res
 
   grown-healthy : Healthy SingleSmall seeds given grown_state × (length grown_state.tree ≤ length st.tree + 2 * more)
-  grown-healthy = steps-healthy single-lawful.bounds (job_in s logs x) given (subst (JobFits SingleSmall (job_in s logs x)) (sym given-many) (job-fits g.fitting (uses_of s x))) seeds more st g.inv g.healthy
+  grown-healthy = steps-healthy single-lawful.bounds (job_in job x) given (subst (JobFits SingleSmall (job_in job x)) (sym given-many) (job-fits g.fitting (uses_of job.settings x))) seeds more st g.inv g.healthy
 
-  module _ {y : Flat} {m : NodeLists} {r : Tree} (to : GrownTo s logs counts x y m r lent grown_state) (counts' : List ℕ) (same : counts' ≡ counts) where
-    pub grew_so : Grew s logs counts' y m r lent grown_state seeds given
+  module _ {y : Flat} {m : NodeLists} {r : Tree} (to : GrownTo job counts x y m r lent grown_state) (counts' : List ℕ) (same : counts' ≡ counts) where
+    pub grew_so : Grew job counts' y m r lent grown_state seeds given
     grew_so = record {
       grown = record {
         rows = to.rows;
@@ -314,20 +297,19 @@ module _ {s : Settings} {logs : List Float} {counts : List ℕ} {x : Flat} {n : 
         nodes = to.nodes;
         counted = to.counted;
         summed = to.summed;
-        fitting = subst (λ (c : List ℕ). Fitting s logs c y) (sym same) to.fitting;
+        fitting = subst (λ (c : List ℕ). Fitting job c y) (sym same) to.fitting;
       };
       room = room-fewer g.room grown-healthy.1;
       few = omega (arith, grown-healthy.1, g.few);
-      inv = subst (λ (u : Bool). Invariant u seeds given grown_state) (uses_still s to.size) (steps-keep (job_in s logs x) seeds given more st g.inv);
+      inv = subst (λ (u : Bool). Invariant u seeds given grown_state) (uses_still job.settings to.size) (steps-keep (job_in job x) seeds given more st g.inv);
       healthy = grown-healthy.0;
-      sized = subst (λ (k : ℕ). Sized Number k grown_state) (sym (count_still to.size)) (steps-sized Number (row_count x) (job_in s logs x) nought-number (evaluated_number g.fitting) more st g.sized);
+      sized = subst (λ (k : ℕ). Sized Number k grown_state) (sym (count_still to.size)) (steps-sized Number (row_count x) (job_in job x) nought-number (evaluated_number g.fitting) more st g.sized);
     }
 
     -- what is finished from there
-    pub finished_so : {z : Flat} {l : NodeLists} {f : Finished} (flatly : Float) → FinishedTo y z l f lent (finished (job_in s logs y) grown_state flatly) → FinishedTo x z l f lent (finished (job_in s logs x) grown_state flatly)
+    pub finished_so : {z : Flat} {l : NodeLists} {f : Finished} (flatly : Float) → FinishedTo y z l f lent (finished (job_in job y) grown_state flatly) → FinishedTo x z l f lent (finished (job_in job x) grown_state flatly)
     finished_so {z} {l} {f} flatly e =
-        finished_from to.size (subst (λ (u : Bool). FinishedTo y z l f lent (finished (job_of single (settings_of s) logs u) grown_state flatly)) (sym (uses_still s to.size)) e)
+        finished_from to.size (subst (λ (u : Bool). FinishedTo y z l f lent (finished (job_of single (settings_of job.settings) job.logs.now u) grown_state flatly)) (sym (uses_still job.settings to.size)) e)
 
-pub clear-same : {M : Meter} {q p : QueueListsOf M} → SameQueue q p → clear_queue p ≡ clear_queue q
-unfolding clear_queue
+pub clear-same : {q p : QueueLists} → SameQueue q p → cleared p ≡ cleared q
 clear-same s = rw (s.words, s.values, s.gains)

@@ -12,12 +12,13 @@ use Rattle.rows.specs.Flat.{Flat, Shaped, flat_of, has_residuals}
 use Rattle.rows.proofs.Whole.{flat-changed}
 use Rattle.lent.specs.declared.Finished.{Finished}
 use Rattle.lent.specs.Answer.{LearnedAs}
-use Rattle.lent.specs.Lists.{Lists, lists, clear_queue, lists_after}
+use Rattle.lent.specs.Lists.{Lists, lists, lists_after}
+use Rattle.queue.specs.Room.{cleared}
 use Rattle.finish.specs.Finished.{FinishedTo}
 
 -- list by list
 pub made-lists : (x : Lists) (made : Result singles) (y : Flat) (n : NodeLists) (q : QueueLists) (counts : List ℕ) (r : Finished) → Shaped x.rows → FinishedTo x.rows y n r x.nodes made
-    → q ≡ clear_queue x.queue → counts ≡ replicate (length x.counts) 0 → lists y n q counts ≡ lists_after made x
+    → q ≡ cleared x.queue → counts ≡ replicate (length x.counts) 0 → lists y n q counts ≡ lists_after made x
 unfolding lists_after
 made-lists x made y n q counts r shaped f queue zeros =
     let rows : y ≡ flat_of (has_residuals x.rows) made.rows = flat-changed {f = λ (l : List Row). made.rows} shaped (record { rows = f.rows; size = f.size }) in

@@ -1,5 +1,5 @@
 -- What finishing makes of a grown tree: pruning if the price is above 0, settling if it is asked for (document 01, "Pruning"). Assumes nothing.
-use Rattle.std.specs.Prelude.{ℕ, ◌+◌, ◌-◌, ◌/◌, ◌≤◌, ◌≡◌, Bool, cond, List, ◌++◌, length, replicate, ℤ, Float}
+use Rattle.std.specs.Prelude.{ℕ, ◌+◌, ◌-◌, ◌/◌, ◌≤◌, ◌≡◌, Bool, cond, List, ◌++◌, length, replicate, Float}
 use Rattle.model.specs.Meter.{Meter}
 use Rattle.model.specs.Settings.{max_nodes}
 use Rattle.model.specs.Single.{singles}
@@ -9,12 +9,12 @@ use Rattle.model.specs.Prune.{pruned_tree, pruned_bits}
 use Rattle.model.specs.Learn.{Result}
 use Rattle.model.specs.Accepting.{SingleSmall}
 use Rattle.model.specs.Kept.{Invariant, Healthy, Sized}
-use Rattle.refuse.specs.declared.Settings.{Settings}
+use Rattle.refuse.specs.declared.Job.{Job}
 use Rattle.layout.specs.declared.Tree.{Tree}
 use Rattle.layout.specs.Tree.{NodeLists, holding, HasRoom}
 use Rattle.lent.specs.declared.Finished.{Finished}
 use Rattle.lent.specs.Lists.{nodes_after}
-use Rattle.rows.specs.Flat.{Flat, flat, held_in, row_count, SameSize}
+use Rattle.rows.specs.Flat.{Flat, held_in, row_count, SameSize}
 use Rattle.lent.specs.Fitting.{uses_of}
 use Rattle.lent.specs.Grows.{Number}
 use Rattle.grow.specs.Grown.{GrownTo}
@@ -36,23 +36,22 @@ pub record Cut (price : Float) (tree : List (Entry singles)) (bits : Float) (len
   pub bits_are : r.bits ≡ cut_bits price tree bits
 
 -- The lists hold a grown state: what growth leaves, with what growth keeps
-pub record Grew (s : Settings) (logs : List Float) (counts : List ℕ) (x : Flat) (lists : NodeLists) (r : Tree) (lent : NodeLists) (st : State singles) (seeds : ℕ → Bool) (given : List Row) : Type 0 where
-  pub grown : GrownTo s logs counts x x lists r lent st
+pub record Grew (job : Job) (counts : List ℕ) (x : Flat) (lists : NodeLists) (r : Tree) (lent : NodeLists) (st : State singles)
+    (seeds : ℕ → Bool) (given : List Row) : Type 0 where
+  pub grown : GrownTo job counts x x lists r lent st
   pub room : HasRoom (length st.tree) lent
   pub few : length st.tree ≤ max_nodes
-  pub inv : Invariant (uses_of s x) seeds given st
+  pub inv : Invariant (uses_of job.settings x) seeds given st
   pub healthy : Healthy SingleSmall seeds given st
   pub sized : Sized Number (row_count x) st
 
--- there is such a state, whatever properties the rows have
-pub record Finishable (s : Settings) (tok : List ℕ) (res : List ℤ) (lists : NodeLists) (counts : List ℕ) (r : Tree) : Type 0 where
-  pub props : List ℤ
-  pub logs : List Float
+-- there is such a state
+pub record Finishable (job : Job) (counts : List ℕ) (x : Flat) (lists : NodeLists) (r : Tree) : Type 0 where
   pub lent : NodeLists
   pub state : State singles
   pub seeds : ℕ → Bool
   pub given : List Row
-  pub grew : Grew s logs counts (flat props tok res) lists r lent state seeds given
+  pub grew : Grew job counts x lists r lent state seeds given
 
 -- y holds the rows, the lists the nodes and spans, and r counts and bits; there is one leaf more than splits
 pub record FinishedTo (x y : Flat) (lists : NodeLists) (r : Finished) (lent : NodeLists) (made : Result singles) : Type 0 where

@@ -2,95 +2,89 @@
 // "Growth" and "Pruning").
 #![tactic(auto)]
 
-ghost use Rattle.std.specs.Prelude.{◌≡◌, Bool, cond, List, ℕ, ℤ, Float};
+ghost use Rattle.std.specs.Prelude.{◌≡◌, Bool, cond, List, ℕ};
 ghost use Rattle.model.specs.Single.{singles};
 ghost use Rattle.model.specs.Rows.{Row};
 ghost use Rattle.model.specs.Grow.{Entry, State, steps};
 ghost use Rattle.model.specs.Settle.{settled};
 ghost use Rattle.model.specs.Learn.{finished};
-ghost use Rattle.layout.specs.Tree.{NodeLists, node_lists};
-ghost use Rattle.layout.specs.Waiting.{queue_lists};
-ghost use Rattle.lent.specs.Lists.{clear_queue};
-ghost use Rattle.rows.specs.Flat.{flat, Changed};
+ghost use Rattle.layout.specs.Lent.{lists_in, SameNodesLent};
+ghost use Rattle.layout.specs.Tree.{NodeLists};
+ghost use Rattle.queue.specs.Lent.{queue_in};
+ghost use Rattle.queue.specs.Room.{cleared};
+ghost use Rattle.rows.specs.Flat.{Changed};
+ghost use Rattle.rows.specs.Lent.{flat_in, SameRowsLent};
 ghost use Rattle.prune.specs.Held.{HoldsTree, Prunable};
 ghost use Rattle.settle.specs.Leaves.{HoldsLeaves, Settleable};
 ghost use Rattle.lent.specs.Grows.{job_in, Grows, Growable};
+ghost use Rattle.lent.specs.Lent.{SameLent};
 ghost use Rattle.finish.specs.Finished.{Cut, Grew, Finishable, FinishedTo};
 
-use layout::Tree;
+use layout::{Nodes, Tree};
 use lent::Finished;
-use refuse::Settings;
+use queue::Queue;
+use refuse::Job;
+use rows::Rows;
 
 // Prunes if the price is above 0.
-fn prune_if(
-    words: &mut [u32],
-    values: &mut [i32],
-    costs: &mut [f32],
-    grown: Tree,
-    price: f32,
-) -> Tree
-    requires { Prunable (node_lists words.old values.old costs.old) grown.nodes price }
-    ensures { (tree : List (Entry singles)) (lent : NodeLists)
-        → HoldsTree (node_lists words.old values.old costs.old) grown.nodes price tree lent
-        → Cut price tree grown.bits lent (node_lists words.new values.new costs.new) result }
+// Stays: a function of its own, since what the branch leaves would be lost where it joins before the next call.
+fn prune_if(at: &mut Nodes, grown: Tree, price: f32) -> Tree
+    requires { Prunable (lists_in at.old) grown.nodes price }
+    ensures lent { SameNodesLent at.old at.new }
+    ensures cut { (tree : List (Entry singles)) (lent : NodeLists)
+        → HoldsTree (lists_in at.old) grown.nodes price tree lent
+        → Cut price tree grown.bits lent (lists_in at.new) result }
 {
     if 0.0 < price {
-        return prune::prune_tree(words, values, costs, grown.nodes, price);
+        return prune::prune_tree(at, grown.nodes, price);
     }
     grown
 }
 
 // Repeats the mode step on each leaf's span, if it is asked for.
+// Stays: the caller's lists have room for the largest tree, so how many nodes are the tree's goes beside them.
+// Whether modes are in use is a fact of the job.
 fn settle_if(
-    tok: &mut [u8],
-    res: &[i32],
-    words: &[u32],
+    rows: &mut Rows,
+    at: &Nodes,
     counts: &mut [u32],
     settle: bool,
     count: usize,
     uses: bool,
 )
-    requires { Settleable words.now count uses tok.old res.now counts.old }
-    ensures rows { (tree : List (Entry singles)) (lent : NodeLists) (props : List ℤ)
-        → HoldsLeaves words.now count uses (flat props tok.old res.now) tree lent
-        → Changed (λ rows. cond settle (settled uses tree rows) rows)
-        (flat props tok.old res.now)
-        (flat props tok.new res.now) }
+    requires { Settleable (lists_in at.now) count uses (flat_in rows.old) counts.old }
+    ensures lent { SameRowsLent rows.old rows.new }
+    ensures rows { (tree : List (Entry singles)) (lent : NodeLists)
+        → HoldsLeaves (lists_in at.now) count uses (flat_in rows.old) tree lent
+        → Changed (λ all. cond settle (settled uses tree all) all) (flat_in rows.old) (flat_in rows.new) }
     ensures zeros { counts.new ≡ counts.old }
 {
     if settle {
-        settle::settle_leaves(tok, res, words, counts, count, uses);
+        settle::settle_leaves(rows, at, counts, count, uses);
     }
 }
 
 // Prunes and settles what has grown.
 fn finish_tree(
-    tok: &mut [u8],
-    res: &[i32],
-    words: &mut [u32],
-    values: &mut [i32],
-    costs: &mut [f32],
+    rows: &mut Rows,
+    at: &mut Nodes,
     counts: &mut [u32],
-    s: Settings,
+    job: Job,
     grown: Tree,
     flat_bits: f64,
 ) -> Finished
-    requires { Finishable s tok.old res.now (node_lists words.old values.old costs.old) counts.old grown }
-    ensures finished { (props : List ℤ) (logs : List Float) (lent : NodeLists)
-        (st : State singles) (seeds : ℕ → Bool) (given : List Row)
-        → Grew s logs counts.old
-        (flat props tok.old res.now)
-        (node_lists words.old values.old costs.old) grown lent st seeds given
-        → FinishedTo
-        (flat props tok.old res.now)
-        (flat props tok.new res.now)
-        (node_lists words.new values.new costs.new) result lent
-        (finished (job_in s logs (flat props tok.old res.now)) st flat_bits) }
+    requires { Finishable job counts.old (flat_in rows.old) (lists_in at.old) grown }
+    ensures lent { SameRowsLent rows.old rows.new × SameNodesLent at.old at.new }
+    ensures finished { (lent : NodeLists) (st : State singles) (seeds : ℕ → Bool) (given : List Row)
+        → Grew job.entry counts.old (flat_in rows.old) (lists_in at.old) grown lent st seeds given
+        → FinishedTo (flat_in rows.old) (flat_in rows.new) (lists_in at.new) result lent
+        (finished (job_in job.entry (flat_in rows.old)) st flat_bits) }
     ensures zeros { counts.new ≡ counts.old }
 {
-    let kept = prune_if(words, values, costs, grown, s.prune_leaf_bits);
-    let uses = s.modal_offsets & (0 < res.len());
-    settle_if(tok, res, words, counts, s.settle, kept.nodes, uses);
+    let s = job.settings;
+    let kept = prune_if(at, grown, s.prune_leaf_bits);
+    let uses = s.modal_offsets & rows.has_residuals();
+    settle_if(rows, at, counts, s.settle, kept.nodes, uses);
     Finished {
         nodes: kept.nodes,
         written: grown.nodes,
@@ -99,70 +93,32 @@ fn finish_tree(
     }
 }
 
-// Nothing waits any more.
-fn clear_queue(words: &mut [u32], values: &mut [i32], gains: &mut [f32])
-    ensures { queue_lists words.new values.new gains.new
-        ≡ clear_queue (queue_lists words.old values.old gains.old) }
-{
-    lists::clear_u32(words);
-    lists::clear_i32(values);
-    lists::clear_f32(gains);
-}
-
-// Grows the tree by at most `more` splits, and finishes it.
+// Grows the tree by at most `more` splits, and finishes it. Nothing waits any more.
+// Stays: what a function takes is lent on part by part, rows and counts to one call, nodes to the next, so one
+// struct of all would be taken apart at each.
 pub fn grow_and_finish(
-    props: &mut [i32],
-    tok: &mut [u8],
-    res: &mut [i32],
-    words: &mut [u32],
-    values: &mut [i32],
-    costs: &mut [f32],
-    queue_words: &mut [u32],
-    queue_values: &mut [i32],
-    queue_gains: &mut [f32],
+    rows: &mut Rows,
+    at: &mut Nodes,
+    queue: &mut Queue,
     counts: &mut [u32],
-    logs: &[f32],
-    s: Settings,
+    job: Job,
     tree: Tree,
     more: usize,
     flat_bits: f64,
 ) -> Finished
-    requires { Growable s logs.now counts.old (flat props.old tok.old res.old)
-        (node_lists words.old values.old costs.old)
-        (queue_lists queue_words.old queue_values.old queue_gains.old) tree more }
+    requires { Growable job counts.old (flat_in rows.old) (lists_in at.old) queue.old tree more }
+    ensures lent { SameLent rows.old rows.new at.old at.new queue.old queue.new }
     ensures finished { (lent : NodeLists) (st : State singles) (seeds : ℕ → Bool) (given : List Row)
-        → Grows s logs.now counts.old
-        (flat props.old tok.old res.old)
-        (node_lists words.old values.old costs.old)
-        (queue_lists queue_words.old queue_values.old queue_gains.old) tree more lent st seeds given
-        → FinishedTo
-        (flat props.old tok.old res.old)
-        (flat props.new tok.new res.new)
-        (node_lists words.new values.new costs.new) result lent
-        (finished (job_in s logs.now (flat props.old tok.old res.old))
-        (steps (job_in s logs.now (flat props.old tok.old res.old)) more st)
-        flat_bits) }
+        → Grows job.entry counts.old (flat_in rows.old) (lists_in at.old) queue.old tree more
+        lent st seeds given
+        → FinishedTo (flat_in rows.old) (flat_in rows.new) (lists_in at.new) result lent
+        (finished (job_in job.entry (flat_in rows.old))
+        (steps (job_in job.entry (flat_in rows.old)) more st) flat_bits) }
     ensures zeros { counts.new ≡ counts.old }
-    ensures queue { queue_lists queue_words.new queue_values.new queue_gains.new
-        ≡ clear_queue (queue_lists queue_words.old queue_values.old queue_gains.old) }
+    ensures queue { queue_in queue.new ≡ cleared (queue_in queue.old) }
 {
-    let grown = grow::grow_tree(
-        props,
-        tok,
-        res,
-        words,
-        values,
-        costs,
-        queue_words,
-        queue_values,
-        queue_gains,
-        counts,
-        logs,
-        s,
-        tree,
-        more,
-    );
-    let made = finish_tree(tok, res, words, values, costs, counts, s, grown, flat_bits);
-    clear_queue(queue_words, queue_values, queue_gains);
+    let grown = grow::grow_tree(rows, at, queue, counts, job, tree, more);
+    let made = finish_tree(rows, at, counts, job, grown, flat_bits);
+    queue.clear();
     made
 }

@@ -7,14 +7,15 @@ use native.Mathlib.Omega.{arith}
 use lib.ListN.{length, take, drop, length-append}
 use lib.Seq.{slice, take_at, drop_at, length-take-le}
 use lib.IntN.{ℤ}
-use lib.Ieee.{Float}
 use Rattle.model.specs.Rows.{Row, is_above, within}
 use Rattle.model.specs.Mode.{span_mode, fresh}
 use Rattle.model.specs.Partition.{above_rows, other_rows}
 use Rattle.model.proofs.Fresh.{span_mode-fresh, length-fresh}
 use Rattle.refuse.specs.Given.{settings_of}
-use Rattle.refuse.specs.declared.Settings.{Settings}
+use Rattle.refuse.specs.declared.Job.{Job}
 use Rattle.layout.specs.declared.Leaf.{Leaf}
+use Rattle.layout.specs.declared.Span as layout
+use Rattle.layout.specs.Records.{span_is}
 use Rattle.rows.specs.Cells.{span}
 use Rattle.rows.specs.Flat.{Flat, held_in}
 use Rattle.rows.specs.Parted.{Partitioned, parted}
@@ -56,13 +57,13 @@ module _ {A : Type 0} (f : List A → List A) (p a b d : List A) (first at end :
       rw (slice_third, front, back)
 
 -- ---- the parts of a split, one after the other: x is partitioned into y, gt made in y leaves `mid`, le made in `mid` leaves z
-module _ {s : Settings} {logs : List Float} {counts : List ℕ} {prop at : ℕ} {val : ℤ} {first end : ℕ} {x y : Flat}
-    (fits : RowsFit s logs counts prop (span first end) x) (done : Partitioned prop val (span first end) x y at) where
-  pub gt-fits : LeafFits y first at s logs counts
+module _ {job : Job} {counts : List ℕ} {prop at : ℕ} {val : ℤ} {first end : ℕ} {x y : Flat}
+    (fits : RowsFit job counts prop (span first end) x) (done : Partitioned prop val (span first end) x y at) where
+  pub gt-fits : LeafFits y first at job counts
   gt-fits = record { fitting = parted-fitting fits.fitting done; spanned = gt-spanned fits.divisible done }
 
-  module _ {scored : Bool} {depth : ℕ} {mid : Flat} {gt : Leaf} (gt-made : MadeLeaf scored s logs depth (span first at) y mid gt) where
-    pub le-fits : LeafFits mid at end s logs counts
+  module _ {scored : Bool} {depth : ℕ} {mid : Flat} {gt : Leaf} (gt-made : MadeLeaf scored job depth (span first at) y mid gt) where
+    pub le-fits : LeafFits mid at end job counts
     le-fits =
         let was = le-spanned fits.divisible done in
         let size = gt-made.changed.size in
@@ -71,12 +72,12 @@ module _ {s : Settings} {logs : List Float} {counts : List ℕ} {prop at : ℕ} 
           spanned = record { shaped = shaped_still size was.shaped; ordered = was.ordered; inside = omega (arith, count_still size, was.inside) };
         }
 
-    module _ {z : Flat} {le : Leaf} (le-made : MadeLeaf scored s logs depth (span at end) mid z le) where
+    module _ {z : Flat} {le : Leaf} (le-made : MadeLeaf scored job depth (span at end) mid z le) where
       abbrev rows : List Row
       rows = held_in x
 
       abbrev uses : Bool
-      uses = uses_of s x
+      uses = uses_of job.settings x
 
       abbrev above : List Row
       above = above_rows (is_above prop val) (within (span first end) rows)
@@ -100,11 +101,11 @@ module _ {s : Settings} {logs : List Float} {counts : List ℕ} {prop at : ℕ} 
       unfolding parted
       rows-y = done.changed.rows
 
-      uses-y : uses_of s y ≡ uses
-      uses-y = sym (uses_still s done.changed.size)
+      uses-y : uses_of job.settings y ≡ uses
+      uses-y = sym (uses_still job.settings done.changed.size)
 
-      uses-mid : uses_of s mid ≡ uses
-      uses-mid = sym (uses_still s gt-made.changed.size) ∙ uses-y
+      uses-mid : uses_of job.settings mid ≡ uses
+      uses-mid = sym (uses_still job.settings gt-made.changed.size) ∙ uses-y
 
       rows-mid : held_in mid ≡ take first rows ++ fresh uses above ++ others ++ drop end rows
       rows-mid =
@@ -128,18 +129,20 @@ module _ {s : Settings} {logs : List Float} {counts : List ℕ} {prop at : ℕ} 
       le-mine = ap (within (span at end)) rows-mid ∙ slice_third (fresh uses) (take first rows) (fresh uses above) others (drop end rows) first at end front fresh-end le-end
 
       -- what was evaluated, with the flag and the rows told in x's terms
-      told : {r : Leaf} (u : Bool) (mine known : List Row) → u ≡ uses → mine ≡ known → Evaluated r scored (settings_of s) logs (span_mode u mine) depth (fresh u mine)
-          → Evaluated r scored (settings_of s) logs (span_mode uses (fresh uses known)) depth (fresh uses known)
+      told : {r : Leaf} (u : Bool) (mine known : List Row) → u ≡ uses → mine ≡ known → Evaluated r scored (settings_of job.settings) job.logs.now (span_mode u mine) depth (fresh u mine)
+          → Evaluated r scored (settings_of job.settings) job.logs.now (span_mode uses (fresh uses known)) depth (fresh uses known)
       told {r} u mine known p q e =
-          subst (λ (m : ℤ). Evaluated r scored (settings_of s) logs m depth (fresh uses known)) (sym (span_mode-fresh uses known))
-          (subst (λ (l : List Row). Evaluated r scored (settings_of s) logs (span_mode uses l) depth (fresh uses l)) q
-          (subst (λ (b : Bool). Evaluated r scored (settings_of s) logs (span_mode b mine) depth (fresh b mine)) p e))
+          subst (λ (m : ℤ). Evaluated r scored (settings_of job.settings) job.logs.now m depth (fresh uses known)) (sym (span_mode-fresh uses known))
+          (subst (λ (l : List Row). Evaluated r scored (settings_of job.settings) job.logs.now (span_mode uses l) depth (fresh uses l)) q
+          (subst (λ (b : Bool). Evaluated r scored (settings_of job.settings) job.logs.now (span_mode b mine) depth (fresh b mine)) p e))
 
-      pub rows_split : RowsSplit scored s logs counts depth prop val (span first end) x z (record { at = at; gt = gt; le = le })
-      rows_split = record {
-        at = sym fresh-end;
+      pub rows_split : (a b : layout.Span) → span_is a ≡ span first at → span_is b ≡ span at end
+          → RowsSplit scored job counts depth prop val (span first end) x z (record { gt = record { span = a; leaf = gt }; le = record { span = b; leaf = le } })
+      rows_split a b front-is back-is = record {
+        gt_rows = front-is ∙ ap (span first) (sym fresh-end);
+        le_rows = back-is ∙ ap (λ (m : ℕ). span m end) (sym fresh-end);
         changed = record { rows = rows-z; size = size-then done.changed.size (size-then gt-made.changed.size le-made.changed.size) };
-        gt = told (uses_of s y) (within (span first at) (held_in y)) above uses-y gt-mine gt-made.leaf;
-        le = told (uses_of s mid) (within (span at end) (held_in mid)) others uses-mid le-mine le-made.leaf;
+        gt = told (uses_of job.settings y) (within (span first at) (held_in y)) above uses-y gt-mine gt-made.leaf;
+        le = told (uses_of job.settings mid) (within (span at end) (held_in mid)) others uses-mid le-mine le-made.leaf;
         fitting = made-fitting le-fits.fitting le-made;
       }

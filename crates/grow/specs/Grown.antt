@@ -1,29 +1,29 @@
 -- One split to make, and what growth leaves (document 01, "Growth"). Assumes nothing.
-use Rattle.std.specs.Prelude.{ℕ, ◌<◌, ◌≡◌, List, length, Float}
+use Rattle.std.specs.Prelude.{ℕ, ◌+◌, ◌<◌, ◌≡◌, List, length}
 use Rattle.model.specs.Single.{singles}
 use Rattle.model.specs.Grow.{State}
-use Rattle.refuse.specs.declared.Settings.{Settings}
+use Rattle.refuse.specs.declared.Job.{Job}
 use Rattle.layout.specs.declared.Tree.{Tree}
 use Rattle.layout.specs.Tree.{NodeLists, holding}
-use Rattle.layout.specs.Waiting.{QueueLists, first_best}
+use Rattle.layout.specs.Waiting.{first_best}
+use Rattle.queue.specs.declared.Queue.{Queue}
 use Rattle.rows.specs.Flat.{Flat, held_in, SameSize}
 use Rattle.lent.specs.Fitting.{Fitting}
 use Rattle.lent.specs.Grows.{Growable}
 
--- place k of the queue has the greatest gain, and there is one more split to make
-pub record Splits (s : Settings) (logs : List Float) (counts : List ℕ) (x : Flat) (lists : NodeLists) (q : QueueLists)
+-- place k of the queue has the greatest gain, and there is one split to make, with `left` more to follow
+pub record Splits (job : Job) (counts : List ℕ) (x : Flat) (lists : NodeLists) (q : Queue)
     (tree : Tree) (left k : ℕ) : Type 0 where
-  pub growable : Growable s logs counts x lists q tree left
-  pub one_more : 0 < left
-  pub some_wait : 0 < tree.waiting
-  pub best : k ≡ first_best q.gains tree.waiting
+  pub growable : Growable job counts x lists q tree (left + 1)
+  pub some_wait : 0 < q.waiting
+  pub best : k ≡ first_best q.gains.now q.waiting
 
 -- what the lists hold at exit
-pub record GrownTo (s : Settings) (logs : List Float) (counts : List ℕ) (x y : Flat) (lists : NodeLists) (r : Tree)
+pub record GrownTo (job : Job) (counts : List ℕ) (x y : Flat) (lists : NodeLists) (r : Tree)
     (lent : NodeLists) (st : State singles) : Type 0 where
   pub rows : held_in y ≡ st.rows
   pub size : SameSize x y
   pub nodes : lists ≡ holding st.tree lent
   pub counted : r.nodes ≡ length st.tree
   pub summed : r.bits ≡ st.bits
-  pub fitting : Fitting s logs counts y
+  pub fitting : Fitting job counts y

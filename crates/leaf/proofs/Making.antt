@@ -10,21 +10,20 @@ use borrow.Author.Tests.{ltb-true}
 use lib.IntN.{ℤ}
 use lib.ListN.{length, get_or, set, length-set}
 use lib.Seq.{slice, length-slice, get_or-set_same, get_or-set_other}
-use lib.Ieee.{Float}
 use Rattle.model.specs.Lists.{is_empty}
 use Rattle.model.specs.Settings.{props_per_row, toks_per_row}
 use Rattle.model.specs.Rows.{Row, Span, within}
 use Rattle.model.specs.Mode.{zero_token, span_mode}
 use Rattle.model.proofs.Tests.{and-true}
-use Rattle.model.proofs.Vacated.{get_d_blank}
 use Rattle.refuse.specs.Given.{settings_of}
 use Rattle.refuse.proofs.Ranges.{given}
 use Rattle.refuse.specs.declared.Settings.{Settings}
+use Rattle.refuse.specs.declared.Job.{Job}
 use Rattle.cost.specs.Counted.{LogsReach}
 use Rattle.cost.proofs.Bridge.{logs-fewer}
 use Rattle.layout.specs.declared.Leaf.{Leaf}
 use Rattle.mode.specs.Column.{rezeroed, mode_at, step_mode, step_tokens}
-use Rattle.mode.specs.Lent.{Inside, Clear, Steppable, LowTokens}
+use Rattle.mode.specs.Lent.{Inside, LowTokens}
 use Rattle.mode.proofs.Stepped.{step-mode, step-rows}
 use Rattle.rows.specs.Cells.{span}
 use Rattle.rows.specs.Flat.{Flat, flat, held_in, row_count, Spanned, SameSize, Changed}
@@ -33,17 +32,14 @@ use Rattle.rows.proofs.Cells.{length-held}
 use Rattle.rows.proofs.Shapes.{shaped_still, count_still, residuals_still}
 use Rattle.evaluate.specs.Evaluated.{Evaluated, Evaluable}
 use Rattle.lent.specs.Fitting.{uses_of, Fitting}
+use Rattle.settle.specs.Leaves.{stepped as after}
+use Rattle.settle.proofs.Settling.{stepped-size}
 use Rattle.leaf.specs.Made.{settled_at, MadeLeaf}
 
 pub residuals-given : (modal : Bool) (l : List ℤ) → (modal && not (is_empty l)) ≡ true → 0 < length l
 residuals-given modal l e = ltb-true 0 (length l) (sym (given l) ∙ (and-true modal (not (is_empty l)) e).1)
 
 -- ---- zero tokens made anew
-
-length-rezeroed : (m : ℤ) (i : ℕ) (vs : List ℤ) (tok : List ℕ) → length (rezeroed m i vs tok) ≡ length tok
-unfolding rezeroed
-length-rezeroed m i [] tok = refl
-length-rezeroed m i (v ∷ vs) tok = length-rezeroed m (suc i) vs (set tok (i * toks_per_row) (zero_token m v)) ∙ length-set tok (i * toks_per_row) (zero_token m v)
 
 rezeroed-before : (m : ℤ) (i k : ℕ) (vs : List ℤ) (tok : List ℕ) → k < i * 14 → get_or (rezeroed m i vs tok) k 0 ≡ get_or tok k 0
 unfolding rezeroed
@@ -79,16 +75,16 @@ rezeroed-below m i (v ∷ vs) tok a h room before low k lt =
 
 -- ---- a span of fitting lists
 
-module _ {s : Settings} {logs : List Float} {counts : List ℕ} {x : Flat} {first end : ℕ} (f : Fitting s logs counts x) (sp : Spanned (span first end) x) where
+module _ {job : Job} {counts : List ℕ} {x : Flat} {first end : ℕ} (f : Fitting job counts x) (sp : Spanned (span first end) x) where
   abbrev uses : Bool
-  uses = uses_of s x
+  uses = uses_of job.settings x
 
   -- the lists after the mode step
   abbrev y : Flat
   y = flat x.props (step_tokens uses first end x.res x.toks) x.res
 
   residuals : uses ≡ true → length x.res ≡ row_count x
-  residuals e = f.shaped.res (residuals-given s.modal_offsets x.res e)
+  residuals e = f.shaped.res (residuals-given job.settings.modal_offsets x.res e)
 
   inside : uses ≡ true → Inside first end x.res
   inside e = record { ordered = sp.ordered; inside = omega (arith, residuals e, sp.inside); few = omega (arith, residuals e, f.few) }
@@ -96,39 +92,17 @@ module _ {s : Settings} {logs : List Float} {counts : List ℕ} {x : Flat} {firs
   wide : uses ≡ true → length x.props ≡ length x.res * props_per_row
   wide e = f.shaped.props ∙ ap (λ (n : ℕ). n * props_per_row) (sym (residuals e))
 
-  clear : Clear counts
-  clear = record {
-    long = omega (arith, f.room);
-    zeros = λ i h. ap (λ (l : List ℕ). get_or l i 0) f.zeros ∙ get_d_blank (length counts) i 0;
-  }
-
-  pub steppable : Steppable uses x.toks x.res first end counts
-  steppable = record {
-    used = λ e. record {
-      span = inside e;
-      tokens = f.shaped.toks ∙ ap (λ (n : ℕ). n * toks_per_row) (sym (residuals e));
-      clear = clear;
-    };
-  }
-
-  length-stepped : (b : Bool) → length (step_tokens b first end x.res x.toks) ≡ length x.toks
-  length-stepped true = length-rezeroed (mode_at first end x.res) first (slice first end x.res) x.toks
-  length-stepped false = refl
-
-  size : SameSize x y
-  size = record { props = refl; toks = length-stepped uses; res = refl }
-
   pub stepped : Changed (settled_at uses (span first end)) x y
-  stepped = record { rows = step-rows x.props x.toks x.res first end uses sp.ordered inside wide; size = size }
+  stepped = record { rows = step-rows x.props x.toks x.res first end uses sp.ordered inside wide; size = stepped-size uses x (record { first = first; end = end }) }
 
   pub mode-stepped : step_mode uses first end x.res ≡ span_mode uses (within (span first end) (held_in x))
   mode-stepped = step-mode x.props x.toks x.res first end uses inside wide
 
   -- the tokens stay below the alphabet
-  pub stepped-below : (uses ≡ true → LowTokens first end y.toks) → (k : ℕ) → k < length y.toks → get_or y.toks k 0 < s.alphabet
+  pub stepped-below : (uses ≡ true → LowTokens first end y.toks) → (k : ℕ) → k < length y.toks → get_or y.toks k 0 < job.settings.alphabet
   stepped-below low = go uses refl low where
     go : (b : Bool) → uses ≡ b → (b ≡ true → LowTokens first end (step_tokens b first end x.res x.toks))
-        → (k : ℕ) → k < length (step_tokens b first end x.res x.toks) → get_or (step_tokens b first end x.res x.toks) k 0 < s.alphabet
+        → (k : ℕ) → k < length (step_tokens b first end x.res x.toks) → get_or (step_tokens b first end x.res x.toks) k 0 < job.settings.alphabet
     go false e l k lt = f.below k lt
     go true e l k lt =
         let vs = slice first end x.res in
@@ -139,17 +113,17 @@ module _ {s : Settings} {logs : List Float} {counts : List ℕ} {x : Flat} {firs
         let last : first + length vs ≡ end = omega arith in
         let toks = f.shaped.toks in
         let long : (first + length vs) * 14 ≤ length x.toks = omega (arith, residuals e) in
-        rezeroed-below m first vs x.toks s.alphabet (f.modal e) long f.below
-        (rw last (l refl)) k (omega (arith, length-rezeroed m first vs x.toks))
+        rezeroed-below m first vs x.toks job.settings.alphabet (f.modal e) long f.below
+        (rw last (l refl)) k (omega (arith, (stepped-size true x (record { first = first; end = end })).toks))
 
 -- lists as long use modes alike
 pub uses_still : {x y : Flat} (s : Settings) → SameSize x y → uses_of s x ≡ uses_of s y
 uses_still s size = ap (λ (b : Bool). s.modal_offsets && b) (sym (residuals_still size))
 
 -- what holds of lists holds of lists as long whose tokens are below the alphabet
-pub fitting_still : {s : Settings} {logs : List Float} {counts : List ℕ} {x y : Flat} → Fitting s logs counts x → SameSize x y
-    → ((k : ℕ) → k < length y.toks → get_or y.toks k 0 < s.alphabet) → Fitting s logs counts y
-fitting_still {s} {logs} {counts} {x} {y} f size below =
+pub fitting_still : {job : Job} {counts : List ℕ} {x y : Flat} → Fitting job counts x → SameSize x y
+    → ((k : ℕ) → k < length y.toks → get_or y.toks k 0 < job.settings.alphabet) → Fitting job counts y
+fitting_still {job} {counts} {x} {y} f size below =
     let count = count_still size in
     record {
       settings = f.settings;
@@ -157,20 +131,20 @@ fitting_still {s} {logs} {counts} {x} {y} f size below =
       shaped = shaped_still size f.shaped;
       few = omega (arith, count, f.few);
       below = below;
-      modal = λ e. f.modal (uses_still s size ∙ e);
-      logs_reach = subst (λ (n : ℕ). LogsReach n logs) (sym count) f.logs_reach;
+      modal = λ e. f.modal (uses_still job.settings size ∙ e);
+      logs_reach = subst (λ (n : ℕ). LogsReach n job.logs.now) (sym count) f.logs_reach;
       room = f.room;
       zeros = f.zeros;
     }
 
-pub made-fitting : {scored : Bool} {s : Settings} {logs : List Float} {counts : List ℕ} {depth : ℕ} {sp : Span} {x y : Flat} {r : Leaf}
-    → Fitting s logs counts x → MadeLeaf scored s logs depth sp x y r → Fitting s logs counts y
+pub made-fitting : {scored : Bool} {job : Job} {counts : List ℕ} {depth : ℕ} {sp : Span} {x y : Flat} {r : Leaf}
+    → Fitting job counts x → MadeLeaf scored job depth sp x y r → Fitting job counts y
 made-fitting f m = fitting_still f m.changed.size m.below
 
 -- the span can be evaluated
-pub evaluable : {s : Settings} {logs : List Float} {counts : List ℕ} {x : Flat} {first end : ℕ} → Fitting s logs counts x → Spanned (span first end) x
-    → Evaluable x.props x.toks first end s logs counts
-evaluable {s} {logs} {counts} {x} {first} {end} f sp =
+pub evaluable : {job : Job} {counts : List ℕ} {x : Flat} {first end : ℕ} → Fitting job counts x → Spanned (span first end) x
+    → Evaluable x.props x.toks first end job.settings job.logs.now counts
+evaluable {job} {counts} {x} {first} {end} f sp =
     let toks = f.shaped.toks in
     let props = f.shaped.props in
     let last = sp.inside in
@@ -185,7 +159,7 @@ evaluable {s} {logs} {counts} {x} {first} {end} f sp =
         below = λ i from below. f.below i (omega arith);
       };
       props = omega arith;
-      logs = logs-fewer (end - first) (row_count x) logs (omega arith) f.logs_reach;
+      logs = logs-fewer (end - first) (row_count x) job.logs.now (omega arith) f.logs_reach;
       room = f.room;
       zeros = f.zeros;
     }
@@ -193,21 +167,22 @@ evaluable {s} {logs} {counts} {x} {first} {end} f sp =
 -- ---- one after the other
 
 -- the lists after the mode step, as the code has them: its flag, tokens and counts are those above
-pub record Stepped (s : Settings) (logs : List Float) (counts : List ℕ) (sp : Span) (x y : Flat) : Type 0 where
-  pub changed : Changed (settled_at (uses_of s x) sp) x y
-  pub below : (k : ℕ) → k < length y.toks → get_or y.toks k 0 < s.alphabet
-  pub fitting : Fitting s logs counts y
+pub record Stepped (job : Job) (counts : List ℕ) (sp : Span) (x y : Flat) : Type 0 where
+  pub changed : Changed (settled_at (uses_of job.settings x) sp) x y
+  pub below : (k : ℕ) → k < length y.toks → get_or y.toks k 0 < job.settings.alphabet
+  pub fitting : Fitting job counts y
   pub spanned : Spanned sp y
 
-pub after-step : {s : Settings} {logs : List Float} {counts : List ℕ} {x : Flat} {first end : ℕ} → Fitting s logs counts x → Spanned (span first end) x
-    → (uses : Bool) (toks counts' : List ℕ) → uses ≡ uses_of s x → toks ≡ step_tokens uses first end x.res x.toks → counts' ≡ counts
-    → (uses ≡ true → LowTokens first end toks) → Stepped s logs counts' (span first end) x (flat x.props toks x.res)
-after-step {s} {logs} {counts} {x} {first} {end} f sp uses toks counts' is made same low =
-    let tokens : toks ≡ step_tokens (uses_of s x) first end x.res x.toks = made ∙ ap (λ (b : Bool). step_tokens b first end x.res x.toks) is in
-    subst (λ (t : List ℕ). Stepped s logs counts' (span first end) x (flat x.props t x.res)) (sym tokens)
-    (subst (λ (c : List ℕ). Stepped s logs c (span first end) x (y f sp)) (sym same) (step (λ e. subst (LowTokens first end) tokens (low (is ∙ e)))))
+pub after-step : {job : Job} {counts : List ℕ} {x : Flat} {first end : ℕ} → Fitting job counts x → Spanned (span first end) x
+    → (uses : Bool) (z : Flat) (counts' : List ℕ) → uses ≡ uses_of job.settings x → z ≡ after uses x (record { first = first; end = end }) → counts' ≡ counts
+    → (uses ≡ true → LowTokens first end z.toks) → Stepped job counts' (span first end) x z
+after-step {job} {counts} {x} {first} {end} f sp uses z counts' is made same low =
+    let lists : z ≡ y f sp = made ∙ ap (λ (b : Bool). after b x (record { first = first; end = end })) is in
+    subst (λ (l : Flat). Stepped job counts' (span first end) x l) (sym lists)
+    (subst (λ (c : List ℕ). Stepped job c (span first end) x (y f sp)) (sym same)
+    (step (λ e. subst (λ (l : Flat). LowTokens first end l.toks) lists (low (is ∙ e)))))
   where
-    step : (uses_of s x ≡ true → LowTokens first end (y f sp).toks) → Stepped s logs counts (span first end) x (y f sp)
+    step : (uses_of job.settings x ≡ true → LowTokens first end (y f sp).toks) → Stepped job counts (span first end) x (y f sp)
     step l =
         let c = stepped f sp in
         let b = stepped-below f sp l in
@@ -219,15 +194,15 @@ after-step {s} {logs} {counts} {x} {first} {end} f sp uses toks counts' is made 
         }
 
 -- the evaluation of the rows that the mode step left is the leaf's
-pub made : {scored : Bool} {s : Settings} {logs : List Float} {counts : List ℕ} {depth : ℕ} {x y : Flat} {first end : ℕ} {r : Leaf} (mode : ℤ)
-    → Spanned (span first end) x → Stepped s logs counts (span first end) x y → mode ≡ span_mode (uses_of s x) (within (span first end) (held_in x))
-    → Evaluated r scored (settings_of s) logs mode depth (within (span first end) (held_in y)) → MadeLeaf scored s logs depth (span first end) x y r
-made {scored} {s} {logs} {counts} {depth} {x} {y} {first} {end} {r} mode sp st is e =
+pub made : {scored : Bool} {job : Job} {counts : List ℕ} {depth : ℕ} {x y : Flat} {first end : ℕ} {r : Leaf} (mode : ℤ)
+    → Spanned (span first end) x → Stepped job counts (span first end) x y → mode ≡ span_mode (uses_of job.settings x) (within (span first end) (held_in x))
+    → Evaluated r scored (settings_of job.settings) job.logs.now mode depth (within (span first end) (held_in y)) → MadeLeaf scored job depth (span first end) x y r
+made {scored} {job} {counts} {depth} {x} {y} {first} {end} {r} mode sp st is e =
     let all : end ≤ length (held_in x) = omega (arith, sp.inside, length-held x.props x.toks x.res) in
-    let mine = ap (within (span first end)) st.changed.rows ∙ put_same (uses_of s x) (held_in x) (span first end) sp.ordered all in
+    let mine = ap (within (span first end)) st.changed.rows ∙ put_same (uses_of job.settings x) (held_in x) (span first end) sp.ordered all in
     record {
       changed = st.changed;
-      leaf = subst (λ (l : List Row). Evaluated r scored (settings_of s) logs (span_mode (uses_of s x) (within (span first end) (held_in x))) depth l) mine
-          (subst (λ (m : ℤ). Evaluated r scored (settings_of s) logs m depth (within (span first end) (held_in y))) is e);
+      leaf = subst (λ (l : List Row). Evaluated r scored (settings_of job.settings) job.logs.now (span_mode (uses_of job.settings x) (within (span first end) (held_in x))) depth l) mine
+          (subst (λ (m : ℤ). Evaluated r scored (settings_of job.settings) job.logs.now m depth (within (span first end) (held_in y))) is e);
       below = st.below;
     }

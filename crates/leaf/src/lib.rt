@@ -2,46 +2,32 @@
 #![tactic(auto)]
 
 ghost use Rattle.std.specs.Prelude.{◌≡◌};
-ghost use Rattle.rows.specs.Cells.{span};
-ghost use Rattle.rows.specs.Flat.{flat};
+ghost use Rattle.layout.specs.Records.{span_is};
+ghost use Rattle.rows.specs.Lent.{flat_in, SameRowsLent};
 ghost use Rattle.lent.specs.Fitting.{LeafFits};
 ghost use Rattle.leaf.specs.Made.{MadeLeaf};
 
-use layout::Leaf;
-use refuse::Settings;
+use layout::{Leaf, Span};
+use refuse::Job;
+use rows::Rows;
 
-// The mode step on the rows from first to end, and then their evaluation at the depth. Splits are scored only if asked
-// for: after the last split nothing reads them.
+// The mode step on the rows of the span, and then their evaluation at the depth. Splits are scored only if asked for:
+// after the last split nothing reads them.
 pub fn make_leaf(
-    props: &[i32],
-    tok: &mut [u8],
-    res: &[i32],
+    rows: &mut Rows,
     counts: &mut [u32],
-    logs: &[f32],
-    s: Settings,
-    first: usize,
-    end: usize,
+    job: Job,
+    span: Span,
     depth: u32,
     score_split: bool,
 ) -> Leaf
-    requires { LeafFits (flat props.now tok.old res.now) first end s logs.now counts.old }
-    ensures answer { MadeLeaf score_split s logs.now depth (span first end)
-        (flat props.now tok.old res.now)
-        (flat props.now tok.new res.now) result }
+    requires { LeafFits (flat_in rows.old) span.first span.end job counts.old }
+    ensures lent { SameRowsLent rows.old rows.new }
+    ensures answer { MadeLeaf score_split job.entry depth (span_is span)
+        (flat_in rows.old) (flat_in rows.new) result }
     ensures zeros { counts.new ≡ counts.old }
 {
-    let uses = s.modal_offsets & (0 < res.len());
-    let offset = mode::mode_step(tok, res, counts, first, end, uses);
-    evaluate::evaluate_rows(
-        props,
-        tok,
-        counts,
-        logs,
-        s,
-        first,
-        end,
-        depth,
-        offset,
-        score_split,
-    )
+    let uses = job.settings.modal_offsets & rows.has_residuals();
+    let mode = settle::step_span(rows, span, counts, uses);
+    evaluate::evaluate_rows(rows, counts, job, span, depth, mode, score_split)
 }

@@ -1,66 +1,37 @@
-// Learning a tree from rows in number lists (document 01; the Rust's `learn_ma_tree_in_place`), of a job that the
-// checks accept: flat bits, the root, growth, pruning and settling.
+// Learning a tree from rows (document 01; the Rust's `learn_ma_tree_in_place`), of a job that the checks accept: flat
+// bits, the root, growth, pruning and settling.
 #![tactic(auto)]
 
 ghost use Rattle.std.specs.Prelude.{◌≡◌};
-ghost use Rattle.layout.specs.Tree.{node_lists};
-ghost use Rattle.layout.specs.Waiting.{queue_lists};
-ghost use Rattle.rows.specs.Flat.{flat};
-ghost use Rattle.lent.specs.Lists.{lists, lists_after};
+ghost use Rattle.rows.specs.Lent.{flat_in};
 ghost use Rattle.lent.specs.Answer.{LearnedAs};
+ghost use Rattle.lent.specs.Lent.{SameLent};
+ghost use Rattle.lent.specs.Lists.{lists_now, lists_after};
 ghost use Rattle.from_root.specs.Result.{result_in};
 ghost use Rattle.learn.specs.Learns.{Learnable};
 
+use layout::Nodes;
 use lent::Finished;
-use refuse::Settings;
+use queue::Queue;
+use refuse::Job;
+use rows::Rows;
 
 // Learns a tree from the rows.
 pub fn learn_ma_tree_in_place(
-    props: &mut [i32],
-    tok: &mut [u8],
-    res: &mut [i32],
-    words: &mut [u32],
-    values: &mut [i32],
-    costs: &mut [f32],
-    queue_words: &mut [u32],
-    queue_values: &mut [i32],
-    queue_gains: &mut [f32],
+    rows: &mut Rows,
+    at: &mut Nodes,
+    queue: &mut Queue,
     counts: &mut [u32],
-    logs: &[f32],
-    s: Settings,
-    rows: usize,
+    job: Job,
 ) -> Finished
-    requires { Learnable s logs.now (lists (flat props.old tok.old res.old)
-        (node_lists words.old values.old costs.old)
-        (queue_lists queue_words.old queue_values.old queue_gains.old) counts.old) rows }
-    ensures finished { let x = lists (flat props.old tok.old res.old)
-        (node_lists words.old values.old costs.old)
-        (queue_lists queue_words.old queue_values.old queue_gains.old) counts.old in
-        LearnedAs (result_in s logs.now x.rows) result }
-    ensures lists { let x = lists (flat props.old tok.old res.old)
-        (node_lists words.old values.old costs.old)
-        (queue_lists queue_words.old queue_values.old queue_gains.old) counts.old in
-        let y = lists (flat props.new tok.new res.new)
-        (node_lists words.new values.new costs.new)
-        (queue_lists queue_words.new queue_values.new queue_gains.new) counts.new in
-        y ≡ lists_after (result_in s logs.now x.rows) x }
+    requires { Learnable job (lists_now rows.old at.old queue.old counts.old) }
+    ensures lent { SameLent rows.old rows.new at.old at.new queue.old queue.new }
+    ensures finished { LearnedAs (result_in job.entry (flat_in rows.old)) result }
+    ensures lists { lists_now rows.new at.new queue.new counts.new
+        ≡ lists_after (result_in job.entry (flat_in rows.old))
+        (lists_now rows.old at.old queue.old counts.old) }
 {
-    lists::clear_u32(counts);
-    let flat_bits = lent::flat_bits(props, tok, counts, logs, s, rows);
-    from_root::grow_from_root(
-        props,
-        tok,
-        res,
-        words,
-        values,
-        costs,
-        queue_words,
-        queue_values,
-        queue_gains,
-        counts,
-        logs,
-        s,
-        rows,
-        flat_bits,
-    )
+    counts.fill(0);
+    let flat_bits = lent::flat_bits(rows, counts, job);
+    from_root::grow_from_root(rows, at, queue, counts, job, flat_bits)
 }

@@ -12,7 +12,8 @@ use borrow.Author.Tests.{lt-ltb, le-ltb}
 use lib.Dec.{ltb}
 use lib.IntN.{ℤ, pos, ◌+ℤ◌, ◌-ℤ◌, +ℤ_idr, +ℤ_one, +ℤ-suc_ℤ}
 use lib.Signed.{mag}
-use lib.ListN.{get_or}
+use lib.ListN.{length, get_or, take}
+use lib.Seq.{get_or-take}
 use Rattle.model.specs.Lists.{count_if, eq_z}
 use Rattle.model.specs.Mode.{lowest, oftenest, width, mode}
 use Rattle.model.proofs.Fits32.{mode-is}
@@ -81,12 +82,19 @@ module _ (rs : List ℤ) (low : ℤ) (counts : List ℕ) where
 
 -- so the values that lie in a width above low, counted in a clear space, give the one that occurs oftenest
 pub oftenest-counted : (low : ℤ) (width : ℕ) (vs : List ℤ) (counts : List ℕ) → Each (Offset low width) vs → width ≤ max_width → Clear counts
-    → low +ℤ pos (first_best (tallied low vs counts) width) ≡ oftenest vs width low low 0
+    → low +ℤ pos (first_best (take width (tallied low vs counts)) width) ≡ oftenest vs width low low 0
 oftenest-counted low width vs counts near narrow clear =
     let long = clear.long in
-    sym (oftenest-first vs low (tallied low vs counts) width (λ j lt. omega (arith, tallied-at low width vs counts near (omega arith) j, clear.zeros j (omega arith))))
+    let counted = tallied low vs counts in
+    sym (oftenest-first vs low (take width counted) width
+    (λ j lt. omega (arith, get_or-take width counted j 0 lt, tallied-at low width vs counts near (omega arith) j, clear.zeros j (omega arith))))
 
--- ---- the mode of a span that has rows
+-- ---- the mode of a span
+pub mode-none : (rs : List ℤ) → length rs ≡ 0 → pos 0 ≡ mode rs
+unfolding mode
+mode-none [] e = refl
+mode-none (r ∷ rs) e = absurd (omega arith)
+
 module _ (r : ℤ) (rs : List ℤ) where
   pub mode_far : max_width < width r rs → mode (r ∷ rs) ≡ pos 0
   unfolding mode

@@ -6,15 +6,15 @@ use native.Mathlib.Decide.{dec_le}
 use native.Mathlib.Numerals.{add-one}
 use native.Mathlib.Omega.{arith}
 use lib.IntN.{ℤ, pos}
-use lib.ListN.{length, get_or, set}
-use lib.Seq.{slice, slice-cons, slice_empty, get_or-set_same, get_or-set_other}
+use lib.ListN.{length, get_or, set, drop, drop_of_length-le}
+use lib.Seq.{drop-cons, get_or-set_same, get_or-set_other}
 use Rattle.mode.specs.Lent.{LowTokens}
 
-pub slice-more : (l : List ℤ) (i end : ℕ) → i < end → end ≤ length l → slice i end l ≡ get_or l i (pos 0) ∷ slice (i + 1) end l
-slice-more l i end h k = rw add-one (slice-cons i end l (pos 0) h k)
+pub left-more : (l : List ℤ) (i : ℕ) → i < length l → drop i l ≡ get_or l i (pos 0) ∷ drop (i + 1) l
+left-more l i h = rw add-one (drop-cons l i (pos 0) h)
 
-pub slice-done : (l : List ℤ) (i end : ℕ) → i ≡ end → slice i end l ≡ []
-slice-done l i end e = rw e (slice_empty end l)
+pub left-done : (l : List ℤ) (i : ℕ) → length l ≤ i → drop i l ≡ []
+left-done l i h = drop_of_length-le l h
 
 -- one more zero token is made
 pub low-more : (first i t : ℕ) (tok : List ℕ) → i * 14 < length tok → t < 128 → LowTokens first i tok → LowTokens first (i + 1) (set tok (i * 14) t)

@@ -2,35 +2,19 @@
 // Rust's rebase_zero.
 #![tactic(auto)]
 
-ghost use Rattle.std.specs.Prelude.{◌≡◌, true, cond, suc, ◌*◌, ◌≤◌, ◌<◌, length, get_or, pos};
-ghost use Rattle.std.proofs.Math.Seq.{slice};
-ghost use Rattle.std.specs.Int.Signed.{lt_z};
-ghost use Rattle.model.specs.Settings.{toks_per_row};
-ghost use Rattle.model.specs.Mode.{oftenest, zero_token};
+ghost use Rattle.std.specs.Prelude.{◌≡◌, true, ◌*◌, ◌≤◌, ◌<◌, length};
+ghost use Rattle.model.specs.Settings.{toks_per_row, max_rows};
+ghost use Rattle.model.specs.Mode.{oftenest, mode, zero_token};
 ghost use Rattle.mode.specs.Each.{Each, Offset, Differs};
 ghost use Rattle.mode.specs.Counted.{range_of, offset_of, tallied, Countable, first_best, Narrow};
 ghost use Rattle.mode.specs.Column.{rezeroed, mode_at, tokens_at, step_mode, step_tokens};
-ghost use Rattle.mode.specs.Lent.{Inside, Clear, Rebasable, Steppable, LowTokens};
+ghost use Rattle.mode.specs.Lent.{Clear, Rebasable, Steppable, LowTokens};
 
 // The zero predictor's place among a row's tokens.
 const PRED_ZERO: usize = 0;
 
 // Residuals that spread over more values have mode 0.
 const MODAL_MAX_SPAN: usize = 4096;
-
-// Of two residuals the lower.
-fn lower(a: i32, b: i32) -> i32
-    ensures { result ≡ cond (lt_z b a) b a }
-{
-    if b < a { b } else { a }
-}
-
-// Of two residuals the higher.
-fn higher(a: i32, b: i32) -> i32
-    ensures { result ≡ cond (lt_z a b) b a }
-{
-    if a < b { b } else { a }
-}
 
 // The lowest and the highest residual of a span.
 #[derive(Clone, Copy)]
@@ -39,18 +23,15 @@ struct Range {
     high: i32,
 }
 
-// The lowest and the highest residual of a span that has rows.
-fn residual_range(res: &[i32], first: usize, end: usize) -> Range
-    requires first_lt_end { first < end }
-    requires inside { Inside first end res.now }
-    ensures { result ≡ range_of (get_or res.now first (pos 0)) (slice (suc first) end res.now) }
+// The lowest and the highest of a residual and the others.
+fn residual_range(first: i32, others: &[i32]) -> Range
+    ensures { result ≡ range_of first others.now }
 {
-    let mut low = res[first];
-    let mut high = low;
-    for i in first + 1..end {
-        let value = res[i];
-        low = lower(low, value);
-        high = higher(high, value);
+    let mut low = first;
+    let mut high = first;
+    for &value in others {
+        low = low.min(value);
+        high = value.max(high);
     }
     Range { low, high }
 }
@@ -60,29 +41,26 @@ fn offset(value: i32, low: i32) -> usize
     requires { Offset low 4294967296 value }
     ensures { result ≡ offset_of low value }
 {
-    (value as i64 - low as i64) as usize
+    (i64::from(value) - i64::from(low)) as usize
 }
 
 // Counts each residual of a span at its offset.
-fn tally(res: &[i32], first: usize, end: usize, low: i32, counts: &mut [u32])
-    requires inside { Inside first end res.now }
-    requires countable { Countable low (slice first end res.now) counts.old }
-    ensures { counts.new ≡ tallied low (slice first end res.now) counts.old }
+fn tally(res: &[i32], low: i32, counts: &mut [u32])
+    requires { Countable low res.now counts.old }
+    ensures { counts.new ≡ tallied low res.now counts.old }
 {
-    for i in first..end {
-        let at = offset(res[i], low);
-        counts[at] += 1;
+    for &value in res {
+        counts[offset(value, low)] += 1;
     }
 }
 
-// The first of the first n places that is counted oftenest.
-fn first_best(counts: &[u32], n: usize) -> usize
-    requires { n ≤ length counts.now }
-    ensures { result ≡ first_best counts.now n }
+// The first place that is counted oftenest.
+fn first_best(counts: &[u32]) -> usize
+    ensures { result ≡ first_best counts.now (length counts.now) }
 {
     let mut best: usize = 0;
-    for i in 0..n {
-        if counts[best] < counts[i] {
+    for (i, &count) in counts.iter().enumerate() {
+        if counts[best] < count {
             best = i;
         }
     }
@@ -91,44 +69,36 @@ fn first_best(counts: &[u32], n: usize) -> usize
 
 // The commonest residual of a span, the smallest at a tie. Only the counts in use are cleared, so
 // that a small span stays cheap.
-fn commonest(
-    res: &[i32],
-    first: usize,
-    end: usize,
-    low: i32,
-    width: usize,
-    counts: &mut [u32],
-) -> i32
-    requires inside { Inside first end res.now }
-    requires narrow { Narrow low width (slice first end res.now) }
+fn commonest(res: &[i32], low: i32, width: usize, counts: &mut [u32]) -> i32
+    requires few { length res.now ≤ max_rows }
+    requires narrow { Narrow low width res.now }
     requires clear { Clear counts.old }
-    ensures answer { result ≡ oftenest (slice first end res.now) width low low 0 }
+    ensures answer { result ≡ oftenest res.now width low low 0 }
     ensures zeros { counts.new ≡ counts.old }
 {
-    tally(res, first, end, low, counts);
-    let best = first_best(counts, width);
-    lists::clear_first_u32(counts, width);
+    tally(res, low, counts);
+    let best = first_best(&counts[..width]);
+    counts[..width].fill(0);
     low + best as i32
 }
 
 // The mode of a span: 0 where there are no rows, or where the residuals spread over more than 4,096
 // values.
-fn span_mode(res: &[i32], first: usize, end: usize, counts: &mut [u32]) -> i32
-    requires inside { Inside first end res.now }
+fn span_mode(res: &[i32], counts: &mut [u32]) -> i32
+    requires few { length res.now ≤ max_rows }
     requires clear { Clear counts.old }
-    ensures answer { result ≡ mode_at first end res.now }
+    ensures answer { result ≡ mode res.now }
     ensures zeros { counts.new ≡ counts.old }
 {
-    if first == end {
+    let Some((&first, others)) = res.split_first() else {
         return 0;
-    }
-    let range = residual_range(res, first, end);
-    let low = range.low;
-    let width = offset(range.high, low) + 1;
+    };
+    let Range { low, high } = residual_range(first, others);
+    let width = offset(high, low) + 1;
     if width > MODAL_MAX_SPAN {
         return 0;
     }
-    commonest(res, first, end, low, width, counts)
+    commonest(res, low, width, counts)
 }
 
 // The zero predictor's token of a residual. A token is at most 127, so it fits its byte.
@@ -140,16 +110,15 @@ fn zero_token(value: i32, mode: i32) -> u8
 }
 
 // Makes the zero predictor's tokens of a span anew.
-fn retoken(tok: &mut [u8], res: &[i32], first: usize, end: usize, mode: i32)
-    requires inside { Inside first end res.now }
+fn retoken(tok: &mut [u8], res: &[i32], mode: i32)
     requires tok_len { length tok.old ≡ length res.now * toks_per_row }
-    requires each { Each (Differs mode) (slice first end res.now) }
-    ensures tokens { tok.new
-        ≡ rezeroed mode first (slice first end res.now) tok.old }
-    ensures low { LowTokens first end tok.new }
+    requires each { Each (Differs mode) res.now }
+    ensures tokens { tok.new ≡ rezeroed mode 0 res.now tok.old }
+    ensures low { LowTokens 0 (length res.now) tok.new }
 {
-    for i in first..end {
-        tok[i * model::NUM_MA_PREDS + PRED_ZERO] = zero_token(res[i], mode);
+    // Stays: by index, since of a slice that is written through `chunks_exact_mut` a proof knows only the length.
+    for (i, &value) in res.iter().enumerate() {
+        tok[i * model::NUM_MA_PREDS + PRED_ZERO] = zero_token(value, mode);
     }
 }
 
@@ -162,12 +131,15 @@ pub fn rebase_zero(tok: &mut [u8], res: &[i32], counts: &mut [u32], first: usize
     ensures zeros { counts.new ≡ counts.old }
     ensures low { LowTokens first end tok.new }
 {
-    let mode = span_mode(res, first, end, counts);
-    retoken(tok, res, first, end, mode);
+    let span = &res[first..end];
+    let mode = span_mode(span, counts);
+    let tokens = first * model::NUM_MA_PREDS..end * model::NUM_MA_PREDS;
+    retoken(&mut tok[tokens], span, mode);
     mode
 }
 
 // The mode step, where modal offsets are on and residuals given; else nothing, and 0.
+// Stays: the flag is a fact of the job that the contract reasons by, and a closure for `if uses` would be no plainer.
 pub fn mode_step(
     tok: &mut [u8],
     res: &[i32],

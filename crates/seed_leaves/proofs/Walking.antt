@@ -1,14 +1,12 @@
 -- A seed planted node by node: what planting a node asks for holds at each, and after it one node more is planted. Assumes nothing.
 use mathlib.Core.Path.{◌≡◌, refl, sym, ap, ◌∙◌, subst}
 use mathlib.Core.Bool.{Bool, true, false, cond}
-use mathlib.Core.List.{List, ◌++◌}
+use mathlib.Core.List.{List, [], ◌++◌}
 use Prim.Native.Nat.{ℕ, suc, ◌+◌, ◌≤◌, ◌<◌}
 use native.Mathlib.Nat.{le_trans, mul-le-mul_right}
 use native.Mathlib.Numerals.{add-one}
 use native.Mathlib.Omega.{arith}
 use lib.ListN.{length, get_or, take, drop, length-map}
-use lib.Seq.{get_or-take}
-use lib.IntN.{ℤ}
 use lib.Ieee.{Float}
 use lib.Dec.{eqb}
 use Rattle.model.specs.Settings.{max_nodes}
@@ -17,41 +15,45 @@ use Rattle.model.specs.Single.{singles}
 use Rattle.model.specs.Rows.{Row, Span}
 use Rattle.model.specs.Profile.{single, job_of}
 use Rattle.model.specs.Tree.{Node, split, leaf, is_leaf, Record, blank_record, nodes_of}
-use Rattle.model.specs.Job.{Job}
+use Rattle.model.specs.Job as model
 use Rattle.model.specs.Grow.{State}
 use Rattle.model.specs.Learn.{leaf_count}
 use Rattle.model.specs.Deepen.{depths_of, rows_at, with_seed_node}
 use Rattle.model.specs.Accepting.{LogsWithin}
 use Rattle.refuse.specs.Given.{settings_of}
-use Rattle.refuse.specs.declared.Settings.{Settings}
-use Rattle.layout.proofs.Queue.{same-itself, same_queue}
-use Rattle.layout.specs.Layout.{kind_at, prop_at, gt_at, le_at, val_at, nodes_held, node_at}
+use Rattle.refuse.specs.declared.Job.{Job}
+use Rattle.layout.proofs.Queue.{same_queue}
+use Rattle.layout.specs.Records.{node_is, no_record, node_at, span_is, no_span_record}
+use Rattle.layout.specs.Values.{info_is}
+use Rattle.layout.specs.declared.MaNode.{MaNode}
 use Rattle.layout.specs.declared.Tree.{Tree}
 use Rattle.layout.specs.Tree.{NodeLists, HasRoom, holding}
-use Rattle.layout.specs.Waiting.{QueueListsOf, QueueLists, QueueRoom, SameQueue, waiting_from, words_per_leaf}
-use Rattle.layout.proofs.Held.{SameLengths, room-fewer, holding-lengths, holding-room, holding-none}
-use Rattle.lent.specs.Lists.{span_at}
+use Rattle.layout.specs.Waiting.{QueueListsOf, QueueLists, Queued, QueueRoom, SameQueue, waiting_from, words_per_leaf}
+use Rattle.queue.specs.declared.Queue.{Queue}
+use Rattle.queue.specs.Lent.{queue_in}
+use Rattle.layout.proofs.Held.{room-fewer, holding-room, holding-none}
 use Rattle.order.specs.Order.{first_of}
 use Rattle.order.specs.Leaves.{leaf_numbers}
 use Rattle.order.proofs.OrderLaws.{first-none, first_more, first-few}
 use Rattle.rows.specs.Cells.{span}
-use Rattle.rows.specs.Flat.{Flat, held_in, row_count, SameSize}
+use Rattle.rows.specs.Flat.{Flat, held_in, row_count}
 use Rattle.rows.proofs.Cells.{length-held}
 use Rattle.rows.proofs.Shapes.{size_same, size-then, count_still}
-use Rattle.tree.specs.Trees.{OfTree, SoundTree}
 use Rattle.layout.specs.Kept.{info_at}
-use Rattle.tree.proofs.Entries.{nodes-each}
 use Rattle.lent.specs.Fitting.{uses_of}
 use Rattle.seed_rows.specs.Ordered.{seed_in}
-use Rattle.seed_leaves.specs.Sown.{seeded_to, Sown, NodeFits, NextIs, NodePlanted, Plants, PlantedTo}
-use Rattle.seed_leaves.proofs.SeedLists.{seed-length, nodes_in_lem, nodes-length, record_in_lem, node_in, sound-tree, seed-few}
-use Rattle.seed_leaves.proofs.SeedLists.{node_still, info_still, span_still}
+use Rattle.seed_leaves.specs.Sown.{span_at, seeded_to, Sown, NodeFits, NextIs, NodePlanted, Plants, PlantedTo}
+use Rattle.seed_leaves.proofs.SeedLists.{seed-length, nodes-length, record_in_lem, node_in, seed-few}
+use Rattle.seed_leaves.proofs.SeedLists.{record_still, span_still}
 use Rattle.seed_leaves.proofs.Seeding.{leaves-more, leaves-few, seeded-none, seeded-more, seeded-length, split-empty, mine-length, seeded-rows, rows_left}
 
 -- a node's kind says whether it is a leaf
-leaf-kind : (b : Bool) (prop : ℕ) (val : ℤ) (gt le : ℕ) → is_leaf (cond b (split prop val gt le) leaf) ≡ cond b false true
-leaf-kind true prop val gt le = refl
-leaf-kind false prop val gt le = refl
+leaf-kind : (m : MaNode) → is_leaf (node_is m) ≡ cond (eqb m.kind 1) false true
+leaf-kind m = go (eqb m.kind 1)
+  where
+    go : (b : Bool) → is_leaf (cond b (split m.prop m.val m.gt m.le) leaf) ≡ cond b false true
+    go true = refl
+    go false = refl
 
 one_if : (b : Bool) → cond b 0 1 ≡ cond {A = ℕ} (cond b false true) 1 0
 one_if true = refl
@@ -64,8 +66,8 @@ room-queue h same room = record {
   gains = rw same.gains (le_trans h room.gains);
 }
 
-module _ {s : Settings} {logs : List Float} {counts : List ℕ} {x : Flat} {n : NodeLists} {q : QueueLists} {count : ℕ} {scored : Bool} {given : List Row}
-    (p : Plants s logs counts x n q count scored given) where
+module _ {job : Job} {counts : List ℕ} {x : Flat} {n : NodeLists} {q : QueueLists} {count : ℕ} {scored : Bool} {given : List Row}
+    (given_to : Plants job counts x n q count scored given) where
   abbrev seed : List (Record singles)
   seed = seed_in count n
 
@@ -75,8 +77,8 @@ module _ {s : Settings} {logs : List Float} {counts : List ℕ} {x : Flat} {n : 
   abbrev ks : List ℕ
   ks = leaf_numbers nodes given
 
-  abbrev j : Job singles
-  j = job_of single (settings_of s) logs (uses_of s x)
+  abbrev j : model.Job singles
+  j = job_of single (settings_of job.settings) job.logs.now (uses_of job.settings x)
 
   abbrev to : ℕ → State singles
   to = seeded_to j seed given
@@ -84,49 +86,45 @@ module _ {s : Settings} {logs : List Float} {counts : List ℕ} {x : Flat} {n : 
   abbrev mine : ℕ → List Row
   mine i = rows_at nodes i given
 
-  -- the tree is sound, and so are its words
-  pub walk-sound : SoundTree n.words count
-  walk-sound = sound-tree count n p.room p.sound
-
   pub walk-few : (0 < count) × (count ≤ max_nodes)
-  walk-few = seed-few count n p.room p.sound
+  walk-few = seed-few count n given_to.room given_to.sound
 
   long : length seed ≡ count
-  long = seed-length count n p.room
+  long = seed-length count n given_to.room
 
   numbers-long : length ks ≡ row_count x
   unfolding leaf_numbers
-  numbers-long = length-map given _ ∙ p.many
+  numbers-long = length-map given _ ∙ given_to.many
 
   rows_long : length (held_in x) ≡ row_count x
   rows_long = length-held x.props x.toks x.res
 
   -- ---- before the first node
-  pub planted-none : (bits : Float) → bits ≡ singles.no_total
-      → PlantedTo s logs counts counts x x n n q q (record { nodes = 0; waiting = 0; bits = bits }) count 0 scored given
+  pub planted-none : (p : Queue) → p.waiting ≡ 0 → SameQueue q (queue_in p) → (bits : Float) → bits ≡ singles.no_total
+      → PlantedTo job counts counts x x n n q p (record { nodes = 0; bits = bits }) count 0 scored given
   unfolding waiting_from
-  planted-none bits nothing = record {
+  planted-none p none same bits nothing = record {
     size = size_same x;
-    queue = same-itself q;
+    queue = same;
     zeros = refl;
-    few = omega arith;
-    sown = subst (λ (st : State singles). Sown s logs counts x n q (record { nodes = 0; waiting = 0; bits = bits }) scored (uses_of s x) n st (drop (first_of ks 0) (held_in x)))
+    few = omega (arith, none);
+    sown = subst (λ (st : State singles). Sown job counts x n p (record { nodes = 0; bits = bits }) scored (uses_of job.settings x) n st (drop (first_of ks 0) (held_in x)))
         (sym (seeded-none j seed given))
         (record {
-          fitting = p.fitting;
+          fitting = given_to.fitting;
           modes = refl;
           rows = rw (first-none ks);
           nodes = sym (holding-none n);
-          queued = λ t. record { many = refl; words = refl; values = refl; gains = refl };
-          idle = λ t. refl;
+          queued = λ t. subst (λ (k : ℕ). Queued k (queue_in p) []) (sym none) (record { many = refl; words = refl; values = refl; gains = refl });
+          idle = λ t. none;
           counted = refl;
           summed = nothing;
         });
   }
 
   -- ---- node i, the next
-  module _ {counts' : List ℕ} {y : Flat} {n' : NodeLists} {q' : QueueLists} {tree : Tree} (inside : tree.nodes < count)
-      (done : PlantedTo s logs counts counts' x y n n' q q' tree count tree.nodes scored given) where
+  module _ {counts' : List ℕ} {y : Flat} {n' : NodeLists} {q' : Queue} {tree : Tree} (inside : tree.nodes < count)
+      (done : PlantedTo job counts counts' x y n n' q q' tree count tree.nodes scored given) where
     abbrev i : ℕ
     i = tree.nodes
 
@@ -134,29 +132,30 @@ module _ {s : Settings} {logs : List Float} {counts : List ℕ} {x : Flat} {n : 
     here = seeded-length j seed given i (omega (arith, long))
 
     gone : length (to i).rows ≡ first_of ks i
-    gone = seeded-rows j seed given p.sound i (omega (arith, long))
+    gone = seeded-rows j seed given given_to.sound i (omega (arith, long))
 
     lists : n' ≡ holding (to i).tree n
     lists = done.sown.nodes
 
-    span-is : span_at n'.words i ≡ span (first_of ks i) (first_of ks (suc i))
-    span-is = ap (λ (m : NodeLists). span_at m.words i) lists ∙ span_still (to i).tree n i here ∙ p.spans i inside
+    span-is : span_at n'.spans i ≡ span (first_of ks i) (first_of ks (suc i))
+    span-is = ap span_is (ap (λ (m : NodeLists). get_or m.spans i no_span_record) lists ∙ span_still (to i).tree n i here) ∙ given_to.spans i inside
 
-    node-is : node_at n'.words n'.values i ≡ get_or nodes i leaf
-    node-is = ap (λ (m : NodeLists). node_at m.words m.values i) lists ∙ node_still (to i).tree n i here ∙ sym (node_in count n p.room i inside)
+    record-is : get_or n'.nodes i no_record ≡ get_or n.nodes i no_record
+    record-is = ap (λ (m : NodeLists). get_or m.nodes i no_record) lists ∙ record_still (to i).tree n i here
+
+    node-is : node_at n'.nodes i ≡ get_or nodes i leaf
+    node-is = ap node_is record-is ∙ sym (node_in count n given_to.room i inside)
 
     info-is : info_at n' i ≡ (get_or seed i blank_record).info
-    info-is = ap (λ (m : NodeLists). info_at m i) lists ∙ info_still (to i).tree n i here
-        ∙ ap (λ (r : Record singles). r.info) (sym (record_in_lem count n p.room i blank_record inside))
+    info-is = ap (λ (m : MaNode). info_is m.info) record-is ∙ ap (λ (r : Record singles). r.info) (sym (record_in_lem count n given_to.room i blank_record inside))
 
-    is_leaf_lem : is_leaf (get_or nodes i leaf) ≡ cond (eqb (kind_at n'.words i) 1) false true
-    is_leaf_lem = ap is_leaf (sym node-is) ∙ leaf-kind (eqb (kind_at n'.words i) 1) (prop_at n'.words i) (val_at n'.values i) (gt_at n'.words i)
-        (le_at n'.words i)
+    is_leaf_lem : is_leaf (get_or nodes i leaf) ≡ cond (eqb (get_or n'.nodes i no_record).kind 1) false true
+    is_leaf_lem = ap is_leaf (sym node-is) ∙ leaf-kind (get_or n'.nodes i no_record)
 
-    one_more : leaf_count (take (suc i) nodes) ≡ leaf_count (take i nodes) + cond (eqb (kind_at n'.words i) 1) 0 1
+    one_more : leaf_count (take (suc i) nodes) ≡ leaf_count (take i nodes) + cond (eqb (get_or n'.nodes i no_record).kind 1) 0 1
     one_more =
-        leaves-more nodes i (rw (nodes-length count n p.room) inside)
-        ∙ ap (λ (k : ℕ). leaf_count (take i nodes) + k) (ap (λ (b : Bool). cond b 1 0) is_leaf_lem ∙ sym (one_if (eqb (kind_at n'.words i) 1)))
+        leaves-more nodes i (rw (nodes-length count n given_to.room) inside)
+        ∙ ap (λ (k : ℕ). leaf_count (take i nodes) + k) (ap (λ (b : Bool). cond b 1 0) is_leaf_lem ∙ sym (one_if (eqb (get_or n'.nodes i no_record).kind 1)))
 
     end-inside : first_of ks (suc i) ≤ row_count x
     end-inside = omega (arith, first-few ks (suc i), numbers-long)
@@ -164,50 +163,50 @@ module _ {s : Settings} {logs : List Float} {counts : List ℕ} {x : Flat} {n : 
     size : row_count y ≡ row_count x
     size = count_still done.size
 
-    pub node_fits : NodeFits s logs counts' y n' q' tree scored
+    pub node_fits : NodeFits job counts' y n' q' tree scored
     node_fits = record {
       fitting = done.sown.fitting;
-      logs_small = subst (λ (k : ℕ). LogsWithin k logs) (sym size) p.logs_small;
+      logs_small = subst (λ (k : ℕ). LogsWithin k job.logs.now) (sym size) given_to.logs_small;
       spanned = rw span-is (record {
         shaped = done.sown.fitting.shaped;
         ordered = omega (arith, first_more ks i);
         inside = omega
             (arith, end-inside, size);
       });
-      room = subst (HasRoom (i + 1)) (sym lists) (holding-room (to i).tree n (room-fewer p.room (omega arith)));
+      room = subst (HasRoom (i + 1)) (sym lists) (holding-room (to i).tree n (room-fewer given_to.room (omega arith)));
       few = omega (arith, walk-few.1);
       queue_room = λ t k.
           let more : leaf_count (take (suc i) nodes) ≡ leaf_count (take i nodes) + 1 = rw k at one_more in
           let waits = done.few in
           let all = leaves-few nodes (suc i) in
-          room-queue (omega arith) done.queue (p.queue_room t);
+          room-queue (omega arith) done.queue (given_to.queue_room t);
     }
 
     next-is : NextIs n' i n (to i) (mine i)
     next-is = record {
       first = ap (λ (s : Span). s.first) span-is ∙ sym gone;
-      end = ap (λ (s : Span). s.end) span-is ∙ first_more ks i ∙ (λ t. sym gone t + sym (mine-length j seed given p.sound i) t);
-      bare = λ e. split-empty j seed given p.sound i (is_leaf_lem ∙ rw e);
-      room = room-fewer p.room (omega arith);
+      end = ap (λ (s : Span). s.end) span-is ∙ first_more ks i ∙ (λ t. sym gone t + sym (mine-length j seed given given_to.sound i) t);
+      bare = λ e. split-empty j seed given given_to.sound i (is_leaf_lem ∙ rw e);
+      room = room-fewer given_to.room (omega arith);
     }
 
     left_is : drop (first_of ks i) (held_in x) ≡ mine i ++ drop (first_of ks (suc i)) (held_in x)
     left_is =
-        ap (drop (first_of ks i)) p.rows ∙ rows_left j seed given p.sound count i inside (omega (arith, ap length p.rows, rows_long, end-inside))
-        ∙ ap (λ (l : List Row). mine i ++ drop (first_of ks (suc i)) l) (sym p.rows)
+        ap (drop (first_of ks i)) given_to.rows ∙ rows_left j seed given given_to.sound count i inside (omega (arith, ap length given_to.rows, rows_long, end-inside))
+        ∙ ap (λ (l : List Row). mine i ++ drop (first_of ks (suc i)) l) (sym given_to.rows)
 
-    module _ {counts'' : List ℕ} {z : Flat} {n'' : NodeLists} {q'' : QueueLists} {tree' : Tree} {depth : ℕ} (deep : depth ≡ get_or (depths_of nodes) i 0)
-        (planted : NodePlanted s logs counts' counts'' y z n' n'' q' q'' tree tree' depth scored) where
-      state-is : with_seed_node j (node_at n'.words n'.values i) (info_at n' i) depth (mine i) (to i) ≡ to (suc i)
+    module _ {counts'' : List ℕ} {z : Flat} {n'' : NodeLists} {q'' : Queue} {tree' : Tree} {depth : ℕ} (deep : depth ≡ get_or (depths_of nodes) i 0)
+        (planted : NodePlanted job counts' counts'' y z n' n'' q' q'' tree tree' depth scored) where
+      state-is : with_seed_node j (node_at n'.nodes i) (info_at n' i) depth (mine i) (to i) ≡ to (suc i)
       state-is = (λ t. with_seed_node j (node-is t) (info-is t) (deep t) (mine i) (to i)) ∙ sym (seeded-more j seed given i (omega (arith, long)))
 
-      gained : Sown s logs counts'' z n'' q'' tree' scored (uses_of s x) n (to (suc i)) (drop (first_of ks (suc i)) (held_in x))
+      gained : Sown job counts'' z n'' q'' tree' scored (uses_of job.settings x) n (to (suc i)) (drop (first_of ks (suc i)) (held_in x))
       gained =
-          subst (λ (st : State singles). Sown s logs counts'' z n'' q'' tree' scored (uses_of s x) n st (drop (first_of ks (suc i)) (held_in x))) state-is
-          (planted.sown (uses_of s x) n (to i) (mine i) (drop (first_of ks (suc i)) (held_in x))
-          (subst (λ (l : List Row). Sown s logs counts' y n' q' tree scored (uses_of s x) n (to i) l) left_is done.sown) next-is)
+          subst (λ (st : State singles). Sown job counts'' z n'' q'' tree' scored (uses_of job.settings x) n st (drop (first_of ks (suc i)) (held_in x))) state-is
+          (planted.sown (uses_of job.settings x) n (to i) (mine i) (drop (first_of ks (suc i)) (held_in x))
+          (subst (λ (l : List Row). Sown job counts' y n' q' tree scored (uses_of job.settings x) n (to i) l) left_is done.sown) next-is)
 
-      next : PlantedTo s logs counts counts'' x z n n'' q q'' tree' count (suc i) scored given
+      next : PlantedTo job counts counts'' x z n n'' q q'' tree' count (suc i) scored given
       next = record {
         size = size-then done.size planted.size;
         queue = same_queue done.queue planted.queue;
@@ -216,43 +215,29 @@ module _ {s : Settings} {logs : List Float} {counts : List ℕ} {x : Flat} {n : 
         sown = gained;
       }
 
-      pub planted-more : PlantedTo s logs counts counts'' x z n n'' q q'' tree' count tree'.nodes scored given
-      planted-more = subst (λ (k : ℕ). PlantedTo s logs counts counts'' x z n n'' q q'' tree' count k scored given) (sym (planted.counted ∙ add-one i)) next
+      pub planted-more : PlantedTo job counts counts'' x z n n'' q q'' tree' count tree'.nodes scored given
+      planted-more = subst (λ (k : ℕ). PlantedTo job counts counts'' x z n n'' q q'' tree' count k scored given) (sym (planted.counted ∙ add-one i)) next
 
 -- ---- what the walk keeps
-pub record Walked (s : Settings) (logs : List Float) (counts counts' : List ℕ) (x y : Flat) (n n' : NodeLists) (q q' : QueueLists) (tree : Tree) (count : ℕ)
-    (scored : Bool) (depths : List ℕ) : Type 0 where
-  pub inside : tree.nodes ≤ count
-  pub deep : (k : ℕ) → k < count → get_or depths k 0 ≡ get_or (depths_of (nodes_of (seed_in count n))) k 0
-  pub planted : (given : List Row) → Plants s logs counts x n q count scored given → PlantedTo s logs counts counts' x y n n' q q' tree count tree.nodes scored given
+pub record Walked (job : Job) (counts counts' : List ℕ) (x y : Flat) (n n' : NodeLists) (q : QueueLists) (q' : Queue) (tree : Tree) (count : ℕ)
+    (scored : Bool) (i : ℕ) : Type 0 where
+  pub passed : tree.nodes ≡ i
+  pub planted : (given : List Row) → Plants job counts x n q count scored given → PlantedTo job counts counts' x y n n' q q' tree count tree.nodes scored given
 
-module _ {s : Settings} {logs : List Float} {counts counts' : List ℕ} {x y : Flat} {n n' : NodeLists} {q q' : QueueLists} {tree : Tree} {count : ℕ}
-    {scored : Bool} {depths : List ℕ} {given : List Row}
-    (p : Plants s logs counts x n q count scored given) (w : Walked s logs counts counts' x y n n' q q' tree count scored depths) where
-  -- every list is as long as before
-  pub walked-size : SameSize x y
-  walked-size = (w.planted given p).size
+pub walked-none : {job : Job} {counts : List ℕ} {x : Flat} {n : NodeLists} {q : QueueLists} {count : ℕ} {scored : Bool} {bits : Float} (p : Queue) → p.waiting ≡ 0
+    → SameQueue q (queue_in p) → bits ≡ singles.no_total → Walked job counts counts x x n n q p (record { nodes = 0; bits = bits }) count scored 0
+walked-none p none same nothing = record { passed = refl; planted = λ given plants. planted-none plants p none same _ nothing }
 
-  pub walked-queue : SameQueue q q'
-  walked-queue = (w.planted given p).queue
+module _ {job : Job} {counts counts' : List ℕ} {x y : Flat} {n n' : NodeLists} {q : QueueLists} {q' : Queue} {tree : Tree} {count i : ℕ} {scored : Bool}
+    (w : Walked job counts counts' x y n n' q q' tree count scored i) where
+  pub walked-more : {counts'' : List ℕ} {z : Flat} {n'' : NodeLists} {q'' : Queue} {tree' : Tree} {depth : ℕ} → i < count
+      → depth ≡ get_or (depths_of (nodes_of (seed_in count n))) i 0 → NodePlanted job counts' counts'' y z n' n'' q' q'' tree tree' depth scored
+      → Walked job counts counts'' x z n n'' q q'' tree' count scored (i + 1)
+  walked-more inside deep more = record {
+    passed = omega (arith, w.passed, more.counted);
+    planted = λ given p. planted-more p (omega (arith, w.passed)) (w.planted given p)
+        (deep ∙ ap (λ (k : ℕ). get_or (depths_of (nodes_of (seed_in count n))) k 0) (sym w.passed)) more;
+  }
 
-  pub walked-zeros : counts' ≡ counts
-  walked-zeros = (w.planted given p).zeros
-
-  pub walked-lists : SameLengths n n'
-  walked-lists =
-      let done = w.planted given p in
-      let few = seeded-length (j p) (seed_in count n) given tree.nodes (omega (arith, w.inside, seed-length count n p.room)) in
-      subst (SameLengths n) (sym done.sown.nodes) (holding-lengths (to p tree.nodes).tree n (room-fewer p.room (omega (arith, w.inside))))
-
--- the depths as they were computed stand in front of the list
-pub depths_deep : {s : Settings} {logs : List Float} {counts : List ℕ} {x : Flat} {n : NodeLists} {q : QueueLists} {count : ℕ} {scored : Bool}
-    {given : List Row}
-    → Plants s logs counts x n q count scored given → (out : List ℕ)
-    → OfTree n.words count (λ (t : List (Record singles)). take count out ≡ depths_of (nodes_of t))
-    → (k : ℕ) → k < count → get_or out k 0 ≡ get_or (depths_of (nodes_of (seed_in count n))) k 0
-depths_deep {n = n} {count = count} p out is k h =
-    let held : count ≤ nodes_held n.words n.values = omega (arith, p.room.words, p.room.values) in
-    sym (get_or-take count out k 0 h)
-    ∙ ap (λ (l : List ℕ). get_or l k 0) (is n.values n.costs held)
-    ∙ ap (λ (l : List Node). get_or (depths_of l) k 0) (nodes-each singles n.words n.values n.costs count held ∙ sym (nodes_in_lem count n p.room))
+  pub walked-all : i ≡ count → (given : List Row) → Plants job counts x n q count scored given → PlantedTo job counts counts' x y n n' q q' tree count count scored given
+  walked-all all given p = subst (λ (k : ℕ). PlantedTo job counts counts' x y n n' q q' tree count k scored given) (w.passed ∙ all) (w.planted given p)

@@ -1,29 +1,30 @@
 -- What planting a seed asks for, and what it leaves: the lists that growth starts from (document 01, "Deepening"). Assumes nothing.
-use Rattle.std.specs.Prelude.{ℕ, ◌+◌, ◌-◌, ◌*◌, ◌/◌, ◌≤◌, max, ◌≡◌, Bool, not, List, length, get_or, Float}
+use Rattle.std.specs.Prelude.{ℕ, ◌+◌, ◌-◌, ◌*◌, ◌/◌, ◌≤◌, max, ◌≡◌, Bool, not, List, length, get_or}
 use Rattle.std.proofs.Math.Option.{none}
 use Rattle.model.specs.Single.{singles}
 use Rattle.model.specs.Tree.{leaf, is_leaf, Record, nodes_of, fault_of}
 use Rattle.model.specs.Learn.{leaf_count}
 use Rattle.model.specs.Deepen.{seed_state}
 use Rattle.model.specs.Accepting.{LogsWithin, SingleSmall, JobFits}
-use Rattle.refuse.specs.declared.Settings.{Settings}
+use Rattle.refuse.specs.declared.Job.{Job}
 use Rattle.layout.specs.declared.Tree.{Tree}
 use Rattle.layout.specs.Tree.{NodeLists, HasRoom}
 use Rattle.layout.specs.Waiting.{QueueLists, QueueRoom, SameQueue}
+use Rattle.queue.specs.declared.Queue.{Queue}
+use Rattle.queue.specs.Lent.{queue_in}
 use Rattle.rows.specs.Flat.{Flat, held_in, row_count, SameSize}
 use Rattle.lent.specs.Fitting.{Fitting}
 use Rattle.lent.specs.Grows.{job_in, Grows}
 use Rattle.seed_rows.specs.Ordered.{seed_in}
 
 -- what the checks of deepening ensure: 1 to 7, the rooms of a seed of `count` nodes, and a sound seed
-pub record Seedable (s : Settings) (logs : List Float) (counts : List ℕ) (x : Flat) (n : NodeLists) (q : QueueLists) (rows count : ℕ) : Type 0 where
-  pub fitting : Fitting s logs counts x
-  pub lawful : JobFits SingleSmall (job_in s logs x) (length (held_in x))
-  pub logs_small : LogsWithin (row_count x) logs
-  pub counted : rows ≡ row_count x
-  pub room : HasRoom (max (2 * s.max_leaves - 1) count) n
-  pub queue_room : QueueRoom s.max_leaves q
-  pub space : rows + 2 * count ≤ length counts
+pub record Seedable (job : Job) (counts : List ℕ) (x : Flat) (n : NodeLists) (q : QueueLists) (count : ℕ) : Type 0 where
+  pub fitting : Fitting job counts x
+  pub lawful : JobFits SingleSmall (job_in job x) (length (held_in x))
+  pub logs_small : LogsWithin (row_count x) job.logs.now
+  pub room : HasRoom (max (2 * job.settings.max_leaves - 1) count) n
+  pub queue_room : QueueRoom job.settings.max_leaves q
+  pub space : row_count x + 2 * count ≤ length counts
   pub sound : fault_of (seed_in count n) ≡ none
 
 -- which nodes are the seed's splits
@@ -31,10 +32,10 @@ abbrev pub splits_of : List (Record singles) → ℕ → Bool
 splits_of seed k = not (is_leaf (get_or (nodes_of seed) k leaf))
 
 -- The lists hold the model's state of the seed, and there is room for as many splits as the limit allows. Rows and queue have as many entries as they had
-pub record Seeded (s : Settings) (logs : List Float) (counts : List ℕ) (x y : Flat) (n n' : NodeLists) (q q' : QueueLists) (count : ℕ)
+pub record Seeded (job : Job) (counts : List ℕ) (x y : Flat) (n n' : NodeLists) (q : QueueLists) (q' : Queue) (count : ℕ)
     (r : Tree) : Type 0 where
-  pub grows : Grows s logs counts y n' q' r (s.max_leaves - (r.nodes + 1) / 2) n (seed_state (job_in s logs x) (seed_in count n) (held_in x))
+  pub grows : Grows job counts y n' q' r (job.settings.max_leaves - (r.nodes + 1) / 2) n (seed_state (job_in job x) (seed_in count n) (held_in x))
       (splits_of (seed_in count n)) (held_in x)
   pub leaves : (r.nodes + 1) / 2 ≡ leaf_count (nodes_of (seed_in count n))
   pub size : SameSize x y
-  pub queue : SameQueue q q'
+  pub queue : SameQueue q (queue_in q')

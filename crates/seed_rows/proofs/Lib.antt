@@ -1,4 +1,2 @@
--- `Ordering`: the rows ordered. `Pairing`: spans copied. `Same`: what does not see the spans beside the nodes.
+-- `Ordering`: rows ordered by leaf in the count space.
 pub mod Ordering
-pub mod Pairing
-pub mod Same

@@ -1,32 +1,29 @@
 -- Rows ordered by leaf in the count space: what the numbers are, what the ordering leaves, and that the space is clear again. Assumes nothing.
 use mathlib.Core.Path.{◌≡◌, refl, sym, ap, ◌∙◌, subst}
 use mathlib.Core.List.{List, [], ◌∷◌, ◌++◌, map}
-use Prim.Native.Nat.{ℕ, zero, suc, ◌+◌, ◌-◌, ◌*◌, ◌≤◌, ◌<◌}
+use Prim.Native.Nat.{ℕ, zero, suc, ◌+◌, ◌-◌, ◌≤◌, ◌<◌}
 use native.Mathlib.Omega.{arith}
-use lib.ListN.{length, get_or, take, drop, replicate, length-append, length-take, length-drop, length-replicate, replicate-append-replicate, get_or-append}
+use lib.ListN.{length, get_or, take, drop, replicate, length-append, length-map, length-take, length-drop, length-replicate, replicate-append-replicate, get_or-append}
 use lib.Seq.{length-take-le, take-append-add, take_at, drop_at, drop-append-add, drop-drop, get_or-take, get_or-drop, take-append-le}
-use lib.IntN.{ℤ}
-use lib.Ieee.{Float}
 use Rattle.model.specs.Single.{singles}
-use Rattle.model.specs.Rows.{Row, rows_of}
-use Rattle.model.specs.Tree.{Node, Record, nodes_of, leaf_reached}
-use Rattle.model.specs.Lent.{tree_in}
+use Rattle.model.specs.Rows.{Row}
+use Rattle.model.specs.Tree.{Record, leaf_reached}
+use Rattle.model.specs.Lent.{Stored, record_in}
 use Rattle.model.proofs.Paths.{reached-leaf}
 use Rattle.model.proofs.Sound as model
-use Rattle.layout.specs.Layout.{stored_in, nodes_held}
+use Rattle.layout.specs.Records.{stored_of, span_is}
+use Rattle.layout.specs.declared.Span.{Span}
+use Rattle.layout.specs.Tree.{NodeLists, node_lists}
 use Rattle.order.specs.Order.{Ordering, ordering, ordered, ordered_by, first_of, spans_of}
 use Rattle.order.specs.Leaves.{leaf_numbers}
-use Rattle.order.specs.Places.{HoldRows}
 use Rattle.order.specs.Space.{Holds, blank}
 use Rattle.order.proofs.Placing.{span-first, span-end}
 use Rattle.rows.specs.Cells.{span}
 use Rattle.rows.specs.Flat.{Flat, held_in, row_count}
 use Rattle.rows.proofs.Cells.{length-held}
-use Rattle.tree.specs.Trees as tree
-use Rattle.tree.specs.Trees.{AllRoutable}
-use Rattle.tree.proofs.Entries.{nodes-length, nodes-each}
+use Rattle.tree.specs.Trees.{SoundTree}
 use Rattle.tree.proofs.Soundness.{few}
-use Rattle.seed_rows.specs.Ordered.{numbers_in, Orderable, Pairs, SpansOf}
+use Rattle.seed_rows.specs.Ordered.{seed_in, nodes_in, numbers_in, Orderable, Pairs, SpansOf}
 
 -- ---- zeros
 take-zeros : (n m : ℕ) → n ≤ m → take n (replicate {A = ℕ} m 0) ≡ replicate n 0
@@ -44,57 +41,47 @@ below_all f count low [] i h = absurd (omega arith)
 below_all f count low (r ∷ l) zero h = low r
 below_all f count low (r ∷ l) (suc i) h = below_all f count low l i (omega arith)
 
-module _ {x : Flat} {words : List ℕ} {values : List ℤ} {counts : List ℕ} {rows count : ℕ} (o : Orderable x words values counts rows count) where
+module _ {x : Flat} {n : NodeLists} {counts : List ℕ} {rows count : ℕ} (o : Orderable x n counts rows count) where
+  abbrev ends : ℕ
+  ends = rows + count
+
   abbrev space : ℕ
-  space = rows + count + count
+  space = ends + count
 
   abbrev ks : List ℕ
-  ks = numbers_in count words values (held_in x)
+  ks = numbers_in count n (held_in x)
+
+  sound : SoundTree n.nodes count
+  sound = record { held = o.room.nodes; faultless = o.sound }
 
   pub count-few : count ≤ 8191
-  count-few = (few words count o.sound).1
-
-  held : count ≤ nodes_held words values
-  held = omega (arith, o.sound.held, o.values_there)
+  count-few = (few n.nodes count sound).1
 
   rows_long : length (held_in x) ≡ rows
   rows_long = length-held x.props x.toks x.res ∙ sym o.counted
 
-  pub front_long : length (take rows counts) ≡ rows
-  front_long = length-take-le rows counts (omega (arith, o.space))
-
-  pub routable : AllRoutable words values count x.props (take rows counts)
-  routable = record { sound = o.sound; values_there = o.values_there; rows = o.shaped.props ∙ ap (λ (k : ℕ). k * 24) (sym (front_long ∙ o.counted)) }
-
   -- ---- the numbers
-  module _ (nums : List ℕ) (size : length nums ≡ length (take rows counts))
-      (is : (costs : List Float) (toks : List ℕ) (res : List ℤ) → nums
-      ≡ tree.leaf_numbers (tree_in count (stored_in words values costs)) (rows_of (length (take rows counts)) x.props toks res)) where
-    abbrev seed : List (Record singles)
-    seed = tree_in count (stored_in words values [])
-
+  module _ (nums : List ℕ) (is : nums ≡ ks) where
     abbrev counts1 : List ℕ
     counts1 = nums ++ drop rows counts
 
     abbrev space1 : List ℕ
     space1 = take space counts1
 
-    long : length nums ≡ rows
-    long = size ∙ front_long
-
-    numbers-read : nums ≡ map (λ (r : Row). leaf_reached (nodes_of seed) r.props) (held_in x)
-    numbers-read = is [] x.toks x.res ∙ ap (λ (k : ℕ). map (λ (r : Row). leaf_reached (nodes_of seed) r.props)
-        (rows_of k x.props x.toks x.res)) (front_long ∙ o.counted)
-
-    numbers_are : nums ≡ ks
+    numbers-read : nums ≡ map (λ (r : Row). leaf_reached (nodes_in count n) r.props) (held_in x)
     unfolding leaf_numbers
-    numbers_are = numbers-read ∙ ap (λ (n : List Node). map (λ (r : Row). leaf_reached n r.props) (held_in x)) (nodes-each singles words values [] count held)
+    numbers-read = is
 
-    low : (r : Row) → leaf_reached (nodes_of seed) r.props < count
+    long : length nums ≡ rows
+    long = ap length numbers-read ∙ length-map (held_in x) (λ (r : Row). leaf_reached (nodes_in count n) r.props) ∙ rows_long
+
+    low : (r : Row) → leaf_reached (nodes_in count n) r.props < count
     low r =
-        let all = nodes-length singles words values [] count held in
-        let some : 0 < length (nodes_of seed) = omega (arith, (few words count o.sound).0) in
-        rw all at (reached-leaf (nodes_of seed) (model.sound seed (o.sound.faultless values [] held)).rooted.family.forward some r.props).1
+        let stored : List (Stored singles) = take count (map stored_of n.nodes) in
+        let all : length (nodes_in count n) ≡ count = length-map (seed_in count n) (λ (r : Record singles). r.node)
+        ∙ length-map stored record_in ∙ length-take-le count (map stored_of n.nodes) (omega (arith, length-map n.nodes stored_of, o.room.nodes)) in
+        let some : 0 < length (nodes_in count n) = omega (arith, (few n.nodes count sound).0) in
+        rw all at (reached-leaf (nodes_in count n) (model.sound (seed_in count n) o.sound).rooted.family.forward some r.props).1
 
     rest-zeros : drop rows counts ≡ replicate (length counts - rows) 0
     rest-zeros = ap (drop rows) o.zeros ∙ drop-zeros rows (length counts)
@@ -113,9 +100,6 @@ module _ {x : Flat} {words : List ℕ} {values : List ℤ} {counts : List ℕ} {
     front-is : take rows space1 ≡ nums
     front-is = ap (take rows) space-is ∙ take_at nums (replicate count 0 ++ replicate count 0) rows long
 
-    pub hold-rows : HoldRows (row_count x) x.props x.toks x.res
-    hold-rows = record { props = o.shaped.props; toks = o.shaped.toks; res = o.shaped.res; few = o.few }
-
     pub hold-space : Holds blank (row_count x) count space1
     unfolding blank
     hold-space = subst (λ (k : ℕ). Holds blank k count space1) o.counted (record {
@@ -123,7 +107,7 @@ module _ {x : Flat} {words : List ℕ} {values : List ℤ} {counts : List ℕ} {
         long = omega (arith, space-long);
         few = omega (arith, o.few, o.counted);
         below = λ i h. rw (space-is, get_or-append nums (replicate count 0 ++ replicate count 0) 0 i (omega (arith, long)), numbers-read)
-            (below_all (λ (r : Row). leaf_reached (nodes_of seed) r.props) count low (held_in x) i (omega (arith, rows_long)));
+            (below_all (λ (r : Row). leaf_reached (nodes_in count n) r.props) count low (held_in x) i (omega (arith, rows_long)));
       };
       is = space-is ∙ ap (λ (l : List ℕ). l ++ (replicate count 0 ++ replicate count 0)) (sym front-is);
     })
@@ -138,7 +122,7 @@ module _ {x : Flat} {words : List ℕ} {values : List ℤ} {counts : List ℕ} {
       mid = take (space - rows) (drop rows counts2)
 
       keys : take (length (held_in x)) space1 ≡ ks
-      keys = ap (λ (k : ℕ). take k space1) rows_long ∙ front-is ∙ numbers_are
+      keys = ap (λ (k : ℕ). take k space1) rows_long ∙ front-is ∙ is
 
       pub rows-ordered : rows' ≡ ordered_by ks count (held_in x)
       unfolding ordered
@@ -158,30 +142,39 @@ module _ {x : Flat} {words : List ℕ} {values : List ℤ} {counts : List ℕ} {
       mid-long =
           simp (length-take, length-drop, length-append) (omega (arith, size2, space-long, length-drop space counts1))
 
-      mid_at : (k : ℕ) → k < count + count → get_or mid k 0 ≡ get_or space2 (rows + k) 0
-      mid_at k h =
-          get_or-take (space - rows) (drop rows counts2) k 0 (omega arith) ∙ get_or-drop rows counts2 k 0
-          ∙ get_or-append space2 (drop space counts1) 0 (rows + k) (omega (arith, size2, space-long))
+      abbrev firsts : List ℕ
+      firsts = take (ends - rows) (drop rows counts2)
 
-      first-at : (i : ℕ) → i < count → get_or mid i 0 ≡ first_of ks i
+      abbrev lasts : List ℕ
+      lasts = take (space - ends) (drop ends counts2)
+
+      firsts-long : length firsts ≡ count
+      firsts-long =
+          simp (length-take, length-drop, length-append) (omega (arith, size2, space-long, length-drop space counts1))
+
+      part-at : (m a k : ℕ) → k < m → a + k < space → get_or (take m (drop a counts2)) k 0 ≡ get_or space2 (a + k) 0
+      part-at m a k inside h =
+          get_or-take m (drop a counts2) k 0 inside ∙ get_or-drop a counts2 k 0
+          ∙ get_or-append space2 (drop space counts1) 0 (a + k) (omega (arith, size2, space-long))
+
+      first-at : (i : ℕ) → i < count → get_or firsts i 0 ≡ first_of ks i
       first-at i h =
-          mid_at i (omega arith) ∙ ap (λ (l : List ℕ). get_or l (rows + i) 0) space2_is
+          part-at (ends - rows) rows i (omega arith) (omega arith) ∙ ap (λ (l : List ℕ). get_or l (rows + i) 0) space2_is
           ∙ ap (λ (k : ℕ). get_or (ordered count (ordering (held_in x) space1)).space (k + i) 0) (sym rows_long)
           ∙ span-first count (ordering (held_in x) space1) i h ∙ ap (λ (l : List ℕ). first_of l i) keys
 
-      end-at : (i : ℕ) → i < count → get_or mid (count + i) 0 ≡ first_of ks (suc i)
+      end-at : (i : ℕ) → i < count → get_or lasts i 0 ≡ first_of ks (suc i)
       end-at i h =
-          let at : rows + (count + i) ≡ length (held_in x) + count + i = omega (arith, rows_long) in
-          mid_at (count + i) (omega arith) ∙ ap (λ (l : List ℕ). get_or l (rows + (count + i)) 0) space2_is
-          ∙ ap (λ (k : ℕ). get_or (ordered count (ordering (held_in x) space1)).space k 0) at
+          part-at (space - ends) ends i (omega arith) (omega arith) ∙ ap (λ (l : List ℕ). get_or l (ends + i) 0) space2_is
+          ∙ ap (λ (k : ℕ). get_or (ordered count (ordering (held_in x) space1)).space (k + count + i) 0) (sym rows_long)
           ∙ span-end count (ordering (held_in x) space1) i h ∙ ap (λ (l : List ℕ). first_of l (suc i)) keys
 
-      pub spans-of : {words' : List ℕ} → Pairs count count mid words words' → SpansOf ks count words words'
-      spans-of p = record {
+      pub spans-of : {spans : List Span} → Pairs firsts lasts n.spans spans → SpansOf ks count n (node_lists n.nodes spans)
+      spans-of {spans} p = record {
+        nodes = refl;
         long = p.long;
-        there = λ i h. (λ t. span ((p.first i h ∙ first-at i h) t) ((p.second i h ∙ end-at i h) t));
-        nodes = p.nodes;
-        rest = p.rest;
+        there = λ i h. ap span_is (p.pair i (omega (arith, firsts-long))) ∙ (λ t. span (first-at i h t) (end-at i h t));
+        rest = subst (λ (k : ℕ). drop k spans ≡ drop k n.spans) firsts-long p.rest;
       }
 
       -- ---- the count space is clear again

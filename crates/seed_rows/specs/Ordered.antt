@@ -1,74 +1,78 @@
 -- A seed's rows in the order of its leaves, and its leaves' spans beside its words (document 01, "Deepening": rows ordered by leaf number, stably).
 -- Assumes nothing.
-use Rattle.std.specs.Prelude.{ℕ, suc, ◌+◌, ◌*◌, ◌≤◌, ◌<◌, ◌≡◌, List, map, length, get_or, drop, replicate, ℤ}
-use Rattle.model.specs.Lists.{range}
+use Rattle.std.specs.Prelude.{ℕ, suc, ◌+◌, ◌*◌, ◌≤◌, ◌<◌, ◌≡◌, List, map, length, get_or, drop, replicate}
+use Rattle.std.proofs.Math.Option.{none}
 use Rattle.model.specs.Settings.{max_rows, max_nodes}
-use Rattle.model.specs.Meter.{Meter}
+use Rattle.model.specs.Single.{singles}
 use Rattle.model.specs.Rows.{Row}
-use Rattle.model.specs.Tree.{Node, Record}
+use Rattle.model.specs.Tree.{Record, nodes_of, fault_of, Node}
 use Rattle.model.specs.Lent.{tree_in}
-use Rattle.layout.specs.Layout.{words_per_node, first_at, end_at, node_at, HasWords, HasValues}
-use Rattle.layout.specs.Tree.{NodeListsOf}
-use Rattle.lent.specs.Lists.{stored_nodes, span_at}
+use Rattle.layout.specs.Records.{stored_of, span_is, no_span_record}
+use Rattle.layout.specs.declared.MaNode.{MaNode}
+use Rattle.layout.specs.declared.Span.{Span}
+use Rattle.layout.specs.Tree.{NodeLists, HasRoom}
 use Rattle.order.specs.Order.{ordered_by, first_of}
 use Rattle.order.specs.Leaves.{leaf_numbers}
 use Rattle.rows.specs.Cells.{span}
 use Rattle.rows.specs.Flat.{Flat, held_in, row_count, Shaped, SameSize}
-use Rattle.tree.specs.Trees.{SoundTree}
+
+abbrev pub seed_of : ℕ → List MaNode → List (Record singles)
+seed_of count nodes = tree_in count (map stored_of nodes)
 
 -- the seed: the first nodes of the node lists
-abbrev pub seed_in : {M : Meter} → ℕ → NodeListsOf M → List (Record M)
-seed_in count n = tree_in count (stored_nodes n)
+abbrev pub seed_in : ℕ → NodeLists → List (Record singles)
+seed_in count n = seed_of count n.nodes
 
--- its nodes alone, which hang on words and thresholds only
-abbrev pub nodes_in : ℕ → List ℕ → List ℤ → List Node
-nodes_in count words values = map (node_at words values) (range 0 count)
+abbrev pub nodes_in : ℕ → NodeLists → List Node
+nodes_in count n = nodes_of (seed_in count n)
 
 -- the number of the leaf that each row reaches
-abbrev pub numbers_in : ℕ → List ℕ → List ℤ → List Row → List ℕ
-numbers_in count words values rows = leaf_numbers (nodes_in count words values) rows
+abbrev pub numbers_in : ℕ → NodeLists → List Row → List ℕ
+numbers_in count n rows = leaf_numbers (nodes_in count n) rows
+
+-- a sound seed with its rows, and a place for the number of each
+pub record Numberable (x : Flat) (n : NodeLists) (count : ℕ) (numbers : List ℕ) : Type 0 where
+  pub shaped : Shaped x
+  pub sound : fault_of (seed_in count n) ≡ none
+  pub there : count ≤ length n.nodes
+  pub places : length numbers ≡ row_count x
+
+-- as many first rows as ends, and a place for each span
+pub record Paired (firsts ends : List ℕ) (spans : List Span) : Type 0 where
+  pub many : length ends ≡ length firsts
+  pub places : length firsts ≤ length spans
+
+-- they stand in pairs, as spans; what lies past them is unchanged
+pub record Pairs (firsts ends : List ℕ) (spans spans' : List Span) : Type 0 where
+  pub long : length spans' ≡ length spans
+  pub rest : drop (length firsts) spans' ≡ drop (length firsts) spans
+  pub pair : (i : ℕ) → i < length firsts → get_or spans' i no_span_record ≡ record { first = get_or firsts i 0; end = get_or ends i 0 }
 
 -- a sound seed with its rows, and room to order the rows in: count space that is all 0
-pub record Orderable (x : Flat) (words : List ℕ) (values : List ℤ) (counts : List ℕ) (rows count : ℕ) : Type 0 where
+pub record Orderable (x : Flat) (n : NodeLists) (counts : List ℕ) (rows count : ℕ) : Type 0 where
   pub shaped : Shaped x
   pub few : row_count x ≤ max_rows
   pub counted : rows ≡ row_count x
-  pub sound : SoundTree words count
-  pub values_there : HasValues values count
+  pub sound : fault_of (seed_in count n) ≡ none
+  pub room : HasRoom count n
   pub space : rows + 2 * count ≤ length counts
   pub zeros : counts ≡ replicate (length counts) 0
 
--- the five words in front of each node's span are as they were
-pub record SameNodes (words words' : List ℕ) : Type 0 where
-  pub word : (i j : ℕ) → j < 5 → get_or words' (i * words_per_node + j) 0 ≡ get_or words (i * words_per_node + j) 0
-
 -- beside the first nodes stand the spans of the rows with number 0, 1, ..; the nodes are as they were, and so is what lies past them
-pub record SpansOf (numbers : List ℕ) (count : ℕ) (words words' : List ℕ) : Type 0 where
-  pub long : length words' ≡ length words
-  pub there : (i : ℕ) → i < count → span_at words' i ≡ span (first_of numbers i) (first_of numbers (suc i))
-  pub nodes : SameNodes words words'
-  pub rest : drop (count * words_per_node) words' ≡ drop (count * words_per_node) words
+pub record SpansOf (numbers : List ℕ) (count : ℕ) (n n' : NodeLists) : Type 0 where
+  pub nodes : n'.nodes ≡ n.nodes
+  pub long : length n'.spans ≡ length n.spans
+  pub there : (i : ℕ) → i < count → span_is (get_or n'.spans i no_span_record) ≡ span (first_of numbers i) (first_of numbers (suc i))
+  pub rest : drop count n'.spans ≡ drop count n.spans
 
 -- y has the rows of x, ordered by their numbers
-pub record OrderedBy (numbers : List ℕ) (count : ℕ) (x y : Flat) (words words' : List ℕ) : Type 0 where
+pub record OrderedBy (numbers : List ℕ) (count : ℕ) (x y : Flat) (n n' : NodeLists) : Type 0 where
   pub rows : held_in y ≡ ordered_by numbers count (held_in x)
   pub size : SameSize x y
-  pub spans_are : SpansOf numbers count words words'
-
--- two numbers for each of `count` nodes, the first ones in front of the second ones, and the nodes' words
-pub record Paired (count : ℕ) (space words : List ℕ) : Type 0 where
-  pub given : length space ≡ count + count
-  pub room : HasWords words count
-
--- the first n of them stand in pairs, as spans beside the nodes
-pub record Pairs (n count : ℕ) (space words words' : List ℕ) : Type 0 where
-  pub long : length words' ≡ length words
-  pub first : (i : ℕ) → i < n → first_at words' i ≡ get_or space i 0
-  pub second : (i : ℕ) → i < n → end_at words' i ≡ get_or space (count + i) 0
-  pub nodes : SameNodes words words'
-  pub rest : drop (count * words_per_node) words' ≡ drop (count * words_per_node) words
+  pub spans_are : SpansOf numbers count n n'
 
 -- a sound seed, and a list of zeros that has a place for the depth of each node of any seed
-pub record DepthsFit (words : List ℕ) (count : ℕ) (out : List ℕ) : Type 0 where
-  pub sound : SoundTree words count
+pub record DepthsFit (nodes : List MaNode) (count : ℕ) (out : List ℕ) : Type 0 where
+  pub sound : fault_of (seed_of count nodes) ≡ none
+  pub there : count ≤ length nodes
   pub zeros : out ≡ replicate max_nodes 0

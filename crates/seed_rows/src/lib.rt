@@ -2,68 +2,73 @@
 // its depths.
 #![tactic(auto)]
 
-ghost use Rattle.std.specs.Prelude.{◌≡◌, List, take};
-ghost use Rattle.model.specs.Single.{singles};
-ghost use Rattle.model.specs.Tree.{Record, nodes_of};
+ghost use Rattle.std.specs.Prelude.{◌≡◌, take};
+ghost use Rattle.model.specs.Tree.{nodes_of};
 ghost use Rattle.model.specs.Deepen.{depths_of};
-ghost use Rattle.rows.specs.Flat.{flat, held_in};
-ghost use Rattle.tree.specs.Trees.{OfTree};
-ghost use Rattle.seed_rows.specs.Ordered.{numbers_in, Paired, Pairs, Orderable, OrderedBy, DepthsFit};
+ghost use Rattle.layout.specs.Lent.{lists_in, SameNodesLent};
+ghost use Rattle.rows.specs.Flat.{held_in};
+ghost use Rattle.rows.specs.Lent.{flat_in, SameRowsLent};
+ghost use Rattle.seed_rows.specs.Ordered.{seed_of, numbers_in, Numberable, Paired, Pairs};
+ghost use Rattle.seed_rows.specs.Ordered.{Orderable, OrderedBy, DepthsFit};
 
-use layout::Span;
+use layout::{MaNode, Nodes, Span};
+use rows::Rows;
 
 // ---- the rows
 
-// Copies each number's first row and end, which stand apart, to the span beside the node's words.
-fn pair_spans(space: &[u32], words: &mut [u32], count: usize)
-    requires { Paired count space.now words.old }
-    ensures { Pairs count count space.now words.old words.new }
+// The number of the leaf that each row reaches.
+fn number_rows(rows: &Rows, at: &Nodes, numbers: &mut [u32], count: u32)
+    requires { Numberable (flat_in rows.now) (lists_in at.now) count numbers.old }
+    ensures { numbers.new ≡ numbers_in count (lists_in at.now) (held_in (flat_in rows.now)) }
 {
-    for k in 0..count {
-        let span = Span {
-            first: space[k],
-            end: space[count + k],
+    tree::leaf_numbers(rows.props, at.nodes, numbers, count);
+}
+
+// Each number's first row and end, which stand apart, become the span beside the number's node.
+fn pair_spans(firsts: &[u32], ends: &[u32], spans: &mut [Span])
+    requires { Paired firsts.now ends.now spans.old }
+    ensures { Pairs firsts.now ends.now spans.old spans.new }
+{
+    for (k, first) in firsts.iter().enumerate() {
+        spans[k] = Span {
+            first: *first,
+            end: ends[k],
         };
-        layout::put_span(words, k, span);
     }
 }
 
 // Orders the rows by the leaf that each reaches, and writes each node's span. The count space is used and cleared
 // again.
+// Stays: the caller's lists have room for the largest tree, so how many nodes are the tree's goes beside them.
 pub fn order_by_leaf(
-    props: &mut [i32],
-    tok: &mut [u8],
-    res: &mut [i32],
-    words: &mut [u32],
-    values: &[i32],
+    rows: &mut Rows,
+    at: &mut Nodes,
     counts: &mut [u32],
-    rows: usize,
+    row_count: usize,
     count: usize,
 )
-    requires { Orderable (flat props.old tok.old res.old) words.old values.now counts.old rows count }
-    ensures rows { OrderedBy
-        (numbers_in count words.old values.now
-        (held_in (flat props.old tok.old res.old)))
-        count
-        (flat props.old tok.old res.old)
-        (flat props.new tok.new res.new)
-        words.old words.new }
+    requires { Orderable (flat_in rows.old) (lists_in at.old) counts.old row_count count }
+    ensures lent { SameRowsLent rows.old rows.new }
+    ensures nodes_lent { SameNodesLent at.old at.new }
+    ensures rows { OrderedBy (numbers_in count (lists_in at.old) (held_in (flat_in rows.old))) count
+        (flat_in rows.old) (flat_in rows.new) (lists_in at.old) (lists_in at.new) }
     ensures zeros { counts.new ≡ counts.old }
 {
-    let space = rows + count + count;
-    tree::leaf_numbers(props, words, values, &mut counts[..rows], count as u32);
-    order::order_by_number(props, tok, res, &mut counts[..space], count);
-    pair_spans(&counts[rows..space], words, count);
-    lists::clear_u32(&mut counts[rows..space]);
+    let ends = row_count + count;
+    let space = ends + count;
+    number_rows(rows, at, &mut counts[..row_count], count as u32);
+    order::order_by_number(rows, &mut counts[..space], count);
+    pair_spans(&counts[row_count..ends], &counts[ends..space], at.spans);
+    counts[row_count..space].fill(0);
 }
 
 // ---- the depths
 
 // The depth of each node, at the front of a list for any seed.
-pub fn seed_depths(words: &[u32], count: usize, out: &mut [u32])
-    requires { DepthsFit words.now count out.old }
-    ensures { OfTree words.now count (λ (t : List (Record singles)).
-        take count out.new ≡ depths_of (nodes_of t)) }
+// Stays: the caller's lists have room for the largest tree, so how many nodes are the tree's goes beside them.
+pub fn seed_depths(nodes: &[MaNode], count: usize, out: &mut [u32])
+    requires { DepthsFit nodes.now count out.old }
+    ensures { take count out.new ≡ depths_of (nodes_of (seed_of count nodes.now)) }
 {
-    tree::depths(words, count as u32, &mut out[..count]);
+    tree::depths(nodes, count as u32, &mut out[..count]);
 }

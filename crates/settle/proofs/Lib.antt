@@ -1,2 +1,2 @@
--- `Settling`: the steps on the flat lists are those on the rows.
+-- `Settling`: the mode steps on the leaves' spans.
 pub mod Settling

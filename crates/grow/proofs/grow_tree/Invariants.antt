@@ -1,13 +1,12 @@
 -- `grow::grow_tree` meets its contract: the lists hold the state after the splits made so far. Assumes nothing.
-use Rattle.layout.specs.Tree.{node_lists}
-use Rattle.layout.specs.Waiting.{queue_lists}
-use Rattle.rows.specs.Flat.{flat}
+use Rattle.layout.specs.Lent.{lists_in}
+use Rattle.lent.specs.Lent.{SameLent}
+use Rattle.rows.specs.Lent.{flat_in}
 use Rattle.grow.proofs.Growth.{Going}
 use Rattle.grow.proofs.grow_tree.Given as goal
 
 abbrev pub invariant-loop-left : goal.invariant-loop-left
-invariant-loop-left l = Going l.s l.logs l.initial.counts l.counts (flat l.initial.props l.initial.tok l.initial.res) (flat l.props l.tok l.res) (node_lists l.initial.words l.initial.values l.initial.costs) (node_lists l.words l.values l.costs)
-    (queue_lists l.initial.queue_words l.initial.queue_values l.initial.queue_gains) (queue_lists l.queue_words l.queue_values l.queue_gains) l.initial.tree l.tree l.more l.left
-
-abbrev pub decreases-loop-left : goal.decreases-loop-left
-decreases-loop-left l = l.left
+invariant-loop-left l = record {
+  lent : SameLent l.initial.rows l.rows l.initial.at l.at l.initial.queue l.queue;
+  going : Going l.job l.initial.counts l.counts (flat_in l.initial.rows) (flat_in l.rows) (lists_in l.initial.at) (lists_in l.at) l.initial.queue l.queue l.initial.tree l.tree l.more l.left;
+}

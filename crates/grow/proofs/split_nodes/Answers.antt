@@ -1,21 +1,29 @@
 -- `grow::split_nodes` meets its contract. Assumes nothing.
-use mathlib.Core.Path.{◌≡◌, ap, ◌∙◌}
+use mathlib.Core.Path.{sym, ap, ◌∙◌, subst}
 use Prim.Native.Nat.{◌+◌}
+use native.Mathlib.Omega.{arith}
+use borrow.Author.Rules.{rules}
+use lib.ListN.{length-set}
 use mir.Syntax.{w32}
+use mir.Val.{SFits}
 use mir.ValLaws.{to_z-of_z}
-use Rattle.layout.specs.Tree.{node_lists, put, leaf_with, put_split}
-use Rattle.grow.specs.Parts.{split_nodes}
+use Rattle.layout.specs.Tree.{HasRoom, put}
+use Rattle.grow.specs.Parts.{side_entry, split_nodes}
 use Rattle.grow.proofs.split_nodes.Goals as goal
 
-pub returns : goal.returns
+-- the lists after the split and its first leaf
+pub put_leaf-requires-2 : goal.put_leaf-requires-2
+unfolding put
+put_leaf-requires-2 c =
+    let room = c.requires.has_room in
+    subst (λ l. HasRoom (c.args.count + 1 + 1) l) (sym c.put_leaf.ensures.lists)
+    (subst (λ l. HasRoom (c.args.count + 1 + 1) (put c.args.count (side_entry c.args.sides.gt) l)) (sym c.put_split.ensures.lists)
+    (record { nodes = simp length-set (omega (arith, room.nodes)); spans = simp length-set (omega (arith, room.spans)) }))
+
+pub returns-clause-nodes : goal.returns-clause-nodes
 unfolding split_nodes
-returns c = let given = c.args in
-    let same = to_z-of_z w32 given.val c.ranges.val in
-    let val = rw same at c.put_split.ensures.values in
-    let begun = node_lists given.words.now given.values.now given.costs.now in
-    let first : node_lists c.put_split.new.words c.put_split.new.values given.costs.now
-    ≡ put_split given.i given.prop given.val given.count begun =
-    λ j. node_lists (c.put_split.ensures.words j) (val j) given.costs.now in
-    c.put_leaf-2.ensures
-    ∙ ap (put (given.count + 1) (leaf_with given.le given.at given.end))
-    (c.put_leaf.ensures ∙ ap (put given.count (leaf_with given.gt given.first given.at)) first)
+returns-clause-nodes c =
+    let fits : SFits w32 c.args.offer.val = search rules in
+    let split = rw (to_z-of_z w32 c.args.offer.val fits) at c.put_split.ensures.lists in
+    c.put_leaf-2.ensures.lists
+    ∙ ap (put (c.args.count + 1) (side_entry c.args.sides.le)) (c.put_leaf.ensures.lists ∙ ap (put c.args.count (side_entry c.args.sides.gt)) split)

@@ -1,40 +1,39 @@
 -- `grow::split_rows` meets its contract: the partition, and then the two leaves. Assumes nothing.
-use mathlib.Core.Path.{sym, subst, ◌∙◌}
+use mathlib.Core.Path.{refl, sym, subst}
 use mathlib.Core.List.{List}
 use Prim.Native.Nat.{ℕ}
+use native.Mathlib.Omega.{arith}
+use borrow.Author.Rules.{rules}
 use lib.IntN.{ℤ}
 use mir.Syntax.{w32}
 use mir.Val.{SFits, to_z, of_z}
 use mir.ValLaws.{to_z-of_z}
-use Rattle.rows.specs.Cells.{span}
-use Rattle.rows.specs.Flat.{Flat, flat}
+use Rattle.model.specs.Rows.{Span}
+use Rattle.rows.specs.Flat.{Flat}
 use Rattle.rows.specs.Parted.{Partitioned}
+use Rattle.rows.specs.Lent.{flat_in}
 use Rattle.lent.specs.Fitting.{LeafFits}
 use Rattle.grow.proofs.Dividing.{gt-fits, le-fits, rows_split}
 use Rattle.grow.proofs.split_rows.Goals as goal
 
 -- a threshold in range is the number that the partition was given
-given_val : {first end prop at : ℕ} {x y : Flat} (val : ℤ) → SFits w32 val
-    → Partitioned prop (to_z w32 (of_z w32 val)) (span first end) x y at → Partitioned prop val (span first end) x y at
+given_val : {prop at : ℕ} {sp : Span} {x y : Flat} (val : ℤ) → SFits w32 val → Partitioned prop (to_z w32 (of_z w32 val)) sp x y at → Partitioned prop val sp x y at
 given_val val fits done = rw (to_z-of_z w32 val fits) at done
 
+pub overflow_cast-middle : goal.overflow_cast-middle
+overflow_cast-middle c =
+    let fits = gt-fits c.requires c.partition-middle.ensures.rows in
+    record { fits = omega (arith, fits.fitting.few, fits.spanned.inside) }
+
 pub make_leaf-gt-requires : goal.make_leaf-gt-requires
-make_leaf-gt-requires c = gt-fits c.requires (given_val c.args.val c.ranges.val c.partition-at.ensures)
+make_leaf-gt-requires c = gt-fits c.requires c.partition-middle.ensures.rows
 
 pub make_leaf-le-requires : goal.make_leaf-le-requires
 make_leaf-le-requires c =
-    let given = c.args in
-    let rows = c.partition-at.new in
-    let mid = flat rows.props c.make_leaf-gt.new.tok rows.res in
-    subst (λ (l : List ℕ). LeafFits mid c.partition-at.result given.end given.s given.logs.now l) (sym c.make_leaf-gt.ensures.zeros)
-    (le-fits {y = flat rows.props rows.tok rows.res} c.requires (given_val c.args.val c.ranges.val c.partition-at.ensures) {mid = mid} c.make_leaf-gt.ensures.answer)
+    subst (λ (l : List ℕ). LeafFits (flat_in c.make_leaf-gt.new.rows) c.partition-middle.result c.args.span.end c.args.job l) (sym c.make_leaf-gt.ensures.zeros)
+    (le-fits c.requires c.partition-middle.ensures.rows c.make_leaf-gt.ensures.answer)
 
-pub returns : goal.returns
-returns c =
-    let rows = c.partition-at.new in
-    record {
-      split = rows_split {y = flat rows.props rows.tok rows.res} c.requires (given_val c.args.val c.ranges.val c.partition-at.ensures)
-          {mid = flat rows.props c.make_leaf-gt.new.tok rows.res} c.make_leaf-gt.ensures.answer
-          {z = flat rows.props c.make_leaf-le.new.tok rows.res} c.make_leaf-le.ensures.answer;
-      zeros = c.make_leaf-le.ensures.zeros ∙ c.make_leaf-gt.ensures.zeros;
-    }
+pub returns-clause-split : goal.returns-clause-split
+returns-clause-split c =
+    let fits : SFits w32 c.args.offer.val = search rules in
+    rows_split c.requires (given_val c.args.offer.val fits c.partition-middle.ensures.rows) c.make_leaf-gt.ensures.answer c.make_leaf-le.ensures.answer _ _ refl refl

@@ -1,11 +1,11 @@
 -- `mode::commonest` meets its contract: the values are counted, the best place is found, and the places in use are cleared. Assumes nothing.
 use mathlib.Core.Path.{◌≡◌, ap, ◌∙◌}
-use mathlib.Core.List.{List, ◌++◌}
+use mathlib.Core.List.{List}
 use Prim.Native.Nat.{ℕ, ◌-◌, ◌^◌, ◌<◌}
 use native.Mathlib.Omega.{arith}
 use lib.IntN.{ℤ, pos, ◌+ℤ◌}
-use lib.ListN.{drop, replicate}
-use lib.Seq.{slice, length-slice}
+use lib.ListN.{length, take}
+use lib.Seq.{length-take-le}
 use mir.Syntax.{w32}
 use mir.Val.{SFits}
 use mir.ValLaws.{to_z-of_z, to_z_pos}
@@ -20,20 +20,23 @@ module _ (c : After-first_best-best) where
   abbrev low : ℤ
   low = c.args.low
 
-  abbrev values : List ℤ
-  values = slice c.args.first c.args.end c.args.res.now
+  abbrev counts : List ℕ
+  counts = tallied low c.args.res.now c.args.counts.now
+
+  counted : c.tally.new.counts ≡ counts
+  counted = rw (to_z-of_z w32 low c.ranges.low) at c.tally.ensures
 
   abbrev best : ℕ
   best = c.first_best-best.result
 
-  counted : c.tally.new.counts ≡ tallied low values c.args.counts.now
-  counted = rw (to_z-of_z w32 low c.ranges.low) at c.tally.ensures
+  in-use : length (take c.args.width counts) ≡ c.args.width
+  in-use = let narrow = c.requires.narrow.narrow in let long = c.requires.clear.long in rw (← counted) (length-take-le c.args.width c.tally.new.counts (omega arith))
 
-  best-is : best ≡ first_best (tallied low values c.args.counts.now) c.args.width
-  best-is = c.first_best-best.ensures ∙ ap (λ (l : List ℕ). first_best l c.args.width) counted
+  best-is : best ≡ first_best (take c.args.width counts) c.args.width
+  best-is = rw (counted, in-use) at c.first_best-best.ensures
 
   below : best < c.args.width
-  below = let some = c.requires.narrow.some in omega (arith, best-is, best-lt (tallied low values c.args.counts.now) c.args.width 0 0 (omega arith))
+  below = let some = c.requires.narrow.some in omega (arith, best-is, best-lt (take c.args.width counts) c.args.width 0 0 (omega arith))
 
   small : best < 2 ^ 31
   small = omega (arith, below, c.requires.narrow.narrow)
@@ -43,7 +46,7 @@ module _ (c : After-first_best-best) where
 
 pub tally-requires : goal.tally-requires
 tally-requires c = let narrow = c.requires.narrow in
-    let n = length-slice c.args.first c.args.end c.args.res.now c.requires.inside.inside in record { inside = c.requires.inside; countable = rw (to_z-of_z w32 c.args.low c.ranges.low) (countable c.args.low c.args.width _ _ narrow.near narrow.narrow (omega (arith, n, c.requires.inside.few)) c.requires.clear) }
+    rw (to_z-of_z w32 c.args.low c.ranges.low) (countable c.args.low c.args.width _ _ narrow.near narrow.narrow c.requires.few c.requires.clear)
 
 pub overflow_cast-result : goal.overflow_cast-result
 overflow_cast-result c = record { sfits = small (goal.at.overflow_cast-result c).After-first_best-best }
@@ -53,16 +56,14 @@ overflow_add-result c' =
     let c = (goal.at.overflow_add-result c').After-first_best-best in
     rw (to_z-of_z w32 (low c) c.ranges.low, to_z_pos w32 (best c) (small c)) (sum c)
 
-pub returns : goal.returns
-returns c' =
-    let c = (goal.at.returns c').After-first_best-best in
-    let counts = c.args.counts.now in
-    let width = c.args.width in
-    let narrow = c.requires.narrow in
-    let clear = c.requires.clear in record {
-      answer = rw (to_z-of_z w32 (low c) c.ranges.low, to_z_pos w32 (best c) (small c), to_z-of_z w32 (low c +ℤ pos (best c)) (sum c))
-          (ap (λ (n : ℕ). low c +ℤ pos n) (best-is c) ∙ oftenest-counted (low c) width (values c) counts narrow.near narrow.narrow clear);
-      zeros = c'.clear_first_u32.ensures
-          ∙ ap (λ (l : List ℕ). replicate width 0 ++ drop width l) (counted c)
-          ∙ cleared (low c) width (values c) counts narrow.near narrow.narrow clear;
-    }
+pub returns-clause-answer : goal.returns-clause-answer
+returns-clause-answer c' =
+    let c = (goal.at.returns-clause-answer c').After-first_best-best in
+    rw (to_z-of_z w32 (low c) c.ranges.low, to_z_pos w32 (best c) (small c), to_z-of_z w32 (low c +ℤ pos (best c)) (sum c))
+    (ap (λ (n : ℕ). low c +ℤ pos n) (best-is c) ∙ oftenest-counted (low c) c.args.width c.args.res.now c.args.counts.now c.requires.narrow.near c.requires.narrow.narrow c.requires.clear)
+
+pub returns-clause-zeros : goal.returns-clause-zeros
+returns-clause-zeros c' =
+    let c = (goal.at.returns-clause-zeros c').After-first_best-best in
+    let filled = rw (counted c, in-use c) at c'.fill.ensures.after (λ y e. e) in
+    rw (filled, counted c) (cleared (low c) c.args.width c.args.res.now c.args.counts.now c.requires.narrow.near c.requires.narrow.narrow c.requires.clear)

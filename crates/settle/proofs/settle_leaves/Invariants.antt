@@ -1,12 +1,17 @@
--- `settle::settle_leaves` meets its contract: the nodes passed are settled. Assumes nothing.
+-- `settle::settle_leaves` meets its contract: what is left to settle is what all nodes ask. Assumes nothing.
 use mathlib.Core.Path.{◌≡◌}
-use Prim.Native.Nat.{◌-◌, ◌≤◌}
-use lib.ListN.{length}
-use Rattle.settle.specs.Leaves.{settled_tokens}
+use lib.ListN.{take}
+use Rattle.std.specs.Iterator.Adapters.{zip_first, zip_second}
+use Rattle.std.specs.Slice.Iter.{iter_rest}
+use Rattle.rows.specs.Lent.{flat_in, SameRowsLent}
+use Rattle.settle.proofs.Settling.{Left}
 use Rattle.settle.proofs.settle_leaves.Given as goal
 
-abbrev pub invariant-loop-i : goal.invariant-loop-i
-invariant-loop-i l = (l.i ≤ l.count) × (length l.tok ≡ length l.initial.tok) × (l.tok ≡ settled_tokens l.words l.uses l.res l.i l.initial.tok) × (l.counts ≡ l.initial.counts)
-
-abbrev pub decreases-loop-i : goal.decreases-loop-i
-decreases-loop-i l = l.count - l.i
+abbrev pub invariant-loop-node : goal.invariant-loop-node
+invariant-loop-node l =
+    (goal.iterator-loop-node).can_next l.node-iterator ×
+    (goal.iterator-loop-node).is_finite l.node-iterator ×
+    SameRowsLent l.initial.rows l.rows ×
+    (l.counts ≡ l.initial.counts) ×
+    Left l.uses (take l.count l.at.nodes.now) (take l.count l.at.spans.now) (flat_in l.initial.rows)
+    (iter_rest (zip_first l.node-iterator)) (iter_rest (zip_second l.node-iterator)) (flat_in l.rows) l.counts
