@@ -1,18 +1,17 @@
 // What the exports answer. Enums do not cross over to C, so an answer is a struct of numbers: number 0 says that the
 // call was accepted, and any other number is document 01's, with its place; the rest of a refusal is 0.
+// Stays: a number and a place beside each answer, since enums do not cross over to C.
 #![tactic(auto)]
 
 ghost use Rattle.std.specs.Prelude.{◌≡◌};
-ghost use Rattle.model.specs.Operations.{answer_of};
-ghost use Rattle.sampling.specs.Sampled.{sample_outcome};
-ghost use Rattle.contexts.specs.Answers.{contexts_counted};
+ghost use Rattle.model.specs.Answered.{outcome_of_result};
+ghost use Rattle.lookup.specs.Ways.{found_outcome};
 ghost use Rattle.lent.specs.Answer.{tree_outcome};
-ghost use Rattle.answers.specs.Answers.{value_in, count_in, learned_in};
+ghost use Rattle.answers.specs.Answers.{value_in, found_in, count_in, learned_in};
 
-use contexts::Contexts;
 use lent::Learned;
-use model::TokenValue;
-use sampling::Sampled;
+use lookup::Found;
+use model::Refusal;
 
 // The value of a token and its extra bits.
 #[repr(C)]
@@ -54,81 +53,86 @@ pub struct LearnedTree {
     pub flat: f64,
 }
 
-pub fn value_answer(r: TokenValue) -> Read
-    ensures { result ≡ value_in (answer_of r) }
-{
-    match r {
-        TokenValue::Value(value) => Read {
-            number: 0,
-            place: 0,
-            value,
-        },
-        TokenValue::Refused { number, place } => Read {
-            number,
-            place,
-            value: 0,
-        },
+impl From<Result<u32, Refusal>> for Read {
+    ghost from_gives = { λ r it. it ≡ value_in (outcome_of_result r) };
+
+    fn from(r: Result<u32, Refusal>) -> Read {
+        match r {
+            Ok(value) => Read {
+                number: 0,
+                place: 0,
+                value,
+            },
+            Err(refusal) => Read {
+                number: refusal.number(),
+                place: refusal.place(),
+                value: 0,
+            },
+        }
     }
 }
 
-pub fn contexts_answer(r: Contexts) -> Count
-    ensures { result ≡ count_in (contexts_counted r) }
-{
-    match r {
-        Contexts::Counted(count) => Count {
-            number: 0,
-            place: 0,
-            count,
-        },
-        Contexts::Refused { number, place } => Count {
-            number,
-            place,
-            count: 0,
-        },
+impl From<Result<u32, Refusal>> for Count {
+    ghost from_gives = { λ r it. it ≡ count_in (outcome_of_result r) };
+
+    fn from(r: Result<u32, Refusal>) -> Count {
+        match r {
+            Ok(count) => Count {
+                number: 0,
+                place: 0,
+                count,
+            },
+            Err(refusal) => Count {
+                number: refusal.number(),
+                place: refusal.place(),
+                count: 0,
+            },
+        }
     }
 }
 
-pub fn sampled_answer(r: Sampled) -> Count
-    ensures { result ≡ count_in (sample_outcome r) }
-{
-    match r {
-        Sampled::Picked(count) => Count {
-            number: 0,
-            place: 0,
-            count,
-        },
-        Sampled::Refused { number, place } => Count {
-            number,
-            place,
-            count: 0,
-        },
+impl From<Result<Found, Refusal>> for FoundLeaf {
+    ghost from_gives = { λ r it. it ≡ found_in (found_outcome r) };
+
+    fn from(r: Result<Found, Refusal>) -> FoundLeaf {
+        match r {
+            Ok(found) => FoundLeaf {
+                number: 0,
+                place: 0,
+                leaf: found.leaf,
+                pred: found.pred,
+            },
+            Err(refusal) => FoundLeaf {
+                number: refusal.number(),
+                place: refusal.place(),
+                leaf: 0,
+                pred: 0,
+            },
+        }
     }
 }
 
-pub fn learned_answer(r: Learned) -> LearnedTree
-    ensures { result ≡ learned_in (tree_outcome r) }
-{
-    match r {
-        Learned::Grown {
-            nodes,
-            leaves,
-            bits,
-            flat,
-        } => LearnedTree {
-            number: 0,
-            place: 0,
-            nodes,
-            leaves,
-            bits,
-            flat,
-        },
-        Learned::Refused { number, place } => LearnedTree {
-            number,
-            place,
-            nodes: 0,
-            leaves: 0,
-            bits: 0.0,
-            flat: 0.0,
-        },
+impl From<Result<Learned, Refusal>> for LearnedTree {
+    ghost from_gives = { λ r it. it ≡ learned_in (tree_outcome r) };
+
+    fn from(r: Result<Learned, Refusal>) -> LearnedTree {
+        match r {
+            Ok(tree) => LearnedTree {
+                number: 0,
+                place: 0,
+                nodes: tree.nodes,
+                leaves: tree.leaves,
+                bits: tree.bits,
+                flat: tree.flat,
+            },
+            Err(refusal) => LearnedTree {
+                number: refusal.number(),
+                place: refusal.place(),
+                nodes: 0,
+                leaves: 0,
+                bits: 0.0,
+                flat: 0.0,
+            },
+        }
     }
 }

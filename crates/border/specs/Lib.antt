@@ -1,3 +1,2 @@
--- `Lists`: the lent lists with node and span records, and what they hold afterwards. `Numbers`: records in the core's number lists.
+-- `Lists`: the lent lists with node and span records, and what they hold afterwards.
 pub mod Lists
-pub mod Numbers

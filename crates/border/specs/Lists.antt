@@ -13,8 +13,15 @@ use Rattle.model.specs.Refuse.{learn_refusal, deepen_refusal}
 use Rattle.model.specs.Operations.{After, Tree, ContextLists, tree_of, unless, learn, deepen}
 use Rattle.model.specs.Tree.{Record}
 use Rattle.layout.specs.Waiting.{QueueLists, queue_lists}
+use Rattle.layout.specs.declared.Nodes.{Nodes}
+use Rattle.queue.specs.Lent.{queue_in}
+use Rattle.queue.specs.Room.{leaves_lent, cleared}
+use Rattle.queue.specs.declared.Queue.{Queue}
+use Rattle.refuse.specs.declared.Rooms.{Rooms}
 use Rattle.rows.specs.Flat.{Flat, flat, flat_of, has_residuals}
-use Rattle.lent.specs.Lists.{stored_queue, clear_queue}
+use Rattle.rows.specs.Lent.{flat_in}
+use Rattle.rows.specs.declared.Rows.{Rows}
+use Rattle.lent.specs.Lists.{stored_queue}
 use Rattle.layout.specs.Records.{stored_of, record_of, span_is, span_record}
 use Rattle.layout.specs.declared.MaNode.{MaNode}
 use Rattle.layout.specs.declared.Span.{Span}
@@ -37,6 +44,14 @@ abbrev pub records_with : List MaNode → List Span → MutBor (List ℤ) → Mu
     → MutBor (List Float) → MutBor (List ℕ) → Records
 records_with nodes spans props tok res queue_words queue_values queue_gains counts =
     records (flat props.now tok.now res.now) nodes spans (queue_lists queue_words.now queue_values.now queue_gains.now) counts.now
+
+-- what the learner's structs hold
+abbrev pub records_in : Rows → Nodes → Queue → List ℕ → Records
+records_in rows at queue counts = records (flat_in rows) at.nodes.now at.spans.now (queue_in queue) counts
+
+-- how many entries there are
+abbrev pub rooms_in : Records → Rooms
+rooms_in x = record { nodes = length x.nodes; spans = length x.spans; queue = leaves_lent x.queue; counts = length x.counts }
 
 -- and those lent to contexts
 abbrev pub contexts_now : MutBor (List ℕ) → MutBor (List ℕ) → ContextLists
@@ -66,7 +81,7 @@ records_after r x =
       rows = flat_of (has_residuals x.rows) r.rows;
       nodes = written_over (map node_record r.records) x.nodes;
       spans = written_over (map span_record r.spans) x.spans;
-      queue = clear_queue x.queue;
+      queue = cleared x.queue;
       counts = replicate (length x.counts) 0;
     }
 

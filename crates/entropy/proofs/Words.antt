@@ -1,10 +1,10 @@
 -- What the machine's operations on 32-bit words make of the definitions. Assumes nothing.
-use Rattle.std.proofs.Common.{◌≡◌, ℕ, suc, ◌+◌, ◌-◌, ◌*◌, ◌/◌, ◌%◌, ◌^◌, ◌<◌, ◌≤◌, true, false, not, T, ltb, ℤ, pos, negsuc, ◌+ℤ◌, ◌-ℤ◌, nat_abs, refl, mod-eq_of_lt, one-mul, arith, pow_pos, w32, w64, Fits, SFits, to_z, of_z, ltb-true, le-ltb, lt-ltb}
+use Rattle.std.proofs.Common.{◌≡◌, ℕ, suc, ◌+◌, ◌-◌, ◌*◌, ◌/◌, ◌%◌, ◌^◌, ◌<◌, ◌≤◌, true, false, not, ltb, ℤ, pos, negsuc, refl, mod-eq_of_lt, one-mul, arith, pow_pos, w32, Fits, SFits, to_z, of_z, le-ltb, lt-ltb}
 use lib.Bits.{bit_and, and_mask}
 use lib.Count.{count_leading_zeros, leading_top}
 use lib.Pow.{pow-lt}
-use lib.Signed.{lt_z, non_neg}
-use mir.ValLaws.{to_z-of_z, to_z_pos}
+use lib.Signed.{lt_z}
+use mir.ValLaws.{to_z-of_z}
 use Rattle.model.specs.declared.Encoded.{Encoded}
 use Rattle.model.specs.Pack.{packed, pattern, packed_pattern}
 use Rattle.model.specs.Token.{top_bit, token_of, extra_count, extra_bits, value_of, encoded_of}
@@ -17,51 +17,13 @@ use Rattle.model.proofs.Tokens.{top_bit_lem, top_least, large-count, value-fits,
 abbrev pub read : ℤ → ℤ
 read z = to_z w32 (of_z w32 z)
 
-pub widen : (z : ℤ) → SFits w32 z → SFits w64 (read z)
-widen z h = rw (to_z-of_z w32 z h) (record { sfits = omega (arith, h.sfits) })
-
-pattern-fits : (z : ℤ) → SFits w32 z → Fits w32 (pattern z)
+pub pattern-is : (z : ℤ) → SFits w32 z → of_z w32 (read z) ≡ pattern z
 unfolding pattern
-pattern-fits (pos n) h = record { fits = omega (arith, h.sfits) }
-pattern-fits (negsuc n) h = record { fits = omega arith }
-
--- not negative: z itself
-module _ (z : ℤ) (h : SFits w32 z) (e : lt_z (read z) (pos 0) ≡ false) where
-  same : T (non_neg (read z)) × (nat_abs (read z) ≡ pattern z)
-  unfolding pattern
-  same = rw (to_z-of_z w32 z h) (go z (rw (to_z-of_z w32 z h) at e))
-    where
-      go : (z : ℤ) → lt_z z (pos 0) ≡ false → T (non_neg z) × (nat_abs z ≡ pattern z)
-      go (pos n) e = (tt, refl)
-      go (negsuc n) e = let z : ◌≡◌ {A = ℕ} 0 1 = cc in absurd (omega arith)
-
-  pub natural_cast : T (non_neg (read z)) × Fits w32 (nat_abs (read z))
-  natural_cast = (same.0, rw same.1 (pattern-fits z h))
-
-  pub natural_is : nat_abs (read z) ≡ pattern z
-  natural_is = same.1
-
--- negative: z + 2 ^ 32, summed in 64 bits
-module _ (z : ℤ) (h : SFits w32 z) (e : lt_z (read z) (pos 0) ≡ true) where
-  abbrev sum : ℤ
-  sum = to_z w64 (of_z w64 (read z)) +ℤ pos 4294967296
-
-  sum_is : sum ≡ pos (pattern z)
-  unfolding pattern
-  sum_is = rw (to_z-of_z w64 (read z) (widen z h), to_z-of_z w32 z h) (go z h (rw (to_z-of_z w32 z h) at e))
-    where
-      go : (z : ℤ) → SFits w32 z → lt_z z (pos 0) ≡ true → z +ℤ pos 4294967296 ≡ pos (pattern z)
-      go (pos n) h e = let none = ltb-true n 0 e in absurd (omega arith)
-      go (negsuc n) h e = rw (le-ltb 4294967296 (suc n) (omega (arith, h.sfits)))
-
-  pub negative-sum : SFits w64 sum
-  negative-sum = rw sum_is (record { sfits = omega (arith, (pattern-fits z h).fits) })
-
-  pub negative-is : nat_abs (to_z w64 (of_z w64 sum)) ≡ pattern z
-  negative-is = let lt = (pattern-fits z h).fits in rw (sum_is, to_z_pos w64 (pattern z) (omega arith))
-
-  pub negative_cast : T (non_neg (to_z w64 (of_z w64 sum))) × Fits w32 (nat_abs (to_z w64 (of_z w64 sum)))
-  negative_cast = let lt = (pattern-fits z h).fits in rw (sum_is, to_z_pos w64 (pattern z) (omega arith)) (tt, record { fits = lt })
+pattern-is z h = rw (to_z-of_z w32 z h) (go z)
+  where
+    go : (z : ℤ) → of_z w32 z ≡ pattern z
+    go (pos n) = refl
+    go (negsuc n) = refl
 
 -- ---- packing
 
@@ -134,20 +96,3 @@ word_value t extra large le few =
     let whole = large-value t extra large in
     let lt : (4 + t % 4) * 2 ^ extra_count t < 2 ^ 32 = omega (arith, value-fits t extra le few) in
     rw (mod-eq_of_lt lt, whole)
-
--- ---- a pattern from 2 ^ 31 on, from which the machine takes 2 ^ 32
-module _ (p : ℕ) (le : 2147483648 ≤ p) (fits : Fits w32 p) where
-  abbrev difference : ℤ
-  difference = to_z w64 p -ℤ pos 4294967296
-
-  difference-is : difference ≡ negsuc (4294967296 - suc p)
-  difference-is = let lt = fits.fits in rw (to_z_pos w64 p (omega arith), lt-ltb p 4294967296 (omega arith))
-
-  pub high-difference : SFits w64 difference
-  high-difference = rw difference-is (record { sfits = omega arith })
-
-  pub high_read : to_z w64 (of_z w64 difference) ≡ negsuc (4294967296 - suc p)
-  high_read = rw (to_z-of_z w64 difference high-difference) difference-is
-
-  pub high_cast : SFits w32 (to_z w64 (of_z w64 difference))
-  high_cast = rw high_read (record { sfits = omega arith })

@@ -4,19 +4,16 @@
 ghost use Rattle.std.specs.Prelude.{◌≡◌};
 ghost use Rattle.model.specs.Pack.{packed, pattern as Pack·pattern};
 ghost use Rattle.model.specs.Token.{extra_count, encoded_of};
-ghost use Rattle.model.specs.Operations.{answer_of, token_answer};
+ghost use Rattle.model.specs.Operations.{token_answer};
+ghost use Rattle.model.specs.Answered.{outcome_of_result};
 
-use model::{Encoded, TokenValue};
+use model::{Encoded, Refusal};
 
 // The 32-bit pattern of a signed number.
 pub fn pattern(value: i32) -> u32
     ensures { result ≡ Pack·pattern value }
 {
-    if value < 0 {
-        (value as i64 + 4294967296) as u32
-    } else {
-        value as u32
-    }
+    value.cast_unsigned()
 }
 
 // A signed number as an unsigned one: 0, -1, 1, -2 .. give 0, 1, 2, 3 ..
@@ -60,24 +57,18 @@ pub fn extra_count(token: u32) -> u32
 
 // The value of a token and its extra bits. Refused are a token over 127, and extra bits too large
 // for their count.
-pub fn token_value(token: u32, extra: u32) -> TokenValue
-    ensures { answer_of result ≡ token_answer token extra }
+pub fn token_value(token: u32, extra: u32) -> Result<u32, Refusal>
+    ensures { outcome_of_result result ≡ token_answer token extra }
 {
     if token > 127 {
-        return TokenValue::Refused {
-            number: 10,
-            place: 0,
-        };
+        return Err(Refusal::BadCode);
     }
     let nbits = extra_count(token);
     if extra >= 1 << nbits {
-        return TokenValue::Refused {
-            number: 10,
-            place: 0,
-        };
+        return Err(Refusal::BadCode);
     }
     if token < 16 {
-        return TokenValue::Value(token);
+        return Ok(token);
     }
-    TokenValue::Value(((4 + token % 4) << nbits) + extra)
+    Ok(((4 + token % 4) << nbits) + extra)
 }

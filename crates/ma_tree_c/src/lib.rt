@@ -49,6 +49,7 @@ pub extern "C" fn ostrovuc_evenly_sampled_indices(
 }
 
 // Learns a tree from the rows into the node list.
+// Stays: the C interface lends its lists one by one.
 #[unsafe(no_mangle)]
 pub extern "C" fn ostrovuc_learn<'n, 'a>(
     nodes: &'n mut [MaNode],
@@ -85,6 +86,7 @@ pub extern "C" fn ostrovuc_learn<'n, 'a>(
 }
 
 // Deepens the tree of the first `count` nodes.
+// Stays: the C interface lends its lists one by one.
 #[unsafe(no_mangle)]
 pub extern "C" fn ostrovuc_deepen<'n, 'a>(
     nodes: &'n mut [MaNode],

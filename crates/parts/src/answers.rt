@@ -1,10 +1,10 @@
 // What the parts answer. Enums do not cross over to C, so an answer is a struct of numbers.
 ghost use Rattle.std.specs.Prelude.{◌≡◌};
 ghost use Rattle.score.specs.Scored.{score_is};
-ghost use Rattle.parts.specs.Answers.{planned_in, score_out};
+ghost use Rattle.parts.specs.Answers.{score_out};
 
-use candidates::Plan;
-use score::Score;
+use layout::Tree;
+use score::Threshold;
 
 // How many nodes pruning leaves, and their estimated bits.
 #[repr(C)]
@@ -14,13 +14,14 @@ pub struct PrunedTree {
     pub bits: f64,
 }
 
-// How many candidates there are, 0 for none.
-pub fn plan_answer(r: Plan) -> usize
-    ensures { result ≡ planned_in r }
-{
-    match r {
-        Plan::Candidates(n) => n,
-        Plan::Nothing => 0,
+impl From<Tree> for PrunedTree {
+    ghost from_gives = { λ r it. (it.nodes ≡ r.nodes) × (it.bits ≡ r.bits) };
+
+    fn from(r: Tree) -> PrunedTree {
+        PrunedTree {
+            nodes: r.nodes,
+            bits: r.bits,
+        }
     }
 }
 
@@ -34,19 +35,21 @@ pub struct Scored {
 }
 
 // What scoring found, as numbers.
-pub fn scored_answer(r: Score) -> Scored
-    ensures { score_out result ≡ score_is r }
-{
-    match r {
-        Score::Nothing => Scored {
-            found: 0,
-            threshold: 0,
-            cost: 0.0,
-        },
-        Score::Threshold(threshold, cost) => Scored {
-            found: 1,
-            threshold,
-            cost,
-        },
+impl From<Option<Threshold>> for Scored {
+    ghost from_gives = { λ r it. score_out it ≡ score_is r };
+
+    fn from(r: Option<Threshold>) -> Scored {
+        match r {
+            None => Scored {
+                found: 0,
+                threshold: 0,
+                cost: 0.0,
+            },
+            Some(Threshold { val, bits }) => Scored {
+                found: 1,
+                threshold: val,
+                cost: bits,
+            },
+        }
     }
 }

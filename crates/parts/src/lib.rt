@@ -30,30 +30,33 @@ ghost use Rattle.parts.specs.Answers.{score_out};
 pub mod answers;
 
 use answers::{PrunedTree, Scored};
+use candidates::Probe;
+use cost::NodeCounts;
+use layout::{MaNode, Nodes, Span};
+use rows::Rows;
+use score_bins::SpanRows;
+use score_windows::SideWindows;
 
 // The tree of the first `count` entries, pruned at a price.
+// Stays: the C interface lends its lists one by one.
 #[unsafe(no_mangle)]
 pub extern "C" fn ostrovuc_prune(
-    words: &mut [u32],
-    values: &mut [i32],
-    costs: &mut [f32],
+    nodes: &mut [MaNode],
+    spans: &mut [Span],
     count: usize,
     price: f32,
 ) -> PrunedTree
-    requires { Prunable (node_lists words.old values.old costs.old) count price }
+    requires { Prunable (node_lists nodes.old spans.old) count price }
     ensures { (tree : List (Entry singles)) (lent : NodeLists)
-        → HoldsTree (node_lists words.old values.old costs.old) count price tree lent
-        → PrunedAs price tree lent (node_lists words.new values.new costs.new)
-        (record { nodes = result.nodes; waiting = 0; bits = result.bits }) }
+        → HoldsTree (node_lists nodes.old spans.old) count price tree lent
+        → PrunedAs price tree lent (node_lists nodes.new spans.new)
+        (record { nodes = result.nodes; bits = result.bits }) }
 {
-    let pruned = prune::prune_tree(words, values, costs, count, price);
-    PrunedTree {
-        nodes: pruned.nodes,
-        bits: pruned.bits,
-    }
+    PrunedTree::from(prune::prune_tree(&mut Nodes { nodes, spans }, count, price))
 }
 
 // Where the rows begin whose property is not above the threshold.
+// Stays: the C interface lends its lists one by one.
 #[unsafe(no_mangle)]
 pub extern "C" fn ostrovuc_partition(
     props: &mut [i32],
@@ -69,7 +72,8 @@ pub extern "C" fn ostrovuc_partition(
         (flat props.old tok.old res.old)
         (flat props.new tok.new res.new) result }
 {
-    rows::partition(props, tok, res, first, end, prop, threshold)
+    let mut rows = Rows { props, tok, res };
+    rows.partition(first, end, prop, threshold)
 }
 
 // The mode of the rows from first to end, whose zero-predictor tokens are made anew. The first 4,096 counts are 0,
@@ -91,6 +95,7 @@ pub extern "C" fn ostrovuc_mode_step(
 }
 
 // How many candidates stand at the front of `cands` then. The first 4,096 flags are 0, before and after.
+// Stays: the C interface lends its lists one by one.
 #[unsafe(no_mangle)]
 pub extern "C" fn ostrovuc_pick_candidates(
     props: &[i32],
@@ -107,15 +112,13 @@ pub extern "C" fn ostrovuc_pick_candidates(
         (candidates_of max_candidates (column props.now prop first end)) cands.old }
     ensures zeros { flags.new ≡ flags.old }
 {
-    answers::plan_answer(candidates::pick_candidates(
+    let probe = Probe {
         props,
-        flags,
-        cands,
         first,
         end,
         prop,
-        max_candidates,
-    ))
+    };
+    candidates::pick_candidates(probe, flags, cands, max_candidates).unwrap_or(0)
 }
 
 // Counts each predictor's tokens in the rows from first to end; the counts are 0 before.
@@ -161,6 +164,7 @@ pub extern "C" fn ostrovuc_set_windows(
 }
 
 // The best of the candidates of a property over the rows from first to end.
+// Stays: the C interface lends its lists one by one.
 #[unsafe(no_mangle)]
 pub extern "C" fn ostrovuc_score_property(
     props: &[i32],
@@ -187,7 +191,21 @@ pub extern "C" fn ostrovuc_score_property(
         (within (span_of first end) (rows_of rows props.now tok.now rs)) cands.now }
     ensures zeros { room.new ≡ room.old }
 {
-    answers::scored_answer(score::score_property(
-        props, tok, cands, preds, firsts, offs, node, room, logs, first, end, prop, alphabet,
-    ))
+    let span = SpanRows {
+        props,
+        tok,
+        first,
+        end,
+    };
+    let windows = SideWindows {
+        preds,
+        firsts,
+        offs,
+    };
+    let counts = NodeCounts {
+        hist: node,
+        total: (end - first) as u32,
+        alphabet,
+    };
+    Scored::from(score::score_property(span, prop, cands, windows, counts, logs, room))
 }

@@ -14,7 +14,7 @@ use Rattle.model.specs.Refuse.{Refusal, learn_refusal, deepen_refusal, lookup_re
 use Rattle.model.specs.Operations.{accepted, After, unless, outcome_of, Tree, Found, lookup, learn, deepen}
 use Rattle.model.proofs.Accepted.{learned_from, deepened_from}
 use Rattle.model.proofs.Promises.{demand3 as model3}
-use Rattle.lent.specs.Lists.{clear_queue}
+use Rattle.queue.specs.Room.{cleared}
 use Rattle.refuse.specs.Given.{settings_of}
 use Rattle.refuse.specs.declared.Settings.{Settings}
 use Rattle.answers.specs.Answers.{learned_in, found_in}
@@ -66,14 +66,14 @@ left_as none b k x z e l = l
 left_as (some f) b k x z e l = let no : ◌≡◌ {A = ℕ} 0 1 = cc in absurd (omega arith)
 
 -- an accepted run leaves zeros in it
-learn_clears : (s : Settings) (logs : List Float) (x y : Records) (a : Tree singles) → Learning s logs x (answered a) y → y.queue ≡ clear_queue x.queue
+learn_clears : (s : Settings) (logs : List Float) (x y : Records) (a : Tree singles) → Learning s logs x (answered a) y → y.queue ≡ cleared x.queue
 unfolding learn learn_records records_after
 learn_clears s logs x y a run =
     let told = ap (λ (w : After (Tree singles) (Lent singles)). w.outcome) (learnt s logs x y a run) in
     let r = learned_from single (settings_of s) logs (lent_in x) in
     ap (λ (l : Records). l.queue) (left_as (learn_refusal single (settings_of s) logs (lent_in x)) _ _ x (records_after r x) told run.leaves_whole)
 
-deepen_clears : (s : Settings) (logs : List Float) (count : ℕ) (x y : Records) (a : Tree singles) → Deepening s logs count x (answered a) y → y.queue ≡ clear_queue x.queue
+deepen_clears : (s : Settings) (logs : List Float) (count : ℕ) (x y : Records) (a : Tree singles) → Deepening s logs count x (answered a) y → y.queue ≡ cleared x.queue
 unfolding deepen deepen_records records_after
 deepen_clears s logs count x y a run =
     let told = ap (λ (w : After (Tree singles) (Lent singles)). w.outcome) (deepened s logs count x y a run) in

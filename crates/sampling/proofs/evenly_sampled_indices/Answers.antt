@@ -10,4 +10,4 @@ pub returns-then-out-picked : goal.returns-then-out-picked
 returns-then-out-picked c = no_room _ _ _ (omega arith) (omega arith)
 
 pub returns : goal.returns
-returns c = rw (c.pick_rows.ensures, c.smaller-picked.ensures) (picks _ _ _ (omega arith) (omega arith))
+returns c = rw (c.pick_rows.ensures, c.min-picked.ensures) (picks _ _ _ (omega arith) (omega arith))

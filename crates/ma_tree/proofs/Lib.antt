@@ -1,2 +1,0 @@
--- `Copied`: records copied to number lists that are long enough.
-pub mod Copied
