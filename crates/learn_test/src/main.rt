@@ -3,15 +3,16 @@
 // It prints how many cases of each kind were tried, how many came out wrong, and the first of these.
 #![tactic(auto)]
 
-ghost use Rattle.std.specs.Prelude.{◌≤◌, length};
-ghost use Rattle.layout.specs.Layout.{HasWords};
-ghost use Rattle.border.specs.Numbers.{Arrays};
-
 mod rooms;
 
-use answers::LearnedTree;
-use layout::NodeNumber;
-use refuse::Settings;
+use layout::{MaNode, NodeInfo, Nodes, Span};
+use lent::Learned;
+use model::Refusal;
+use queue::Queue;
+use refuse::{Job, Settings};
+use rooms::filled;
+use rows::Rows;
+use std::alloc::{AllocError, Global};
 use std::io;
 use tally::{Tally, report};
 
@@ -32,216 +33,217 @@ fn settings(alphabet: u32, max_leaves: u32, allowed_preds: u16, modal_offsets: b
     }
 }
 
-fn is_refused(r: LearnedTree, with: u32, at: u32) -> bool {
-    (r.number == with) & (r.place == at)
+fn is_refused(r: Result<Learned, Refusal>, with: Refusal) -> bool {
+    match r {
+        Ok(_) => false,
+        Err(cause) => cause == with,
+    }
 }
 
-fn is_grown(r: LearnedTree, to_nodes: u32, to_leaves: u32, to_bits: f64, from_bits: f64) -> bool {
-    let counted = (r.number == 0) & (r.nodes == to_nodes) & (r.leaves == to_leaves);
-    counted & (r.bits == to_bits) & (r.flat == from_bits)
+fn is_grown(
+    r: Result<Learned, Refusal>,
+    nodes: u32,
+    leaves: u32,
+    to_bits: f64,
+    from_bits: f64,
+) -> bool {
+    match r {
+        Ok(tree) => {
+            let counted = (tree.nodes == nodes) & (tree.leaves == leaves);
+            counted & (tree.bits == to_bits) & (tree.flat == from_bits)
+        }
+        Err(_) => false,
+    }
+}
+
+// A node before anything is learned.
+fn blank() -> MaNode {
+    MaNode::leaf(NodeInfo {
+        cost: 0.0,
+        pred: 0,
+        offset: 0,
+    })
 }
 
 // One leaf over the rows: the caller's lists have room for a limit of 1.
-fn learn_one_leaf(
-    props: &mut [i32],
-    tok: &mut [u8],
-    res: &mut [i32],
-    counts: &mut [u32],
-    logs: &[f32],
-    s: Settings,
-) -> LearnedTree {
-    let mut words = rooms::words();
-    let mut values = rooms::values();
-    let mut costs = rooms::costs();
+fn learn_one_leaf(rows: &mut Rows, counts: &mut [u32], job: Job) -> Result<Learned, Refusal> {
+    let mut nodes = filled::<MaNode, 1>(blank());
+    let mut spans = filled::<Span, 1>(Span { first: 0, end: 0 });
+    let mut at = Nodes {
+        nodes: &mut nodes,
+        spans: &mut spans,
+    };
     let mut queue_words = [0u32; 3];
     let mut queue_values = [0i32; 1];
     let mut queue_gains = [0.0f32; 1];
-    let work = border::learn_on(
-        1,
-        1,
-        s,
-        logs,
-        &mut words,
-        &mut values,
-        &mut costs,
-        props,
-        tok,
-        res,
-        &mut queue_words,
-        &mut queue_values,
-        &mut queue_gains,
-        counts,
-    );
-    work.tree
+    let mut queue = Queue {
+        words: &mut queue_words,
+        values: &mut queue_values,
+        gains: &mut queue_gains,
+        waiting: 0,
+    };
+    border::learn_on(rows, &mut at, &mut queue, counts, job)
 }
 
 // So many properties and tokens, all 0.
-fn zeros(cells: usize, tokens: usize) -> LearnedTree
-    requires cells_bound { cells ≤ 1572888 }
-    requires tokens_bound { tokens ≤ 917518 }
-{
-    let mut props = rooms::many_properties();
-    let mut tok = rooms::many_tokens();
+fn zeros(
+    alloc: Global,
+    cells: usize,
+    tokens: usize,
+) -> Result<Result<Learned, Refusal>, AllocError> {
+    let mut props = vec![in alloc; 0i32; cells]?;
+    let mut tok = vec![in alloc; 0u8; tokens]?;
+    let logs = vec![in alloc; 0.0f32; 65538]?;
     let mut res = [0i32; 0];
-    let mut counts = rooms::few_counts();
-    let logs = rooms::many_logs();
-    learn_one_leaf(
-        &mut props[..cells],
-        &mut tok[..tokens],
-        &mut res,
-        &mut counts,
-        &logs,
-        settings(1, 1, 65535, false),
-    )
+    let mut counts = filled::<u32, 5504>(0);
+    let mut rows = Rows {
+        props: &mut props[..],
+        tok: &mut tok[..],
+        res: &mut res,
+    };
+    let job = Job {
+        settings: settings(1, 1, 65535, false),
+        logs: &logs[..],
+    };
+    Ok(learn_one_leaf(&mut rows, &mut counts, job))
 }
 
 // 65,536 rows pass, 65,537 give 3.
-fn row_limit() -> Tally {
-    let t = Tally::none();
-    let t = t.with(is_grown(zeros(1572864, 917504), 1, 1, 0.0, 0.0), 65536);
-    t.with(is_refused(zeros(1572888, 917518), 3, 0), 65537)
-}
-
-// Nodes 2 and 3 offered two bits each: node 2 is split, and node 3 stays a leaf over rows 0 and 1.
-fn lower_is_split(words: &[u32]) -> bool
-    requires { HasWords words.now 4 }
-{
-    let split = layout::is_split(words, NodeNumber(2));
-    let gt = layout::gt_of(words, NodeNumber(2));
-    let le = layout::le_of(words, NodeNumber(2));
-    let leaf = !layout::is_split(words, NodeNumber(3));
-    let span = layout::span_at(words, 3);
-    split & (gt == 7) & (le == 8) & leaf & (span.first == 0) & (span.end == 2)
-}
-
-// The smallest job on which equal gains matter, at the fifth leaf: whether learning grows so far.
-fn six_rows(
-    words: &mut [u32],
-    values: &mut [i32],
-    costs: &mut [f32],
-    max_leaves: u32,
-    nodes: u32,
-    bits: f64,
-) -> bool
-    requires { Arrays words.old values.old costs.old }
-{
-    let mut props = rooms::tied_properties();
-    let mut tok = rooms::tied_tokens();
-    let mut res = [0i32; 0];
-    let mut queue_words = rooms::queue_words();
-    let mut queue_values = rooms::queue_values();
-    let mut queue_gains = rooms::queue_gains();
-    let mut counts = rooms::few_counts();
-    let logs = rooms::true_logs();
-    let work = border::learn_on(
-        9,
-        9,
-        settings(17, max_leaves, 3, false),
-        &logs,
-        words,
-        values,
-        costs,
-        &mut props,
-        &mut tok,
-        &mut res,
-        &mut queue_words,
-        &mut queue_values,
-        &mut queue_gains,
-        &mut counts,
-    );
-    let tied = (max_leaves < 5) | lower_is_split(words);
-    tied & is_grown(work.tree, nodes, max_leaves, bits, 6.754887580871582)
-}
-
-// The number lists are lent to one case after the other.
-fn growth() -> Tally {
-    let mut words = rooms::words();
-    let mut values = rooms::values();
-    let mut costs = rooms::costs();
-    let t = Tally::none();
-    let is = six_rows(
-        &mut words,
-        &mut values,
-        &mut costs,
-        1,
-        1,
-        12.754888534545898,
-    );
-    let t = t.with(is, 1);
-    let is = six_rows(&mut words, &mut values, &mut costs, 2, 3, 10.0);
-    let t = t.with(is, 2);
-    let is = six_rows(&mut words, &mut values, &mut costs, 3, 5, 8.0);
-    let t = t.with(is, 3);
-    let is = six_rows(&mut words, &mut values, &mut costs, 4, 7, 4.0);
-    let t = t.with(is, 4);
-    let is = six_rows(&mut words, &mut values, &mut costs, 5, 9, 2.0);
-    t.with(is, 5)
-}
-
-// One row, with its residual.
-fn one_row(s: Settings) -> LearnedTree {
-    let mut props = [0i32; 24];
-    let mut tok = [0u8; 14];
-    let mut res = [0i32; 1];
-    let mut counts = rooms::counts();
-    let logs = [0.0f32; 2];
-    learn_one_leaf(&mut props, &mut tok, &mut res, &mut counts, &logs, s)
-}
-
-// Six rows of zeros over these tokens and logarithms.
-fn six(tok: &mut [u8], logs: &[f32]) -> LearnedTree {
-    let mut props = rooms::properties();
-    let mut res = [0i32; 0];
-    let mut counts = rooms::few_counts();
-    learn_one_leaf(
-        &mut props,
-        tok,
-        &mut res,
-        &mut counts,
-        logs,
-        settings(17, 1, 65535, false),
+fn row_limit(alloc: Global) -> Result<Tally, AllocError> {
+    let most = zeros(alloc, 1572864, 917504)?;
+    let one_more = zeros(alloc, 1572888, 917518)?;
+    Ok(
+        Tally::none()
+            .with(is_grown(most, 1, 1, 0.0, 0.0), 65536)
+            .with(is_refused(one_more, Refusal::UnevenRows), 65537),
     )
 }
 
-fn short_tokens() -> LearnedTree {
-    let mut tok = rooms::short_tokens();
-    let logs = rooms::logs();
-    six(&mut tok, &logs)
+// Nodes 2 and 3 offered two bits each: node 2 is split, and node 3 stays a leaf over rows 0 and 1.
+fn lower_is_split(nodes: &[MaNode; 9], spans: &[Span; 9]) -> bool {
+    let lower = nodes[2];
+    let split = lower.is_split() & (lower.gt == 7) & (lower.le == 8);
+    split & !nodes[3].is_split() & (spans[3] == Span { first: 0, end: 2 })
 }
 
-fn odd_token() -> LearnedTree {
+// The smallest job on which equal gains matter, at the fifth leaf: whether learning grows so far.
+fn six_rows(max_leaves: u32, nodes: u32, bits: f64) -> bool {
+    let mut props = rooms::tied_properties();
+    let mut tok = rooms::tied_tokens();
+    let mut res = [0i32; 0];
+    let mut counts = filled::<u32, 5504>(0);
+    let mut made = filled::<MaNode, 9>(blank());
+    let mut spans = filled::<Span, 9>(Span { first: 0, end: 0 });
+    let mut rows = Rows {
+        props: &mut props,
+        tok: &mut tok,
+        res: &mut res,
+    };
+    let mut at = Nodes {
+        nodes: &mut made,
+        spans: &mut spans,
+    };
+    let job = Job {
+        settings: settings(17, max_leaves, 3, false),
+        logs: &rooms::TRUE_LOGS,
+    };
+    let mut queue_words = [0u32; 15];
+    let mut queue_values = [0i32; 5];
+    let mut queue_gains = [0.0f32; 5];
+    let mut queue = Queue {
+        words: &mut queue_words,
+        values: &mut queue_values,
+        gains: &mut queue_gains,
+        waiting: 0,
+    };
+    let tree = border::learn_on(&mut rows, &mut at, &mut queue, &mut counts, job);
+    let tied = (max_leaves < 5) | lower_is_split(&made, &spans);
+    tied & is_grown(tree, nodes, max_leaves, bits, 6.754887580871582)
+}
+
+fn growth() -> Tally {
+    Tally::none()
+        .with(six_rows(1, 1, 12.754888534545898), 1)
+        .with(six_rows(2, 3, 10.0), 2)
+        .with(six_rows(3, 5, 8.0), 3)
+        .with(six_rows(4, 7, 4.0), 4)
+        .with(six_rows(5, 9, 2.0), 5)
+}
+
+// One row, with its residual.
+fn one_row(settings: Settings) -> Result<Learned, Refusal> {
+    let mut props = [0i32; 24];
+    let mut tok = [0u8; 14];
+    let mut res = [0i32; 1];
+    let mut counts = filled::<u32, 16384>(0);
+    let mut rows = Rows {
+        props: &mut props,
+        tok: &mut tok,
+        res: &mut res,
+    };
+    let logs = [0.0f32; 2];
+    learn_one_leaf(
+        &mut rows,
+        &mut counts,
+        Job {
+            settings,
+            logs: &logs,
+        },
+    )
+}
+
+// Six rows of zeros over these tokens and logarithms.
+fn six(tok: &mut [u8], logs: &[f32]) -> Result<Learned, Refusal> {
+    let mut props = filled::<i32, 144>(0);
+    let mut res = [0i32; 0];
+    let mut counts = filled::<u32, 5504>(0);
+    let mut rows = Rows {
+        props: &mut props,
+        tok,
+        res: &mut res,
+    };
+    let job = Job {
+        settings: settings(17, 1, 65535, false),
+        logs,
+    };
+    learn_one_leaf(&mut rows, &mut counts, job)
+}
+
+fn short_tokens() -> Result<Learned, Refusal> {
+    let mut tok = filled::<u8, 83>(0);
+    six(&mut tok, &filled::<f32, 7>(0.0))
+}
+
+fn odd_token() -> Result<Learned, Refusal> {
     let mut tok = rooms::odd_tokens();
-    let logs = rooms::logs();
-    six(&mut tok, &logs)
+    six(&mut tok, &filled::<f32, 7>(0.0))
 }
 
-fn short_logs() -> LearnedTree {
-    let mut tok = rooms::tokens();
-    let logs = rooms::short_logs();
-    six(&mut tok, &logs)
+fn short_logs() -> Result<Learned, Refusal> {
+    let mut tok = filled::<u8, 84>(0);
+    six(&mut tok, &filled::<f32, 6>(0.0))
 }
 
 // Alphabet 127 with modal offsets and residuals gives 5, 128 passes; each other number once, with its place.
 fn refusals() -> Tally {
-    let t = Tally::none();
-    let t = t.with(
-        is_refused(one_row(settings(127, 1, 65535, true)), 5, 0),
-        127,
-    );
-    let t = t.with(
-        is_grown(one_row(settings(128, 1, 65535, true)), 1, 1, 0.0, 0.0),
-        128,
-    );
-    let t = t.with(is_refused(one_row(settings(0, 1, 65535, false)), 1, 0), 1);
-    let t = t.with(is_refused(one_row(settings(1, 1, 49152, false)), 2, 0), 2);
-    let t = t.with(is_refused(short_tokens(), 3, 0), 3);
-    let t = t.with(is_refused(odd_token(), 4, 2), 4);
-    let t = t.with(is_refused(short_logs(), 6, 0), 6);
-    t.with(is_refused(one_row(settings(1, 2, 65535, false)), 7, 0), 7)
+    let short = one_row(settings(127, 1, 65535, true));
+    let enough = one_row(settings(128, 1, 65535, true));
+    let no_alphabet = one_row(settings(0, 1, 65535, false));
+    let none_allowed = one_row(settings(1, 1, 49152, false));
+    let two_leaves = one_row(settings(1, 2, 65535, false));
+    Tally::none()
+        .with(is_refused(short, Refusal::ShortAlphabet), 127)
+        .with(is_grown(enough, 1, 1, 0.0, 0.0), 128)
+        .with(is_refused(no_alphabet, Refusal::BadSetting), 1)
+        .with(is_refused(none_allowed, Refusal::NoPredictor), 2)
+        .with(is_refused(short_tokens(), Refusal::UnevenRows), 3)
+        .with(is_refused(odd_token(), Refusal::BadToken(2)), 4)
+        .with(is_refused(short_logs(), Refusal::BadLogarithms), 6)
+        .with(is_refused(two_leaves, Refusal::ShortOfRoom), 7)
 }
 
 fn main(rt: HostRuntime) -> io::Result<()> {
-    report(&rt, b"rows", row_limit())?;
-    report(&rt, b"refusals", refusals())?;
-    report(&rt, b"growth", growth())
+    report(&rt, "rows", row_limit(rt.alloc())?)?;
+    report(&rt, "refusals", refusals())?;
+    report(&rt, "growth", growth())
 }

@@ -2,53 +2,27 @@
 use mathlib.Core.Path.{◌≡◌, refl}
 use mathlib.Core.Bool.{true, false}
 use mathlib.Core.List.{[], ◌∷◌, ◌++◌}
-use Prim.Native.Nat.{ℕ, ◌+◌, ◌-◌, ◌≤◌, ◌<◌}
+use Prim.Native.Nat.{ℕ, ◌<◌}
+use native.Mathlib.Decide.{dec_lt}
 use native.Mathlib.Omega.{arith}
 use borrow.Author.Tests.{lt-ltb, le-ltb, ltb-true}
-use lib.IntN.{ℤ, pos, negsuc, ◌-ℤ◌, nat_abs}
+use lib.IntN.{ℤ, pos, negsuc, nat_abs}
 use lib.Signed.{lt_z}
-use mir.Syntax.{w32, w64}
-use mir.Val.{SFits, Fits, to_z, of_z}
+use mir.Syntax.{w32}
+use mir.Val.{SFits, to_z, of_z}
 use mir.ValLaws.{to_z-of_z}
-use Rattle.model.specs.Pack.{pattern}
-use Rattle.entropy.proofs.Words.{high_read, high_cast}
 use Rattle.listing.specs.Text.{decimal, signed_decimal}
 use Rattle.listing.specs.Listing.{signed}
 
 -- ---- a pattern's number
 
-pub low-pattern : (p : ℕ) → p < 2147483648 → to_z w32 p ≡ signed p
+pub signed-is : (p : ℕ) → to_z w32 p ≡ signed p
 unfolding signed
-low-pattern p lt = rw (lt-ltb p 2147483648 lt)
-
-pub high-pattern : (p : ℕ) → 2147483648 ≤ p → Fits w32 p → to_z w32 (of_z w32 (to_z w64 (of_z w64 (to_z w64 p -ℤ pos 4294967296)))) ≡ signed p
-unfolding signed
-high-pattern p le fits = rw (to_z-of_z w32 (to_z w64 (of_z w64 (to_z w64 p -ℤ pos 4294967296))) (high_cast p le fits), high_read p le fits, le-ltb p 2147483648 le)
-
--- ---- a number's magnitude, from its pattern
-
-module _ (z : ℤ) (h : SFits w32 z) (bits : ℕ) (b : bits ≡ pattern (to_z w32 (of_z w32 z))) where
-  pub magnitude_natural : lt_z (to_z w32 (of_z w32 z)) (pos 0) ≡ false → bits ≡ nat_abs z
-  unfolding pattern
-  magnitude_natural e = rw (b, to_z-of_z w32 z h) (go z (rw (to_z-of_z w32 z h) at e))
-    where
-      go : (z : ℤ) → lt_z z (pos 0) ≡ false → pattern z ≡ nat_abs z
-      go (pos n) e = refl
-      go (negsuc n) e = let z : ◌≡◌ {A = ℕ} 0 1 = cc in absurd (omega arith)
-
-  negative : lt_z (to_z w32 (of_z w32 z)) (pos 0) ≡ true → (bits + nat_abs z ≡ 4294967296) × (1 ≤ nat_abs z) × (nat_abs z ≤ 2147483648)
-  unfolding pattern
-  negative e = rw (b, to_z-of_z w32 z h) (go z h (rw (to_z-of_z w32 z h) at e))
-    where
-      go : (z : ℤ) → SFits w32 z → lt_z z (pos 0) ≡ true → (pattern z + nat_abs z ≡ 4294967296) × (1 ≤ nat_abs z) × (nat_abs z ≤ 2147483648)
-      go (pos n) h e = let none = ltb-true n 0 e in absurd (omega arith)
-      go (negsuc n) h e = (omega (arith, h.sfits), omega arith, omega (arith, h.sfits))
-
-  pub magnitude_fits : lt_z (to_z w32 (of_z w32 z)) (pos 0) ≡ true → Fits w32 (4294967295 - bits + 1)
-  magnitude_fits e = let sum = negative e in record { fits = omega (arith, sum.0, sum.1, sum.2) }
-
-  pub magnitude_negative : lt_z (to_z w32 (of_z w32 z)) (pos 0) ≡ true → 4294967295 - bits + 1 ≡ nat_abs z
-  magnitude_negative e = let sum = negative e in omega (arith, sum.0, sum.1, sum.2)
+signed-is p = go (dec_lt p 2147483648)
+  where
+    go : Dec (p < 2147483648) → to_z w32 p ≡ signed p
+    go (yes lt) = rw (lt-ltb p 2147483648 lt)
+    go (no le) = rw (le-ltb p 2147483648 (omega arith))
 
 -- ---- a number's text, from its sign and magnitude
 

@@ -1,10 +1,11 @@
 -- Text written into a list, piece after piece. Assumes nothing.
-use mathlib.Core.Path.{◌≡◌, refl, sym, ap, ◌∙◌}
+use mathlib.Core.Path.{◌≡◌, refl, sym, ◌∙◌}
 use mathlib.Core.List.{List, [], ◌∷◌, ◌++◌, append_assoc, append-nil}
-use Prim.Native.Nat.{ℕ, suc, ◌+◌, ◌≤◌, ◌<◌}
+use Prim.Native.Nat.{ℕ, suc, ◌+◌, ◌-◌, ◌≤◌, ◌<◌}
 use native.Mathlib.Nat.{add-zero}
 use native.Mathlib.Numerals.{add-one}
 use native.Mathlib.Omega.{arith}
+use borrow.Rule.Slice.PartMut.{put_mid, Post-is}
 use lib.ListN.{length, take, drop, get_or, set, length-append, length-drop, take-append-drop}
 use lib.Seq.{set_split, take-suc, take_all, append_snoc, length-take-le, take_at, drop_at, drop-drop}
 use Rattle.listing.specs.Text.{joined, over, Counts, Room, Wrote}
@@ -39,6 +40,11 @@ pub wrote_one : (old : List ℕ) (at b : ℕ) → Room old at (b ∷ []) → Wro
 unfolding over
 wrote_one old at b room =
     record { whole = rw (set_split old at b (omega arith), add-one at) (sym (append_snoc (take at old) b (drop (suc at) old))); after = refl }
+
+-- a text that is copied
+pub wrote_copy : (old : List ℕ) (at : ℕ) (s : List ℕ) {copied : List ℕ} → Room old at s → copied ≡ s → Wrote old at s (put_mid at (at + length s - at) old copied) (at + length s)
+unfolding over
+wrote_copy old at s room e = record { whole = rw (e, Post-is at (at + length s) old (omega arith)) (sym (append_assoc (take at old) s (drop (at + length s) old))); after = refl }
 
 module _ {old : List ℕ} {at : ℕ} {s mid : List ℕ} {place : ℕ} (w : Wrote old at s mid place) where
   -- where there is room for both pieces, there is room for the second after the first
@@ -91,8 +97,3 @@ module _ {A : Type 0} (f : A → List ℕ) where
   room_next old at xs i d lt room =
       rw (← joined_snoc xs i d lt)
       (room-left old at (joined f (take (suc i) xs)) (joined f (drop (suc i) xs)) (rw (← joined_append (take (suc i) xs) (drop (suc i) xs), take-append-drop (suc i) xs) room))
-
-pub joined-each : (s : List ℕ) → joined (λ b. b ∷ []) s ≡ s
-unfolding joined
-joined-each [] = refl
-joined-each (b ∷ s) = ap (λ (r : List ℕ). b ∷ r) (joined-each s)

@@ -12,7 +12,7 @@ use put::{line, short, text};
 use signed::residual_at;
 
 // What became of a part: how many residuals were listed, and how many bytes their lines take.
-#[derive(Clone, Copy)]
+#[derive(Clone, Copy, PartialEq, Eq, Debug)]
 pub struct Listed {
     pub taken: usize,
     pub written: usize,
@@ -38,8 +38,9 @@ pub fn list_part(input: &[u8], out: &mut [u8]) -> Listed
         ≡ over out.old 0 (part_text input.now (length out.old)) }
     ensures fits { Counts result.written out.new }
 {
-    let taken = lists::smaller(input.len() / 4, out.len() / 40);
+    let taken = (input.len() / 4).min(out.len() / 40);
     let mut at: usize = 0;
+    // Stays: by number, since the text so far is that of the first i residuals, which the bytes' chunks say no plainer.
     for i in 0..taken {
         at = line(out, at, residual_at(input, 4 * i));
     }

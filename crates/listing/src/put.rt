@@ -1,11 +1,11 @@
 // Text into a lent slice, from a place on. Each function answers the place after what it wrote.
+// Stays: a slice and a place in it, since listing can't fail, and a String can run out of memory.
 ghost use Rattle.std.specs.Prelude.{◌<◌, [], ◌∷◌};
 ghost use Rattle.listing.specs.Text.{Room, Wrote, joined, signed_decimal};
 ghost use Rattle.listing.specs.Text.{decimal as Text·decimal};
 ghost use Rattle.listing.specs.Listing.{line_of, short_of};
 ghost use Rattle.listing.specs.Listing.{field as Listing·field};
 
-use crate::signed::magnitude;
 use entropy::{pack_signed, uint_encode};
 
 // One character.
@@ -22,10 +22,8 @@ pub(crate) fn text(out: &mut [u8], at: usize, s: &[u8]) -> usize
     requires { Room out.old at s.now }
     ensures { Wrote out.old at s.now out.new result }
 {
-    let mut end = at;
-    for i in 0..s.len() {
-        end = byte(out, end, s[i]);
-    }
+    let end = at + s.len();
+    out[at..end].copy_from_slice(s);
     end
 }
 
@@ -35,10 +33,10 @@ fn decimal(out: &mut [u8], at: usize, n: u32) -> usize
     ensures { Wrote out.old at (Text·decimal n) out.new result }
 {
     if n < 10 {
-        return byte(out, at, 48 + n as u8);
+        return byte(out, at, b'0' + n as u8);
     }
     let last = decimal(out, at, n / 10);
-    byte(out, last, 48 + (n % 10) as u8)
+    byte(out, last, b'0' + (n % 10) as u8)
 }
 
 // A signed number in decimal.
@@ -46,7 +44,7 @@ fn signed_decimal(out: &mut [u8], at: usize, z: i32) -> usize
     requires { Room out.old at (signed_decimal z) }
     ensures { Wrote out.old at (signed_decimal z) out.new result }
 {
-    let size = magnitude(z);
+    let size = z.unsigned_abs();
     if z < 0 {
         let first = byte(out, at, b'-');
         return decimal(out, first, size);
@@ -69,8 +67,8 @@ fn fields(out: &mut [u8], at: usize, numbers: &[u32]) -> usize
     ensures { Wrote out.old at (joined Listing·field numbers.now) out.new result }
 {
     let mut end = at;
-    for i in 0..numbers.len() {
-        end = field(out, end, numbers[i]);
+    for &n in numbers {
+        end = field(out, end, n);
     }
     end
 }

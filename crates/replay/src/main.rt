@@ -2,124 +2,96 @@
 // has a job and its answer by turns, each as document JOBS describes it: kind, bytes in the body, body. It prints how
 // many of each kind were replayed and how many came out wrong. Learning, deepening and lookup are not among them:
 // interface/check replays these through the C interface, and the other public operations too.
-// To add a kind: a function like those of `small`, an arm in `replayed`, and a number and a line in `kinds`.
+// To add a kind: a function like those of `small`, an arm in `replayed`, and its number and name in `kinds`.
 #![tactic(auto)]
 
-ghost use Rattle.std.specs.Prelude.{◌≤◌, length, IfOk};
-
-mod bytes;
 mod kinds;
 mod parts;
 mod rooms;
 mod small;
+mod stored;
 mod trees;
 
-use bytes::{Check, after, word};
+use kinds::{KINDS, Kind};
+use std::alloc::Global;
 use std::io::{self, Read};
+use stored::{Fault, Stored};
+use tally::Tally;
 
-// The comparison at the answer's end. A kind that is not known is wrong.
-fn replayed(b: &[u8], kind: u32, job: usize, answer: Check) -> Check {
+fn replayed(alloc: Global, kind: Kind, job: Stored, answer: &mut Stored) -> Result<(), Fault> {
     match kind {
-        kinds::CONTEXTS => trees::contexts(b, job, answer),
-        kinds::SAMPLING => small::sampling(b, job, answer),
-        kinds::PACK => small::pack(b, job, answer),
-        kinds::TOKEN => small::token(b, job, answer),
-        kinds::VALUE => small::value(b, job, answer),
-        kinds::MODE_STEP => parts::mode_step(b, job, answer),
-        kinds::CANDIDATES => parts::pick_candidates(b, job, answer),
-        kinds::PARTITION => parts::partition(b, job, answer),
-        _ => bytes::missed(answer),
+        Kind::Contexts => trees::contexts(alloc, job, answer),
+        Kind::Sampling => small::sampling(alloc, job, answer),
+        Kind::Pack => small::pack(job, answer),
+        Kind::Token => small::token(job, answer),
+        Kind::Value => small::value(job, answer),
+        Kind::ModeStep => parts::mode_step(alloc, job, answer),
+        Kind::Candidates => parts::pick_candidates(alloc, job, answer),
+        Kind::Partition => parts::partition(alloc, job, answer),
     }
 }
 
-// A job and its answer: the kind, where each body starts, and where the next job does.
+// A job and its answer, each with its kind.
 #[derive(Clone, Copy)]
-struct Case {
-    kind: u32,
-    job: usize,
-    answer: usize,
-    end: usize,
+struct Case<'a> {
+    asked: u32,
+    job: Stored<'a>,
+    answered: u32,
+    answer: Stored<'a>,
 }
 
-// The place behind a body, whose length stands just before it.
-fn behind(b: &[u8], body: usize) -> usize {
-    let size = word(b, body.wrapping_sub(4)) as usize;
-    body.wrapping_add(size)
-}
-
-fn case_at(b: &[u8], at: usize) -> Case {
-    let job = after(at, 2);
-    let answer = after(behind(b, job), 2);
-    Case {
-        kind: word(b, at),
+// The next case, and what is left to read after it.
+fn next_case(mut stored: Stored) -> Result<(Case, Stored), Fault> {
+    let (asked, job) = stored.message()?;
+    let (answered, answer) = stored.message()?;
+    let case = Case {
+        asked,
         job,
+        answered,
         answer,
-        end: behind(b, answer),
-    }
-}
-
-// Whether the case comes out as stored: the answer is of its kind, alike, and ends where it should.
-fn is_right(b: &[u8], c: Case) -> bool {
-    let head = c.answer.wrapping_sub(8);
-    let start = Check {
-        at: c.answer,
-        same: word(b, head) == c.kind,
     };
-    let r = replayed(b, c.kind, c.job, start);
-    r.same & (r.at == c.end)
+    Ok((case, stored))
 }
 
-// Replays all cases; answers where it stopped, which is the end unless the input is damaged.
-fn replay(b: &[u8], tried: &mut [u64; 32], wrong: &mut [u64; 32], first: &mut [u32; 32]) -> usize {
-    let mut at: usize = 0;
-    let mut case: u32 = 0;
-    while at < b.len() {
-        let c = case_at(b, at);
-        let end = c.end;
-        if end <= at {
-            return at;
-        }
-        if end > b.len() {
-            return at;
-        }
-        kinds::add(tried, wrong, first, c.kind, is_right(b, c), case);
-        case = case.wrapping_add(1);
-        at = end;
+// Whether a case of a kind comes out as stored: the answer is of its kind, alike, and ends where it should.
+fn hold(alloc: Global, kind: Kind, case: Case) -> Result<(), Fault> {
+    let mut answer = case.answer;
+    if case.answered != case.asked {
+        return Err(Fault::Differs);
     }
-    at
+    replayed(alloc, kind, case.job, &mut answer)?;
+    answer.expect_end()
 }
 
-// Replays the stored bytes and prints what came out.
-fn replay_and_report(rt: &impl Print, b: &[u8]) -> io::Result<()> {
-    let mut tried = [0u64; 32];
-    let mut wrong = [0u64; 32];
-    let mut first = [0u32; 32];
-    let at = replay(b, &mut tried, &mut wrong, &mut first);
-    kinds::report_all(rt, &tried, &wrong, &first)?;
-    if at < b.len() {
-        rt.write_all(b"damaged input\n")?;
-    }
-    Ok(())
-}
-
-// Reads until the buffer is full or the input ends; answers how many bytes were read.
-fn read_full<R: Read>(from: &mut R, buf: &mut [u8]) -> io::Result<usize>
-    ensures { IfOk result (λ n. n ≤ length buf.new) }
-{
-    let mut n: usize = 0;
-    while n < buf.len() {
-        let more = from.read(&mut buf[n..])?;
-        if more == 0 {
-            return Ok(n);
+// Replays all cases; what is left to read is nothing unless the input is damaged.
+fn replay(alloc: Global, stored: &mut Stored) -> [Tally; 8] {
+    let mut tallies = [Tally::none(); 8];
+    for number in 0..u32::MAX {
+        let Ok((case, rest)) = next_case(*stored) else {
+            return tallies;
+        };
+        *stored = rest;
+        if let Ok(kind) = Kind::try_from(case.asked) {
+            let right = hold(alloc, kind, case).is_ok();
+            if let Some(place) = KINDS.iter().position(|k| *k == kind) {
+                tallies[place] = tallies[place].with(right, number);
+            }
         }
-        n += more;
     }
-    Ok(n)
+    tallies
 }
 
 fn main(rt: HostRuntime) -> io::Result<()> {
-    let mut stored = rooms::stored();
-    let mut from = rt.reader();
-    let n = read_full(&mut from, &mut stored)?;
-    replay_and_report(&rt, &stored[..n])
+    let alloc = rt.alloc();
+    let mut bytes = vec![in alloc]?;
+    rt.reader().read_to_end(&mut bytes)?;
+    let mut stored = Stored { rest: &bytes };
+    let tallies = replay(alloc, &mut stored);
+    for (kind, tally) in KINDS.iter().zip(&tallies) {
+        println!(rt; "{kind}: {tally}")?;
+    }
+    if !stored.rest.is_empty() {
+        println!(rt; "damaged input")?;
+    }
+    Ok(())
 }

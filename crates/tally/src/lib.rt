@@ -4,13 +4,13 @@
 ghost use Rattle.std.specs.Prelude.{◌≡◌};
 ghost use Rattle.tally.specs.Counted.{nothing, counted};
 
-use std::io;
+use std::{fmt, io};
 
-#[derive(Clone, Copy)]
+#[derive(Clone, Copy, PartialEq, Eq, Debug)]
 pub struct Tally {
     pub tried: u64,
     pub wrong: u64,
-    pub first: u32,
+    pub first: Option<u32>,
 }
 
 impl Tally {
@@ -20,7 +20,7 @@ impl Tally {
         Self {
             tried: 0,
             wrong: 0,
-            first: 0,
+            first: None,
         }
     }
 
@@ -30,26 +30,27 @@ impl Tally {
     {
         let tried = self.tried.wrapping_add(1);
         if right {
-            return Self {
-                tried,
-                wrong: self.wrong,
-                first: self.first,
-            };
+            return Self { tried, ..self };
         }
         Self {
             tried,
             wrong: self.wrong.wrapping_add(1),
-            first: if self.wrong == 0 { at } else { self.first },
+            first: self.first.or(Some(at)),
         }
     }
 }
 
-// Prints a tally under a name.
-pub fn report(rt: &impl Print, name: &[u8], t: Tally) -> io::Result<()> {
-    rt.write_all(name)?;
-    print!(rt; ": {} tried, {} wrong", t.tried, t.wrong)?;
-    if t.wrong > 0 {
-        print!(rt; ", the first at {}", t.first)?;
+impl fmt::Display for Tally {
+    fn fmt<W: fmt::Write>(&self, f: &mut fmt::Formatter<W>) -> fmt::Result {
+        write!(f, "{} tried, {} wrong", self.tried, self.wrong)?;
+        if let Some(at) = self.first {
+            write!(f, ", the first at {at}")?;
+        }
+        Ok(())
     }
-    rt.write_all(b"\n")
+}
+
+// Prints a tally under a name.
+pub fn report(rt: &impl Print, name: &str, t: Tally) -> io::Result<()> {
+    println!(rt; "{name}: {t}")
 }

@@ -2,24 +2,11 @@
 // and `short` with the number of bytes left over, if there are any.
 #![tactic(auto)]
 
-ghost use Rattle.std.specs.Prelude.{◌≤◌, length, IfOk};
-
+use std::alloc::Global;
 use std::io::{self, Read};
 
-// Reads until the buffer is full or the input ends; answers how many bytes were read.
-fn read_full<R: Read>(from: &mut R, buf: &mut [u8]) -> io::Result<usize>
-    ensures { IfOk result (λ n. n ≤ length buf.new) }
-{
-    let mut n: usize = 0;
-    while n < buf.len() {
-        let more = from.read(&mut buf[n..])?;
-        if more == 0 {
-            return Ok(n);
-        }
-        n += more;
-    }
-    Ok(n)
-}
+// The bytes of a part: those of 1,024 residuals.
+const PART: usize = 4096;
 
 fn write_header(rt: &impl Print) -> io::Result<()> {
     let mut out = [0u8; 32];
@@ -36,29 +23,24 @@ fn write_rest(rt: &impl Print, input: &[u8]) -> io::Result<()> {
 // Writes the lines of a part, which has at most 1,638 residuals.
 fn write_lines(rt: &impl Print, input: &[u8]) -> io::Result<()> {
     let mut out = [0u8; 65536];
-    let part = listing::list_part(input, &mut out);
-    let n = part.written;
+    let n = listing::list_part(input, &mut out).written;
     rt.write_all(&out[..n])
 }
 
-// Reads a part of 1,024 residuals and lists it. Only the last part is shorter. Answers whether
-// there may be another.
-fn list_some<R: Read>(rt: &impl Print, from: &mut R) -> io::Result<bool> {
-    let mut input = [0u8; 4096];
-    let n = read_full(from, &mut input)?;
-    write_lines(rt, &input[..n])?;
-    if n < 4096 {
-        write_rest(rt, &input[..n])?;
-        return Ok(false);
-    }
-    Ok(true)
+// The next part of the input. Only the last is shorter.
+fn next_part<R: Read>(alloc: Global, from: &mut R) -> io::Result<Vec<u8>> {
+    let mut part = vec![in alloc]?;
+    from.by_ref().take(PART as u64).read_to_end(&mut part)?;
+    Ok(part)
 }
 
 // Counts its turns, since a proved loop has to end, up to a number that no input uses up.
-fn list_all<R: Read>(rt: &impl Print, from: &mut R) -> io::Result<()> {
+fn list_all<R: Read>(rt: &impl Print, alloc: Global, from: &mut R) -> io::Result<()> {
     for _ in 0..u64::MAX {
-        if !list_some(rt, from)? {
-            return Ok(());
+        let part = next_part(alloc, from)?;
+        write_lines(rt, &part)?;
+        if part.len() < PART {
+            return write_rest(rt, &part);
         }
     }
     Ok(())
@@ -67,5 +49,5 @@ fn list_all<R: Read>(rt: &impl Print, from: &mut R) -> io::Result<()> {
 fn main(rt: HostRuntime) -> io::Result<()> {
     write_header(&rt)?;
     let mut from = rt.reader();
-    list_all(&rt, &mut from)
+    list_all(&rt, rt.alloc(), &mut from)
 }

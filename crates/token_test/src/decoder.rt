@@ -11,11 +11,11 @@ pub struct Config {
 }
 
 fn shifted_left(x: u32, k: u32) -> u32 {
-    if k < 32 { x << k } else { 0 }
+    x.checked_shl(k).unwrap_or(0)
 }
 
 fn shifted_right(x: u32, k: u32) -> u32 {
-    if k < 32 { x >> k } else { 0 }
+    x.checked_shr(k).unwrap_or(0)
 }
 
 // The value with one bit more at its end: bit k of the source.
@@ -26,39 +26,37 @@ fn with_bit(value: u32, source: u32, k: u32) -> u32 {
 
 // The value with the source's lowest bits at its end, the highest of them first.
 fn with_bits(value: u32, source: u32, count: u32) -> u32 {
-    let mut all = value;
-    let mut k = count;
-    while k > 0 {
-        k -= 1;
-        all = with_bit(all, source, k);
-    }
-    all
+    (0..count)
+        .rev()
+        .fold(value, |all, k| with_bit(all, source, k))
 }
 
-// How many extra bits follow a token.
-pub fn extra_bits(c: Config, token: u32) -> u32 {
-    let split = shifted_left(1, c.split);
-    if token < split {
-        return 0;
+impl Config {
+    // How many extra bits follow a token.
+    pub fn extra_bits(self, token: u32) -> u32 {
+        let split = shifted_left(1, self.split);
+        if token < split {
+            return 0;
+        }
+        let kept = self.msb.wrapping_add(self.lsb);
+        let first = self.split.wrapping_sub(kept);
+        first.wrapping_add(shifted_right(token - split, kept))
     }
-    let kept = c.msb.wrapping_add(c.lsb);
-    let first = c.split.wrapping_sub(kept);
-    first.wrapping_add(shifted_right(token - split, kept))
+
+    // The value of a token with its extra bits.
+    pub fn read_hybrid(self, token: u32, extra: u32) -> u32 {
+        if token < shifted_left(1, self.split) {
+            return token;
+        }
+        let high = with_bits(1, shifted_right(token, self.lsb), self.msb);
+        let middle = with_bits(high, extra, self.extra_bits(token));
+        with_bits(middle, token, self.lsb)
+    }
 }
 
 // Whether a number has no more bits than count.
 pub fn fits(extra: u32, count: u32) -> bool {
-    (count < 32) & (shifted_right(extra, count) == 0)
-}
-
-// The value of a token with its extra bits.
-pub fn read_hybrid(c: Config, token: u32, extra: u32) -> u32 {
-    if token < shifted_left(1, c.split) {
-        return token;
-    }
-    let high = with_bits(1, shifted_right(token, c.lsb), c.msb);
-    let middle = with_bits(high, extra, extra_bits(c, token));
-    with_bits(middle, token, c.lsb)
+    extra.checked_shr(count) == Some(0)
 }
 
 // UnpackSigned, as a 32-bit pattern: half of an even number; half of an odd one, every bit turned.
