@@ -2,6 +2,8 @@
 //! slices. A part that asks something of its caller is either held to it here or unsafe to call. The public operations are
 //! crate `ostrovuc`'s.
 
+use ostrovuc::{MaNode, Span};
+
 /// Tokens of a row.
 const PREDICTORS: usize = 14;
 /// Properties of a row.
@@ -29,7 +31,7 @@ pub struct Scored {
 }
 
 mod c {
-    use super::{PrunedTree, Scored};
+    use super::{MaNode, PrunedTree, Scored, Span};
 
     // Each slice is a pointer and a length.
     unsafe extern "C" {
@@ -69,12 +71,10 @@ mod c {
             alphabet: usize,
         ) -> Scored;
         pub fn ostrovuc_prune(
-            words: *mut u32,
-            words_length: usize,
-            values: *mut i32,
-            values_length: usize,
-            costs: *mut f32,
-            costs_length: usize,
+            nodes: *mut MaNode,
+            nodes_length: usize,
+            spans: *mut Span,
+            spans_length: usize,
             count: usize,
             price: f32,
         ) -> PrunedTree;
@@ -173,35 +173,23 @@ impl Rows {
     }
 }
 
-/// A tree in number lists. A node has seven words (kind, property, gt, le, predictor, first row, end row), two values
-/// (threshold, offset) and a cost.
-pub struct Tree {
-    pub words: Vec<u32>,
-    pub values: Vec<i32>,
-    pub costs: Vec<f32>,
-}
-
-impl Tree {
-    /// Prunes the tree at a price.
-    ///
-    /// # Safety
-    ///
-    /// The lists hold a sound tree and nothing more, with 0 for what a leaf does not have; no cost is NaN, and neither is the
-    /// price.
-    pub unsafe fn prune(&mut self, price: f32) -> PrunedTree {
-        // SAFETY: the pointers and the lengths are lists'; the caller sees to the rest.
-        unsafe {
-            c::ostrovuc_prune(
-                self.words.as_mut_ptr(),
-                self.words.len(),
-                self.values.as_mut_ptr(),
-                self.values.len(),
-                self.costs.as_mut_ptr(),
-                self.costs.len(),
-                self.costs.len(),
-                price,
-            )
-        }
+/// Prunes the tree that the lists hold, at a price.
+///
+/// # Safety
+///
+/// The nodes are a sound tree and nothing more, with 0 for what a leaf does not have, and as many spans; no cost is NaN, and
+/// neither is the price.
+pub unsafe fn prune(nodes: &mut [MaNode], spans: &mut [Span], price: f32) -> PrunedTree {
+    // SAFETY: the pointers and the lengths are slices'; the caller sees to the rest.
+    unsafe {
+        c::ostrovuc_prune(
+            nodes.as_mut_ptr(),
+            nodes.len(),
+            spans.as_mut_ptr(),
+            spans.len(),
+            nodes.len(),
+            price,
+        )
     }
 }
 

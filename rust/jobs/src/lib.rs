@@ -8,7 +8,7 @@ mod records;
 
 pub use learning::{Run, run};
 pub use operations::{contexts, lookup, pack, sample, tokens, values};
-pub use records::{nodes, records, settings, spans};
+pub use records::{nodes, records, settings, span_records, spans};
 
 use ostrovuc::Refusal;
 
