@@ -5,38 +5,14 @@ A fold per crate with each function (signature and clauses) and each definition 
 are gone or new. What went to another crate under its name is shown there, as moved. By text: whether a changed text says less is the reader's to see."""
 import difflib
 import html
-import os
 import re
-import subprocess
 import sys
 
+from design_texts import closing, texts
+
+SOURCES = r"crates/\w+/(src/.*\.rt|specs/.*\.antt)$"
 CLAUSE = re.compile(r"\b(requires|ensures)\b[^{;]*\{")
 DEFINITION = re.compile(r"( *)(?:(?:pub|abbrev|unfoldable|opaque|instance) )*(?:(?:record|data) )?(?:(?:pub|abbrev|unfoldable) )*(\S+)(?: [^:=]*)?(?: :( |$)|$)")
-
-
-def git(*words, text=None):
-    return subprocess.run(["git", *words], stdout=subprocess.PIPE, check=True, input=text).stdout
-
-
-def texts(commit):
-    """path -> text of each source and each file of specs/."""
-    wanted = re.compile(r"crates/\w+/(src/.*\.rt|specs/.*\.antt)$")
-    if commit is None:
-        top = git("rev-parse", "--show-toplevel").decode().strip() + "/"
-        names = git("ls-files", "-co", "--exclude-standard", "--full-name", top + "crates").decode().split("\n")
-        return {n: open(top + n, encoding="utf-8").read() for n in sorted(set(filter(wanted.match, names))) if os.path.exists(top + n)}
-    names = [n for n in git("ls-tree", "-r", "--full-tree", "--name-only", commit).decode().split("\n") if wanted.match(n)]
-    return {n: git("show", commit + ":" + n).decode() for n in names}
-
-
-def closing(text, at):
-    """Where the bracket at `at` closes."""
-    deep = 0
-    for k in range(at, len(text)):
-        deep += (text[k] in "([{") - (text[k] in ")]}")
-        if deep == 0:
-            return k
-    return len(text)
 
 
 def heads(raw):
@@ -125,7 +101,7 @@ def row(name, old, new):
 def main():
     if len(sys.argv) != 2 or sys.argv[1].startswith("-"):
         raise SystemExit(__doc__)
-    old, new = items(texts(sys.argv[1])), items(texts(None))
+    old, new = items(texts(sys.argv[1], SOURCES)), items(texts(None, SOURCES))
     gone, fresh, rows = {k for k in old if k not in new}, {k for k in new if k not in old}, {}
     for crate, name in sorted(gone):
         there = [k for k in fresh if k[1] == name and difflib.SequenceMatcher(None, words(old[crate, name]), words(new[k])).ratio() > 0.6]

@@ -3,9 +3,9 @@
 With no COMMIT the work tree. A line for each of eight points (the pattern is its second half), of which `kept` have a comment with `Stays:` in their
 line, above it or above their function. --list POINT prints the places of one point as file:line: text. A count is no verdict: a place can be right."""
 import argparse
-import os
 import re
-import subprocess
+
+from design_texts import closing, texts
 
 POINTS = {
     1: "enums of the shape of Option or Result and their uses, literal refusal numbers, structs with a bool beside a value",
@@ -17,32 +17,9 @@ POINTS = {
     7: "bool parameters scored, uses, seeded, short, and tables of functions",
     8: "answers in proofs/*/Answers.antt",
 }
+SOURCES = r"crates/\w+/(src/.*\.rt|proofs/.*Answers\.antt)$"
 TWIN_WORDS = set("prop props tok toks residual residuals res u8 u16 u32 u64 i32 f32 f64 usize lower higher min max smaller larger".split())
 BY_HAND = re.compile(r"^(smaller|larger|min|max|clamp|eq|equal|equals|is_equal|copy|copied|same)(_\w+)?$")
-
-
-def git(*words):
-    return subprocess.run(["git", *words], stdout=subprocess.PIPE, check=True).stdout.decode()
-
-
-def texts(commit):
-    """path -> text of each source and each file of answers."""
-    wanted = re.compile(r"crates/\w+/(src/.*\.rt|proofs/.*Answers\.antt)$")
-    if commit is None:
-        top = git("rev-parse", "--show-toplevel").strip() + "/"
-        names = git("ls-files", "-co", "--exclude-standard", "--full-name", top + "crates").split("\n")
-        return {n: open(top + n, encoding="utf-8").read() for n in sorted(set(filter(wanted.match, names))) if os.path.exists(top + n)}
-    names = [n for n in git("ls-tree", "-r", "--full-tree", "--name-only", commit).split("\n") if wanted.match(n)]
-    return {n: git("show", commit + ":" + n) for n in names}
-
-
-def closing(text, at):
-    """Where the bracket at `at` closes."""
-    deep = 0
-    for k in range(at, len(text)):
-        deep += (text[k] in "([{") - (text[k] in ")]}")
-        if deep == 0:
-            return k
 
 
 def parts(text):
@@ -122,7 +99,7 @@ def main():
     ask.add_argument("commit", nargs="?")
     ask.add_argument("--list", type=int, choices=sorted(POINTS))
     given = ask.parse_args()
-    files = texts(given.commit)
+    files = texts(given.commit, SOURCES)
     sources = [Source(p, t) for p, t in files.items() if p.endswith(".rt")]
     enums = {name for s in sources for name, _ in options(s)}
     groups = {}
