@@ -1,5 +1,5 @@
 -- `Order`: the order of keys is that of values. `InOrder`, `Distinct`: lists in order, and without repeats. `Turns`, `OverlayLaws`: loops over a list's front. `MarkLaws`: by flags.
--- `KeepLaws`, `DigitLaws`, `PlaceLaws`: by digits. `ShiftLaws`: by insertion. `RepeatLaws`: repeats dropped.
+-- `KeepLaws`, `DigitLaws`, `PlaceLaws`: by digits. `SortLaws`: by comparison. `RepeatLaws`: repeats dropped.
 pub mod Order
 pub mod InOrder
 pub mod Distinct
@@ -9,5 +9,5 @@ pub mod MarkLaws
 pub mod KeepLaws
 pub mod DigitLaws
 pub mod PlaceLaws
-pub mod ShiftLaws
+pub mod SortLaws
 pub mod RepeatLaws

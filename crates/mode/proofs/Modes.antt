@@ -4,9 +4,8 @@ use mathlib.Core.Logic.{inl, inr}
 use mathlib.Core.Bool.{Bool, true, false, cond}
 use mathlib.Core.List.Memᴰ
 use mathlib.Core.List.{List, [], ◌∷◌, Memᴰ}
-use Prim.Native.Nat.{ℕ, zero, suc, ◌+◌, ◌-◌, ◌≤◌, ◌<◌}
+use Prim.Native.Nat.{ℕ, zero, suc, ◌+◌, ◌≤◌, ◌<◌}
 use native.Mathlib.Decide.{dec_lt}
-use native.Mathlib.Numerals.{add-one}
 use native.Mathlib.Omega.{arith}
 use borrow.Author.Tests.{lt-ltb, le-ltb}
 use lib.Dec.{ltb}
@@ -18,27 +17,26 @@ use Rattle.model.specs.Lists.{count_if, eq_z}
 use Rattle.model.specs.Mode.{lowest, oftenest, width, mode}
 use Rattle.model.proofs.Fits32.{mode-is}
 use Rattle.mode.specs.Each.{Each, Offset, Differs}
-use Rattle.mode.specs.Counted.{max_width, tallied, best_from, first_best}
+use Rattle.folds.specs.Counts.{tallied}
+use Rattle.mode.specs.Counted.{max_width, offset_of}
 use Rattle.mode.specs.Lent.{Clear}
+use Rattle.folds.specs.First.{first_greatest}
 use Rattle.mode.proofs.Above.{above-both, mag_less}
 use Rattle.mode.proofs.Spread.{each_map, near}
 use Rattle.mode.proofs.Tallies.{tallied-at}
 
--- a place more
-pub best-more : (counts : List ℕ) (n i best : ℕ) → i < n
-    → best_from counts (n - i) i best ≡ best_from counts (n - (i + 1)) (i + 1) (cond (ltb (get_or counts best 0) (get_or counts i 0)) i best)
-unfolding best_from
-best-more counts n i best h = let left : n - i ≡ suc (n - (i + 1)) = omega arith in rw (left, add-one)
+-- of best and n places from i on, the first that is counted oftenest: as the search goes on from what it has found
+best_from : List ℕ → ℕ → ℕ → ℕ → ℕ
+best_from counts zero i best = best
+best_from counts (suc n) i best = best_from counts n (suc i) (cond (ltb (get_or counts best 0) (get_or counts i 0)) i best)
 
--- the best place is one of those looked at
-pub best-lt : (counts : List ℕ) (n i best : ℕ) → best < i + n → best_from counts n i best < i + n
-unfolding best_from
-best-lt counts zero i best h = h
-best-lt counts (suc n) i best h = go (ltb (get_or counts best 0) (get_or counts i 0)) (best-lt counts n (suc i))
-  where
-    go : (b : Bool) → ((best : ℕ) → best < suc i + n → best_from counts n (suc i) best < suc i + n) → best_from counts n (suc i) (cond b i best) < i + suc n
-    go true ih = omega (arith, ih i (omega arith))
-    go false ih = omega (arith, ih best (omega arith))
+abbrev pub first_best : List ℕ → ℕ → ℕ
+first_best = first_greatest ltb 0
+
+best-is : (counts : List ℕ) (n i m : ℕ) → m ≡ i + n → best_from counts n i (first_best counts i) ≡ first_best counts m
+unfolding best_from first_greatest
+best-is counts zero i m e = ap (first_best counts) (omega arith)
+best-is counts (suc n) i m e = best-is counts n (suc i) m (omega arith)
 
 -- ---- where place j has how often low + j occurs, the best place is that of the value that occurs oftenest
 module _ (rs : List ℤ) (low : ℤ) (counts : List ℕ) where
@@ -59,12 +57,13 @@ module _ (rs : List ℤ) (low : ℤ) (counts : List ℕ) where
       go false ih = ih best
 
   oftenest-first : (n : ℕ) → Holds n → oftenest rs n low low 0 ≡ low +ℤ pos (first_best counts n)
-  unfolding oftenest best_from
+  unfolding oftenest first_greatest
   oftenest-first zero h = sym (+ℤ_idr low)
   oftenest-first (suc n) h =
       (λ k. oftenest rs n (sym (+ℤ_one low) k) (start k) (most k))
       ∙ oftenest-from n 1 0 (λ j lt. h j (omega arith))
       ∙ ap (λ (best : ℕ). low +ℤ pos (best_from counts n 1 best)) (sym (either (ltb (get_or counts 0 0) (get_or counts 0 0)) 0))
+      ∙ ap (λ (best : ℕ). low +ℤ pos best) (best-is counts n 1 (suc n) (omega arith))
     where
       either : {A : Type 0} (b : Bool) (x : A) → cond b x x ≡ x
       either true x = refl
@@ -82,10 +81,10 @@ module _ (rs : List ℤ) (low : ℤ) (counts : List ℕ) where
 
 -- so the values that lie in a width above low, counted in a clear space, give the one that occurs oftenest
 pub oftenest-counted : (low : ℤ) (width : ℕ) (vs : List ℤ) (counts : List ℕ) → Each (Offset low width) vs → width ≤ max_width → Clear counts
-    → low +ℤ pos (first_best (take width (tallied low vs counts)) width) ≡ oftenest vs width low low 0
+    → low +ℤ pos (first_best (take width (tallied (offset_of low) vs counts)) width) ≡ oftenest vs width low low 0
 oftenest-counted low width vs counts near narrow clear =
     let long = clear.long in
-    let counted = tallied low vs counts in
+    let counted = tallied (offset_of low) vs counts in
     sym (oftenest-first vs low (take width counted) width
     (λ j lt. omega (arith, get_or-take width counted j 0 lt, tallied-at low width vs counts near (omega arith) j, clear.zeros j (omega arith))))
 

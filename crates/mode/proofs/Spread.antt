@@ -6,6 +6,7 @@ use Prim.Native.Nat.{◌+◌, ◌-◌, ◌^◌, ◌≤◌, ◌<◌}
 use native.Mathlib.Omega.{arith}
 use lib.IntN.{ℤ, ◌-ℤ◌, nat_abs}
 use lib.Signed.{lt_z, mag}
+use Rattle.folds.specs.Range as folds
 use Rattle.model.specs.Mode.{lowest, highest, width}
 use Rattle.mode.specs.Each.{Each, Offset}
 use Rattle.mode.specs.Counted.{max_width, Narrow}
@@ -19,6 +20,17 @@ each_map (v ∷ vs) f h = (f v h.0, each_map vs f h.1)
 each_both : {P Q R : ℤ → Type 0} (vs : List ℤ) → ((v : ℤ) → P v → Q v → R v) → Each P vs → Each Q vs → Each R vs
 each_both [] f h k = tt
 each_both (v ∷ vs) f h k = (f v h.0 k.0, each_both vs f h.1 k.1)
+
+-- ---- the model's lowest and highest are those that are found
+pub lowest-same : (v : ℤ) (ws : List ℤ) → folds.lowest lt_z v ws ≡ lowest v ws
+unfolding lowest folds.lowest
+lowest-same v [] = refl
+lowest-same v (w ∷ ws) = lowest-same (cond (lt_z w v) w v) ws
+
+pub highest-same : (v : ℤ) (ws : List ℤ) → folds.highest lt_z v ws ≡ highest v ws
+unfolding highest folds.highest
+highest-same v [] = refl
+highest-same v (w ∷ ws) = highest-same (cond (lt_z v w) w v) ws
 
 -- ---- none lies below the lowest, or above the highest
 lowest_least : (v : ℤ) (ws : List ℤ) → Each (Above (lowest v ws)) (v ∷ ws)
@@ -57,12 +69,11 @@ module _ (r : ℤ) (rs : List ℤ) where
           record { at = p.at; value = p.value; near = omega arith }
 
   -- of residuals that 32 bits hold
-  module _ (low : mag (lowest r rs) < 2 ^ 31) (high : mag (highest r rs) < 2 ^ 31) where
-    pub top : Offset (lowest r rs) (2 ^ 32) (highest r rs)
-    top = record { at = whole.at; value = whole.value; near = omega (arith, reach (lowest r rs) whole.at (2 ^ 31) low (rw whole.value at high)) }
+  pub top : mag (lowest r rs) < 2 ^ 31 → mag (highest r rs) < 2 ^ 31 → Offset (lowest r rs) (2 ^ 32) (highest r rs)
+  top low high = record { at = whole.at; value = whole.value; near = omega (arith, reach (lowest r rs) whole.at (2 ^ 31) low (rw whole.value at high)) }
 
-    pub narrow : width r rs ≤ max_width → Narrow (lowest r rs) (width r rs) (r ∷ rs)
-    unfolding width
-    narrow h =
-        let last : width r rs - 1 ≡ whole.at = omega (arith, ap nat_abs (above_at whole)) in
-        record { near = near; some = omega arith; narrow = h; top = rw (last, ← whole.value) high }
+  pub narrow : mag (highest r rs) < 2 ^ 31 → width r rs ≤ max_width → Narrow (lowest r rs) (width r rs) (r ∷ rs)
+  unfolding width
+  narrow high h =
+      let last : width r rs - 1 ≡ whole.at = omega (arith, ap nat_abs (above_at whole)) in
+      record { near = near; some = omega arith; narrow = h; top = rw (last, ← whole.value) high }

@@ -13,7 +13,8 @@ use lib.Seq.{get_or-set_same, get_or-set_other, drop-set-lt, ext_get_or, length-
 use Rattle.model.specs.Lists.{count_if, eq_z}
 use Rattle.model.specs.Settings.{max_rows}
 use Rattle.mode.specs.Each.{Each, Offset}
-use Rattle.mode.specs.Counted.{max_width, offset_of, bumped, tallied, Countable}
+use Rattle.folds.specs.Counts.{bumped, tallied}
+use Rattle.mode.specs.Counted.{max_width, offset_of, Countable}
 use Rattle.mode.specs.Lent.{Clear}
 use Rattle.mode.proofs.Above.{above_at, eq_z-above}
 use Rattle.mode.proofs.Spread.{each_map}
@@ -52,7 +53,7 @@ countable-more {low} {v} {vs} {counts} h =
 
 -- each count has grown by how often its value occurs
 pub tallied-at : (low : ℤ) (width : ℕ) (vs : List ℤ) (counts : List ℕ) → Each (Offset low width) vs → width ≤ length counts → (i : ℕ)
-    → get_or (tallied low vs counts) i 0 ≡ get_or counts i 0 + count_if (eq_z (low +ℤ pos i)) vs
+    → get_or (tallied (offset_of low) vs counts) i 0 ≡ get_or counts i 0 + count_if (eq_z (low +ℤ pos i)) vs
 unfolding tallied
 tallied-at low width [] counts h le i = omega arith
 tallied-at low width (v ∷ vs) counts h le i =
@@ -63,7 +64,7 @@ tallied-at low width (v ∷ vs) counts h le i =
     omega (arith, rest, one, same)
 
 -- the places past those in use are as they were
-tallied-past : (low : ℤ) (width : ℕ) (vs : List ℤ) (counts : List ℕ) → Each (Offset low width) vs → drop width (tallied low vs counts) ≡ drop width counts
+tallied-past : (low : ℤ) (width : ℕ) (vs : List ℤ) (counts : List ℕ) → Each (Offset low width) vs → drop width (tallied (offset_of low) vs counts) ≡ drop width counts
 unfolding tallied
 tallied-past low width [] counts h = refl
 tallied-past low width (v ∷ vs) counts h =
@@ -72,7 +73,7 @@ tallied-past low width (v ∷ vs) counts h =
 
 -- with the places in use cleared, the count space is as it was
 pub cleared : (low : ℤ) (width : ℕ) (vs : List ℤ) (counts : List ℕ) → Each (Offset low width) vs → width ≤ max_width → Clear counts
-    → replicate width 0 ++ drop width (tallied low vs counts) ≡ counts
+    → replicate width 0 ++ drop width (tallied (offset_of low) vs counts) ≡ counts
 cleared low width vs counts h le clear =
     ap (λ (l : List ℕ). replicate width 0 ++ l) (tallied-past low width vs counts h)
     ∙ ap (λ (l : List ℕ). l ++ drop width counts) (sym zeros)

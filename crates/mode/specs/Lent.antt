@@ -1,5 +1,5 @@
 -- What the lists of a mode step are. Assumes nothing.
-use Rattle.std.specs.Prelude.{ℕ, ◌*◌, ◌≤◌, ◌<◌, ◌≡◌, Bool, true, List, ℤ, length, get_or}
+use Rattle.std.specs.Prelude.{ℕ, ◌*◌, ◌≤◌, ◌<◌, ◌≡◌, List, ℤ, length, get_or}
 use Rattle.model.specs.Settings.{toks_per_row, max_rows}
 use Rattle.mode.specs.Counted.{max_width}
 
@@ -19,10 +19,6 @@ pub record Rebasable (tok : List ℕ) (res : List ℤ) (first end : ℕ) (counts
   pub span : Inside first end res
   pub tokens : length tok ≡ length res * toks_per_row
   pub clear : Clear counts
-
--- where modes are in use
-pub record Steppable (uses : Bool) (tok : List ℕ) (res : List ℤ) (first end : ℕ) (counts : List ℕ) : Type 0 where
-  pub used : uses ≡ true → Rebasable tok res first end counts
 
 -- the zero tokens of the rows from first to end are below 128: they are tokens of 32-bit values
 abbrev pub LowTokens : ℕ → ℕ → List ℕ → Type 0

@@ -3,7 +3,7 @@
 // threshold, then the gain.
 #![tactic(auto)]
 
-ghost use Rattle.std.specs.Prelude.{◌≡◌, cond, List, ◌++◌, ◌+◌, ◌-◌, ◌≤◌, ◌<◌, length};
+ghost use Rattle.std.specs.Prelude.{◌≡◌, List, ◌++◌, ◌+◌, ◌-◌, ◌≤◌, ◌<◌, length};
 ghost use Rattle.model.specs.Settings.{max_nodes};
 ghost use Rattle.model.specs.Single.{singles};
 ghost use Rattle.model.specs.Lent.{Waiting};
@@ -35,24 +35,6 @@ pub struct Queue<'a> {
     pub waiting: usize,
 }
 
-// The first place with the greatest gain.
-fn first_greatest(gains: &[f32]) -> usize
-    ensures { result ≡ first_best gains.now (length gains.now) }
-{
-    if gains.is_empty() {
-        return 0;
-    }
-    let mut best: usize = 0;
-    let mut top = gains[0];
-    for (k, gain) in gains.iter().enumerate() {
-        if top < *gain {
-            best = k;
-            top = *gain;
-        }
-    }
-    best
-}
-
 impl<'a> Queue<'a> {
     // For how many waiting leaves there is room: those that have all their words, a threshold and a gain.
     pub fn room(&self) -> usize
@@ -68,7 +50,7 @@ impl<'a> Queue<'a> {
         requires { self.now.waiting ≤ length self.now.gains.now }
         ensures { result ≡ first_best self.now.gains.now self.now.waiting }
     {
-        first_greatest(&self.gains[..self.waiting])
+        folds::first_greatest(&self.gains[..self.waiting])
     }
 
     // The leaf that waits at place k.

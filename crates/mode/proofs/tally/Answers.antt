@@ -4,7 +4,7 @@ use lib.IntN.{pos}
 use lib.ListN.{get_or, length-set}
 use mir.Syntax.{w32}
 use mir.ValLaws.{to_z-of_z}
-use Rattle.mode.specs.Counted.{tallied}
+use Rattle.folds.specs.Counts.{tallied}
 use Rattle.mode.proofs.Turns.{left-more, left-done}
 use Rattle.mode.proofs.Tallies.{countable-more}
 use Rattle.mode.proofs.tally.Goals as goal

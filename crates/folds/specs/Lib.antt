@@ -1,0 +1,5 @@
+-- `First`: the first place with the greatest entry. `Range`: the lowest and the highest entry. `Sums`: the sum of the cells before each. `Counts`: cells that count by place.
+pub mod First
+pub mod Range
+pub mod Sums
+pub mod Counts
