@@ -1,7 +1,7 @@
 -- What holds of the candidates: at most 32, and ascending. Assumes nothing.
-use mathlib.Core.Path.{◌≡◌, refl}
-use mathlib.Core.List.{List, [], ◌∷◌}
-use Prim.Native.Nat.{ℕ, suc, ◌-◌, ◌*◌, ◌/◌, ◌≤◌, ◌<◌, min}
+use mathlib.Core.Path.{◌≡◌}
+use mathlib.Core.List.{List}
+use Prim.Native.Nat.{ℕ, ◌-◌, ◌*◌, ◌/◌, ◌≤◌, ◌<◌, min}
 use native.Mathlib.Omega.{arith}
 use lib.IntN.{ℤ, pos}
 use lib.Signed.{◌<ℤ◌}
@@ -9,8 +9,6 @@ use lib.ListN.{length, get_or}
 use Rattle.model.specs.Candidates.{stride, every, distinct, candidates_of}
 use Rattle.distinct.proofs.Distinct.{distinct-ascending}
 use Rattle.distinct.proofs.Turns.{pairwise_at}
-use Rattle.std.specs.Prelude.{None, Some}
-use Rattle.candidates.specs.Plan.{planned}
 use Rattle.candidates.proofs.QuantileLaws.{place_inside, place_rises, length-quantiles, quantile-at}
 
 -- ---- of a column
@@ -42,12 +40,3 @@ module _ (most : ℕ) (column : List ℤ) where
       let rises : i * d / number < j * d / number = place_rises d number i j (omega arith) lt (omega (arith, candidates-count)) in
       rw (candidate-at i (omega arith), candidate-at j h)
       (pairwise_at (λ x y. x <ℤ y) probed (pos 0) (distinct-ascending (every (stride (length column)) 0 column)) (i * d / number) (j * d / number) rises (omega arith))
-
--- ---- what a plan says of the candidates
-pub planned-some : (cs : List ℤ) (n : ℕ) → planned cs ≡ Some n → (length cs ≡ n) × (0 < n)
-planned-some [] n e = absurd (let z : ◌≡◌ {A = ℕ} 0 1 = cc in omega arith)
-planned-some (c ∷ cs) n e = let z : suc (length cs) ≡ n = cc in (z, omega arith)
-
-pub planned-none : (cs : List ℤ) → planned cs ≡ None → cs ≡ []
-planned-none [] e = refl
-planned-none (c ∷ cs) e = absurd (let z : ◌≡◌ {A = ℕ} 0 1 = cc in omega arith)

@@ -1,15 +1,13 @@
--- Values at even steps: which places they have, and how a loop writes them. Assumes nothing.
-use mathlib.Core.Path.{◌≡◌, ap, ◌∙◌}
-use mathlib.Core.List.{List, ◌++◌, append-nil, map}
+-- Values at even steps: which places they have. Assumes nothing.
+use mathlib.Core.Path.{◌≡◌}
+use mathlib.Core.List.{List}
 use Prim.Native.Nat.{ℕ, suc, ◌*◌, ◌/◌, ◌≤◌, ◌<◌}
 use native.Mathlib.Nat.{div-lt_iff_lt-mul, le-div_iff_mul-le, div-mul-le_self, mul-le-mul_right}
 use native.Mathlib.Omega.{arith}
 use lib.IntN.{ℤ, pos}
-use lib.ListN.{length, get_or, drop_of_length-le}
-use Rattle.model.specs.Lists.{range}
+use lib.ListN.{length, get_or}
 use Rattle.model.specs.Candidates.{quantiles}
 use Rattle.model.proofs.Places.{length-each, each_at}
-use Rattle.distinct.specs.Overlay.{overlay}
 
 pub place_inside : (d n k : ℕ) → n ≤ d → k < n → k * d / n < d
 place_inside d n k le lt =
@@ -38,9 +36,3 @@ place-within d n k lt =
     let room = mul-le-mul_right d lt in
     let below : k * d / n < suc d = (div-lt_iff_lt-mul {k = n} {x = k * d} {y = suc d} (omega arith)).1 (omega arith) in
     omega arith
-
--- all written
-pub quantiles-written : (d : ℕ) (vs lent : List ℤ) → overlay (quantile d (length lent) vs) (length lent) lent ≡ quantiles d (length lent) vs
-unfolding overlay quantiles
-quantiles-written d vs lent =
-    ap (λ (r : List ℤ). map (quantile d (length lent) vs) (range 0 (length lent)) ++ r) (drop_of_length-le lent {i = length lent} (omega arith)) ∙ append-nil (map (quantile d (length lent) vs) (range 0 (length lent)))

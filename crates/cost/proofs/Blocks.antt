@@ -62,10 +62,10 @@ pub tallied-more : (f : ℕ → ℕ) (n : ℕ) (cells : List ℕ) → tallied f 
 unfolding tallied
 tallied-more f n cells = rw (add-one n)
 
-pub tallied_ext : (f g : ℕ → ℕ) (n : ℕ) (cells : List ℕ) → ((j : ℕ) → f j ≡ g j) → tallied f n cells ≡ tallied g n cells
+pub tallied_ext : (f g : ℕ → ℕ) (n : ℕ) (cells : List ℕ) → ((j : ℕ) → j < n → f j ≡ g j) → tallied f n cells ≡ tallied g n cells
 unfolding tallied
 tallied_ext f g zero cells h = refl
-tallied_ext f g (suc n) cells h = rw (h n, tallied_ext f g n cells h)
+tallied_ext f g (suc n) cells h = rw (h n (omega arith), tallied_ext f g n cells (λ j l. h j (omega arith)))
 
 -- each cell grows by n at most
 pub tallied-low : (f : ℕ → ℕ) (n : ℕ) (cells : List ℕ) (m : ℕ) → ((i : ℕ) → get_or cells i 0 ≤ m) → (i : ℕ) → get_or (tallied f n cells) i 0 ≤ m + n

@@ -2,16 +2,15 @@
 -- model's on those rows. Assumes nothing.
 use mathlib.Core.Path.{◌≡◌, refl, sym, ap, ◌∙◌}
 use mathlib.Core.Bool.{Bool, true, false, cond}
-use mathlib.Core.List.{List, [], ◌∷◌, ◌++◌}
-use Prim.Native.Nat.{ℕ, ◌-◌, ◌≤◌, ◌<◌, min, max}
-use native.Mathlib.Decide.{dec_le}
+use mathlib.Core.List.{List, [], ◌∷◌}
+use Prim.Native.Nat.{ℕ, ◌-◌, ◌≤◌, ◌<◌, max}
 use native.Mathlib.Omega.{arith}
 use lib.Dec.{eqb}
 use lib.IntN.{ℤ, pos}
-use lib.ListN.{length, take, drop}
-use lib.Seq.{take-append-le, take_all, take_at, length-slice}
+use lib.ListN.{length, take}
+use lib.Seq.{length-slice}
 use lib.Ieee.{Float, lt}
-use Rattle.model.specs.Lists.{is_empty, written_over}
+use Rattle.model.specs.Lists.{is_empty}
 use Rattle.model.specs.Settings.{Settings, toks_per_row, max_rows}
 use Rattle.model.specs.Rows.{Row, within, rows_of}
 use Rattle.model.specs.Single.{singles}
@@ -25,7 +24,7 @@ use Rattle.cost.specs.Predictors.{may_use, usable_predictors, cost_at, cheapest_
 use Rattle.cost.proofs.Numbers.{Each, each_tail, Passes, keep-passes}
 use Rattle.cost.proofs.Histograms.{histograms-length, histograms-part, histogram-rows}
 use Rattle.cost.proofs.Predictors.{node_costs-at}
-use Rattle.cost.proofs.Sorting.{by_cost-each, by_cost-length}
+use Rattle.cost.proofs.Sorting.{by_cost-each}
 
 -- ---- what is asked of logarithms and of counts
 
@@ -69,13 +68,6 @@ module _ (f g : ℕ → Float) (P : ℕ → Type 0) (same : (p : ℕ) → P p �
   by_cost-same (p ∷ ps) k =
       let rest = each_tail P p ps k in
       insert-same p (by_cost singles f ps) (k 0 (omega arith)) (by_cost-each f P ps rest) ∙ ap (insert_by_cost singles g p) (by_cost-same ps rest)
-
--- the first a of a list, which others follow
-take-front : (a n : ℕ) (l rest : List ℕ) → length l ≡ n → take (min a n) (l ++ rest) ≡ take a l
-take-front a n l rest e = elim (dec_le a n) [
-  | yes h ↦ (let m : min a n ≡ a = omega arith in rw m (take-append-le a l rest (omega arith)))
-  | no h ↦ (let m : min a n ≡ n = omega arith in rw (m, take_all a l (omega arith)) (take_at l rest n e))
-]
 
 -- ---- the bridge
 
@@ -123,15 +115,11 @@ module _ (t : Settings singles) where
     info-is mode = refl
 
     -- `cheapest_predictors`' list
-    pub sides-is : (out : List ℕ)
-        → take (min (max t.sides 1) (length (usable_predictors t.weighted t.allowed)))
-        (written_over (sorted_predictors (node_costs (histograms t.alphabet rows) (length rows) t.alphabet t.weighted t.allowed logs) t.weighted t.allowed) out)
+    pub sides-is : take (max t.sides 1) (sorted_predictors (node_costs (histograms t.alphabet rows) (length rows) t.alphabet t.weighted t.allowed logs) t.weighted t.allowed)
         ≡ side_predictors t logs rows
     unfolding sorted_predictors side_predictors
-    sides-is out =
-        take-front (max t.sides 1) (length (usable_predictors t.weighted t.allowed)) (by_cost singles (cost_in held) (usable_predictors t.weighted t.allowed))
-        (drop (length (by_cost singles (cost_in held) (usable_predictors t.weighted t.allowed))) out) (by_cost-length (cost_in held) (usable_predictors t.weighted t.allowed))
-        ∙ ap (take (max t.sides 1))
+    sides-is =
+        ap (take (max t.sides 1))
         (by_cost-same (cost_in held) (cost_of t logs rows) Usable same (usable_predictors t.weighted t.allowed) usable-each ∙ ap (by_cost singles (cost_of t logs rows)) usable-is)
       where
         held : List Float

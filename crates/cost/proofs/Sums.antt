@@ -2,16 +2,17 @@
 -- Assumes nothing.
 use mathlib.Core.Path.{◌≡◌, refl, sym, ap, ◌∙◌}
 use mathlib.Core.List.{List, [], ◌∷◌}
-use Prim.Native.Nat.{ℕ, zero, suc, ◌+◌, ◌-◌, ◌*◌, ◌/◌, ◌^◌, ◌≤◌, ◌<◌}
+use Prim.Native.Nat.{ℕ, zero, suc, ◌+◌, ◌-◌, ◌*◌, ◌/◌, ◌^◌, ◌≤◌, ◌<◌, min}
 use native.Mathlib.Numerals.{add-one}
+use native.Mathlib.Decide.{dec_le}
 use native.Mathlib.Omega.{arith}
 use borrow.Author.Tests.{lt-ltb, le-ltb}
 use lib.Dec.{T, le→leb}
 use lib.IntN.{pos}
-use lib.ListN.{length, get_or, drop, drop_of_length-le}
+use lib.ListN.{length, get_or, take, drop, drop_of_length-le}
 use lib.Seq.{drop-cons}
 use lib.Ieee.{Float, binary32, add, sub, mul, in_float}
-use Rattle.model.specs.Settings.{max_rows}
+use Rattle.std.proofs.lemmas.Slice.{between_to_end}
 use Rattle.model.specs.Token.{extra_count}
 use Rattle.model.specs.Single.{single_of, singles}
 use Rattle.model.specs.Cost.{log_of, with_count, entropy_from, extra_from}
@@ -77,10 +78,6 @@ extra_from_16 t h = rw (le-ltb t 16 h)
 pub extra_le_rows : (t : ℕ) (hist : List ℕ) → t + length hist ≤ 256 → extra_from t hist ≤ 61 * rows_in hist
 extra_le_rows t hist h = rw rows_are (extra_from-le t hist h)
 
--- 61 extra bits at most for each of 65,536 rows
-pub extra-small : (hist : List ℕ) → length hist ≤ 256 → rows_in hist ≤ max_rows → extra_from 0 hist ≤ 3997696
-extra-small hist h k = let b = extra_le_rows 0 hist (omega arith) in omega arith
-
 -- tokens under 16 have none
 pub extra_skip : (t n : ℕ) (hist : List ℕ) → t + n ≤ 16 → extra_from t hist ≡ extra_from (t + n) (drop n hist)
 unfolding extra_from extra_count
@@ -91,24 +88,30 @@ extra_skip t (suc n) (c ∷ cs) h =
     let ih : extra_from (suc t) cs ≡ extra_from (t + suc n) (drop n cs) = extra_skip (suc t) n cs (omega arith) ∙ ap (λ (k : ℕ). extra_from k (drop n cs)) e in
     rw (lt-ltb t 16 (omega arith)) (omega arith)
 
-pub extra-start : (hist : List ℕ) → extra_from 16 (drop 16 hist) ≡ extra_from 0 hist
-extra-start hist = sym (extra_skip 0 16 hist (omega arith))
+-- the code's loop begins where tokens of 16 and more may stand
+pub extra-start : (first low : ℕ) (hist : List ℕ) → low ≡ min (16 - first) (length hist) → extra_from (first + low) (take (length hist - low) (drop low hist)) ≡ extra_from first hist
+extra-start first low hist e = let all : take (length hist - low) (drop low hist) ≡ drop low hist = between_to_end hist low (length hist) (omega arith) in
+    elim (dec_le first 16) [
+      | yes h ↦ rw all (sym (extra_skip first low hist (omega arith)))
+      | no h ↦ (let z : low ≡ 0 = omega arith in let from : first + 0 ≡ first = omega arith in rw (all, z, from))
+    ]
 
--- a turn of the loop that adds token i's: no sum on the way is large, and what is left goes on to the whole
-pub record ExtraTurn (hist : List ℕ) (i raw : ℕ) : Type 0 where
-  pub small : raw + get_or hist i 0 * (i / 4 - 2) ≤ 3997696
-  pub whole : raw + get_or hist i 0 * (i / 4 - 2) + extra_from (i + 1) (drop (i + 1) hist) ≡ extra_from 0 hist
+-- a turn of the loop that adds the extra bits of count t, where the first count is of the token `from`: no sum on the way is large, and what is left goes on to the whole
+pub record ExtraTurn (hist : List ℕ) (from t bits whole : ℕ) : Type 0 where
+  pub own : get_or hist t 0 * ((from + t) / 4 - 2) ≤ whole
+  pub small : bits + get_or hist t 0 * ((from + t) / 4 - 2) ≤ whole
+  pub more : bits + get_or hist t 0 * ((from + t) / 4 - 2) + extra_from (from + (t + 1)) (drop (t + 1) hist) ≡ whole
 
-pub extra-turn : (hist : List ℕ) (i raw : ℕ) → length hist ≤ 256 → rows_in hist ≤ max_rows → 16 ≤ i → i < length hist → raw + extra_from i (drop i hist) ≡ extra_from 0 hist
-    → ExtraTurn hist i raw
+pub extra-turn : (hist : List ℕ) (from t bits whole : ℕ) → 16 ≤ from + t → t < length hist → bits + extra_from (from + t) (drop t hist) ≡ whole → ExtraTurn hist from t bits whole
 unfolding extra_from
-extra-turn hist i raw tokens rows from h inv =
-    let own : get_or hist i 0 * extra_count i ≡ get_or hist i 0 * (i / 4 - 2) = ap (λ (n : ℕ). get_or hist i 0 * n) (extra_from_16 i from) in
-    let step : extra_from i (drop i hist) ≡ get_or hist i 0 * extra_count i + extra_from (suc i) (drop (suc i) hist) = ap (extra_from i) (drop-cons hist i 0 h) in
-    let b = extra-small hist tokens rows in
-    record { small = omega arith; whole = rw add-one (omega arith) }
+extra-turn hist from t bits whole high h inv =
+    let next : suc (from + t) ≡ from + suc t = omega arith in
+    let own : get_or hist t 0 * extra_count (from + t) ≡ get_or hist t 0 * ((from + t) / 4 - 2) = ap (λ (n : ℕ). get_or hist t 0 * n) (extra_from_16 (from + t) high) in
+    let step : extra_from (from + t) (drop t hist) ≡ get_or hist t 0 * extra_count (from + t) + extra_from (from + suc t) (drop (suc t) hist) =
+    ap (extra_from (from + t)) (drop-cons hist t 0 h) ∙ ap (λ (n : ℕ). get_or hist t 0 * extra_count (from + t) + extra_from n (drop (suc t) hist)) next in
+    record { own = omega arith; small = omega arith; more = rw add-one (omega arith) }
 
 -- the end of the loop
-pub extra-end : (hist : List ℕ) (i raw : ℕ) → length hist ≤ i → raw + extra_from i (drop i hist) ≡ extra_from 0 hist → raw ≡ extra_from 0 hist
+pub extra-end : (hist : List ℕ) (from t bits whole : ℕ) → length hist ≤ t → bits + extra_from (from + t) (drop t hist) ≡ whole → bits ≡ whole
 unfolding extra_from
-extra-end hist i raw h inv = let none : extra_from i (drop i hist) ≡ 0 = ap (extra_from i) (drop_of_length-le hist {i = i} h) in omega arith
+extra-end hist from t bits whole h inv = let none : extra_from (from + t) (drop t hist) ≡ 0 = ap (extra_from (from + t)) (drop_of_length-le hist {i = t} h) in omega arith

@@ -1,5 +1,6 @@
 -- The histograms of all predictors in one list, and how counting a row changes it. Assumes nothing.
-use Rattle.std.specs.Prelude.{◌≡◌, ℕ, zero, suc, ◌+◌, ◌*◌, ◌≤◌, ◌<◌, List, [], ◌++◌, ℤ, length, get_or, set, take, drop}
+use Rattle.std.specs.Prelude.{◌≡◌, ℕ, zero, suc, ◌+◌, ◌*◌, ◌≤◌, ◌<◌, List, [], ◌++◌, ℤ, length, get_or, take, drop}
+pub use Rattle.folds.specs.Counts.{bumped}
 use Rattle.model.specs.Settings.{toks_per_row, max_rows}
 use Rattle.model.specs.Rows.{Row, Span, within, rows_of}
 use Rattle.model.specs.Cost.{histogram}
@@ -19,23 +20,19 @@ histograms alphabet rows = end_to_end (λ (p : ℕ). histogram alphabet p rows) 
 
 -- ---- counting a row, as the code does it
 
--- one more in cell i
-abbrev pub bumped : ℕ → List ℕ → List ℕ
-bumped i cells = set cells i (get_or cells i 0 + 1)
-
--- one more in each of the cells f 0, .., f (n - 1)
+-- one more in each of the cells f 0, .., f (n - 1); of a list's entries it is `folds`' `tallied`
 unfoldable pub tallied : (ℕ → ℕ) → ℕ → List ℕ → List ℕ
 tallied f zero cells = cells
 tallied f (suc n) cells = bumped (f n) (tallied f n cells)
 
--- the cell of the row's token under predictor p, in the histograms that start at `base`
-abbrev pub token_cell : List ℕ → ℕ → ℕ → ℕ → ℕ → ℕ
-token_cell tok row base alphabet p = base + p * alphabet + get_or tok (row * toks_per_row + p) 0
+-- the cell of a row's token under predictor p, in the histograms that start at `base`
+abbrev pub token_cell : List ℕ → ℕ → ℕ → ℕ → ℕ
+token_cell tokens base alphabet p = base + p * alphabet + get_or tokens p 0
 
--- the row is there, its tokens are below the alphabet, and there is room for its counts
-pub record RowFits (tok : List ℕ) (row base alphabet : ℕ) (cells : List ℕ) : Type 0 where
-  pub there : row * toks_per_row + toks_per_row ≤ length tok
-  pub below : (p : ℕ) → p < toks_per_row → get_or tok (row * toks_per_row + p) 0 < alphabet
+-- the row is whole, its tokens are below the alphabet, and there is room for its counts
+pub record RowFits (tokens : List ℕ) (base alphabet : ℕ) (cells : List ℕ) : Type 0 where
+  pub whole : length tokens ≡ toks_per_row
+  pub below : (p : ℕ) → p < toks_per_row → get_or tokens p 0 < alphabet
   pub room : base + toks_per_row * alphabet ≤ length cells
   pub low : (i : ℕ) → get_or cells i 0 ≤ max_rows
 

@@ -1,9 +1,10 @@
 -- Flat bits from counts, as the code adds them up (document 01, "Flat bits"; the Rust's `flat_cost`). Assumes nothing.
 use Rattle.std.specs.Prelude.{◌≡◌, Bool, false, cond, List, ℕ, zero, suc, ◌*◌, ◌≤◌, ◌<◌, eqb, ℤ, length, get_or, replicate, Float}
 use Rattle.model.specs.Lists.{is_empty}
-use Rattle.model.specs.Settings.{props_per_row, toks_per_row, max_rows}
+use Rattle.model.specs.Settings.{toks_per_row, max_rows}
 use Rattle.model.specs.Rows.{rows_of}
 use Rattle.model.specs.Single.{singles}
+use Rattle.rows.specs.Flat.{Flat, row_count}
 use Rattle.cost.specs.Counted.{LogsReach}
 use Rattle.cost.specs.Histograms.{part}
 use Rattle.cost.specs.Predictors.{usable_predictors, cost_at, cheapest_of, NodeCounted}
@@ -11,12 +12,11 @@ use Rattle.flat.specs.Groups.{group_histograms, group_sizes}
 
 -- ---- counting
 
--- the rows are there, and their tokens are below the alphabet
-pub record RowsFit (ps : List ℤ) (tok : List ℕ) (rows alphabet : ℕ) : Type 0 where
-  pub few : rows ≤ max_rows
-  pub props : rows * props_per_row ≤ length ps
-  pub toks : rows * toks_per_row ≤ length tok
-  pub below : (i : ℕ) → i < rows * toks_per_row → get_or tok i 0 < alphabet
+-- the tokens of the rows are there, and below the alphabet
+pub record RowsFit (x : Flat) (alphabet : ℕ) : Type 0 where
+  pub few : row_count x ≤ max_rows
+  pub toks : row_count x * toks_per_row ≤ length x.toks
+  pub below : (i : ℕ) → i < row_count x * toks_per_row → get_or x.toks i 0 < alphabet
 
 -- room for the groups' counts, all 0
 pub record GroupsEmpty (alphabet : ℕ) (hist sizes : List ℕ) : Type 0 where
@@ -60,9 +60,9 @@ module _ (hist sizes : List ℕ) (alphabet : ℕ) (weighted : Bool) (allowed : �
 -- ---- flat bits
 
 -- all that `flat_cost` asks: rows, 56 × alphabet numbers that are 0, logarithms that reach, some predictor that may be used
-pub record FlatFits (ps : List ℤ) (tok : List ℕ) (rows alphabet : ℕ) (weighted : Bool) (allowed : ℕ) (logs : List Float) (hist : List ℕ) : Type 0 where
-  pub rows_fit : RowsFit ps tok rows alphabet
+pub record FlatFits (x : Flat) (alphabet : ℕ) (weighted : Bool) (allowed : ℕ) (logs : List Float) (hist : List ℕ) : Type 0 where
+  pub rows_fit : RowsFit x alphabet
   pub tokens : alphabet ≤ 256
-  pub reach : LogsReach rows logs
+  pub reach : LogsReach (row_count x) logs
   pub some : is_empty (usable_predictors weighted allowed) ≡ false
   pub empty : hist ≡ replicate (56 * alphabet) 0

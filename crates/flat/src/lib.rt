@@ -6,13 +6,16 @@ ghost use Rattle.std.specs.Prelude.{◌≡◌, List, ◌*◌, false, ℤ, replic
 ghost use Rattle.model.specs.Single.{singles};
 ghost use Rattle.model.specs.Settings.{Settings};
 ghost use Rattle.model.specs.Flat.{clamped, flat_bits};
-ghost use Rattle.model.specs.Rows.{rows_of};
+ghost use Rattle.model.specs.Rows.{rows_held};
+ghost use Rattle.rows.specs.Flat.{row_count};
+ghost use Rattle.rows.specs.Lent.{flat_in};
 ghost use Rattle.model.specs.Lists.{is_empty};
 ghost use Rattle.cost.specs.Predictors.{Uses, NodeCounted, usable_predictors};
 ghost use Rattle.flat.specs.Flat.{RowsFit, GroupsEmpty, CountsGroups, with_lowest, groups_bits};
 ghost use Rattle.flat.specs.Flat.{GroupsCounted, FlatFits};
 
 use cost::{Allowed, NodeCounts};
+use rows::Rows;
 
 // The flat group of a row: its property 0, held to 0 to 3.
 fn group_of(v: i32) -> usize
@@ -22,26 +25,23 @@ fn group_of(v: i32) -> usize
 }
 
 // Counts the rows of each flat group, and their tokens under each predictor, in one pass over the rows.
-fn count_groups(
-    props: &[i32],
-    tok: &[u8],
-    hist: &mut [u32],
-    sizes: &mut [u32],
-    rows: usize,
-    alphabet: usize,
-)
-    requires rows_fit { RowsFit props.now tok.now rows alphabet }
+fn count_groups(rows: &Rows, hist: &mut [u32], sizes: &mut [u32], alphabet: usize)
+    requires rows_fit { RowsFit (flat_in rows.now) alphabet }
     requires groups_empty { GroupsEmpty alphabet hist.old sizes.old }
-    ensures { CountsGroups props.now tok.now rows alphabet
+    ensures { CountsGroups rows.now.props.now rows.now.tok.now (row_count (flat_in rows.now)) alphabet
         hist.new sizes.new }
 {
-    // Stays: the row's number says where its tokens stand as well, which `count_row` reads.
-    for row in 0..rows {
-        let group = group_of(props[row * model::NUM_MA_PROPS]);
+    let count = rows.count();
+    let props = &rows.props[..count * model::NUM_MA_PROPS];
+    let tok = &rows.tok[..count * model::NUM_MA_PREDS];
+    let rows = props
+        .chunks_exact(model::NUM_MA_PROPS)
+        .zip(tok.chunks_exact(model::NUM_MA_PREDS));
+    for (props, tokens) in rows {
+        let group = group_of(props[0]);
         cost::bump(sizes, group);
         cost::count_row(
-            tok,
-            row,
+            tokens,
             group * (model::NUM_MA_PREDS * alphabet),
             alphabet,
             hist,
@@ -72,6 +72,7 @@ fn groups_cost(hist: &[u32], sizes: &[u32], alphabet: usize, allowed: Allowed, l
 {
     let width = model::NUM_MA_PREDS * alphabet;
     let mut total = 0.0f64;
+    // Stays: by the group's number, since `chunks_exact` asks for a width over 0, and of no rows the alphabet may be 0.
     for (group, size) in sizes.iter().enumerate() {
         let first = group * width;
         let counts = NodeCounts {
@@ -85,25 +86,22 @@ fn groups_cost(hist: &[u32], sizes: &[u32], alphabet: usize, allowed: Allowed, l
 }
 
 // Flat bits: the rows grouped by property 0 held to 0 to 3, each group at its lowest cost. The counts are zero again.
-// Stays: rows, room, logarithms and what a leaf may use come from four places, and are met together only here.
 pub fn flat_cost(
-    props: &[i32],
-    tok: &[u8],
+    rows: &Rows,
     hist: &mut [u32],
-    logs: &[f32],
-    rows: usize,
     alphabet: usize,
     allowed: Allowed,
+    logs: &[f32],
 ) -> f64
-    requires { FlatFits props.now tok.now rows alphabet allowed.weighted allowed.preds logs.now
+    requires { FlatFits (flat_in rows.now) alphabet allowed.weighted allowed.preds logs.now
         hist.old }
     ensures answer { (t : Settings singles) (rs : List ℤ)
         → Uses t alphabet allowed.weighted allowed.preds
-        → result ≡ flat_bits t logs.now (rows_of rows props.now tok.now rs) }
+        → result ≡ flat_bits t logs.now (rows_held rows.now.props.now rows.now.tok.now rs) }
     ensures zeros { hist.new ≡ replicate (56 * alphabet) 0 }
 {
     let mut sizes = [0u32; 4];
-    count_groups(props, tok, hist, &mut sizes, rows, alphabet);
+    count_groups(rows, hist, &mut sizes, alphabet);
     let total = groups_cost(hist, &sizes, alphabet, allowed, logs);
     hist.fill(0);
     total

@@ -2,6 +2,7 @@
 use mathlib.Core.Path.{◌≡◌, refl, sym, ap, ◌∙◌}
 use mathlib.Core.Bool.{Bool, not, not-not}
 use mathlib.Core.Option as maybe
+use mathlib.Core.Option.{or_else}
 use Prim.Native.Nat.{ℕ}
 use native.Mathlib.Omega.{arith}
 use Rattle.model.specs.Refuse.{Refusal}
@@ -34,3 +35,12 @@ pass_is (maybe.some r) rows n e = let z : ◌≡◌ {A = ℕ} 0 1 = cc in absurd
 pub refused-is : (o : maybe.Option Refusal) (rows : ℕ) (r : Refusal) → refused r ≡ outcome_of o rows → o ≡ maybe.some r
 refused-is maybe.none rows r e = let z : ◌≡◌ {A = ℕ} 0 1 = cc in absurd (omega arith)
 refused-is (maybe.some q) rows r e = let s : q ≡ r = cc in ap maybe.some s
+
+-- what is asked after the others: a refusal before it stays, and a pass leaves the answer to it
+pub still-refused : (o last : maybe.Option Refusal) (rows : ℕ) (r : Refusal) → refused r ≡ outcome_of o rows → refused r ≡ outcome_of (or_else o last) rows
+unfolding or_else
+still-refused o last rows r e = rw (refused-is o rows r e)
+
+pub left-to : (o last : maybe.Option Refusal) (rows n : ℕ) → accepted n ≡ outcome_of o rows → (outcome_of (or_else o last) rows ≡ outcome_of last rows) × (rows ≡ n)
+unfolding or_else
+left-to o last rows n e = let h = pass_is o rows n e in (rw h.0, sym h.1)

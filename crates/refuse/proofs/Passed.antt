@@ -2,7 +2,7 @@
 -- Assumes nothing.
 use mathlib.Core.Path.{◌≡◌, refl, sym, ◌∙◌}
 use mathlib.Core.Logic.{inl, inr}
-use mathlib.Core.Bool.{Bool, true, false}
+use mathlib.Core.Bool.{Bool, true, false, ◌||◌}
 use mathlib.Core.List.{List}
 use mathlib.Core.Option.{Option, none, some, or_else}
 use Prim.Native.Nat.{ℕ}
@@ -14,7 +14,7 @@ use Rattle.model.specs.Single.{singles}
 use Rattle.model.specs.Profile.{Profile, single}
 use Rattle.model.specs.Tree.{fault_of}
 use Rattle.model.specs.Lent.{Lent, row_count, tree_in, lent_after}
-use Rattle.model.specs.Refuse.{Refusal, refuse_if, refuse_at, refuse_with, is_short_of_seed_room, Besides, room_besides, refused_before, learn_refusal, seed_besides, deepen_refusal}
+use Rattle.model.specs.Refuse.{Refusal, refuse_if, refuse_at, refuse_with, is_short_of_room, is_short_of_seed_room, Besides, room_besides, refused_before, learn_refusal, seed_besides, deepen_refusal}
 use Rattle.model.specs.Operations.{refused, accepted, outcome_of, learn, tree_of}
 use Rattle.model.specs.Accepting.{SeedRooms, Passed}
 use Rattle.model.proofs.Accepted.{seed_rooms_in, learned_from, learn-accepted}
@@ -52,6 +52,16 @@ module _ (P : Profile) (t : model.Settings P.meter) (logs : List P.meter.Cost) (
   pub before_last : (b : Besides) → refused_before P t logs x b ≡ or_else (refused_before P t logs x (up_to7 b)) b.after7
   unfolding refused_before or_else
   before_last b = simp (if_then, at-then, with_then)
+
+  -- what an operation asks of its own rooms comes last
+  room_last : (a short : Bool) → refuse_if (a || short) 7 none ≡ or_else (refuse_if (a || false) 7 none) (refuse_if short 7 none)
+  unfolding or_else
+  room_last true short = refl
+  room_last false short = refl
+
+  pub after_learning : (short : Bool) → refused_before P t logs x (room_besides short) ≡ or_else (learn_refusal P t logs x) (refuse_if short 7 none)
+  unfolding refused_before learn_refusal or_else
+  after_learning short = rw (room_last (is_short_of_room t x) short) (simp (if_then, at-then))
 
   -- an operation's own rooms apart, the conditions are those of learning
   before-none : (short : Bool) → refused_before P t logs x (room_besides short) ≡ none → (learn_refusal P t logs x ≡ none) × (short ≡ false)

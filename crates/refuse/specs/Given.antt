@@ -8,6 +8,7 @@ use Rattle.model.specs.Single.{singles}
 use Rattle.model.specs.Rows.{no_span}
 use Rattle.model.specs.Tree.{blank_record}
 use Rattle.model.specs.Lent.{Lent, stored, no_waiting}
+use Rattle.cost.specs.declared.Allowed.{Allowed}
 use Rattle.rows.specs.Flat.{Flat}
 use Rattle.refuse.specs.declared.Settings.{Settings}
 use Rattle.refuse.specs.declared.Rooms.{Rooms}
@@ -28,6 +29,10 @@ settings_of s =
       modal = s.modal_offsets;
       settling = s.settle;
     }
+
+-- the predictors that the settings allow a leaf
+abbrev pub allowed_in : Settings → Allowed
+allowed_in s = record { weighted = s.allow_wp; preds = s.allowed_preds }
 
 -- the lent lists have so many properties, tokens and residuals
 pub record Holds {M : Meter} (p t r : ℕ) (x : Lent M) : Type 0 where

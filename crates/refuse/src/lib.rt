@@ -5,7 +5,6 @@
 ghost use Rattle.std.specs.Prelude.{◌≡◌, false, not, ◌/◌, ◌<◌, length, pos};
 ghost use Rattle.std.specs.Float.{fin};
 ghost use Rattle.model.specs.Settings.{toks_per_row};
-ghost use Rattle.model.specs.Cost.{is_usable};
 ghost use Rattle.model.specs.Single.{singles};
 ghost use Rattle.model.specs.Profile.{is_between, single};
 ghost use Rattle.model.specs.Lent.{Lent, row_count};
@@ -17,13 +16,11 @@ ghost use Rattle.model.specs.Operations.{outcome_of};
 ghost use Rattle.model.specs.Answered.{outcome_of_result};
 ghost use Rattle.model.specs.Accepting.{InRange};
 ghost use Rattle.rows.specs.Lent.{flat_in};
-ghost use Rattle.refuse.specs.Given.{settings_of, Holds, HasRooms, Lends, WholeRows, found_of};
+ghost use Rattle.refuse.specs.Given.{settings_of, allowed_in, Holds, HasRooms, Lends, WholeRows, found_of};
 
+use cost::Allowed;
 use model::Refusal;
 use rows::Rows;
-
-// The weighted predictor.
-pub const PRED_WEIGHTED: usize = 6;
 
 // The first part of the count space: the mode step counts residuals there, and the candidates mark values.
 const FIRST_COUNTS: usize = 4096;
@@ -46,6 +43,18 @@ pub struct Settings {
     pub allowed_preds: u16,
     pub modal_offsets: bool,
     pub settle: bool,
+}
+
+impl Settings {
+    // The predictors that a leaf may use.
+    pub fn allowed(self) -> Allowed
+        ensures { result ≡ allowed_in self }
+    {
+        Allowed {
+            weighted: self.allow_wp,
+            preds: u32::from(self.allowed_preds),
+        }
+    }
 }
 
 // What a job goes by besides its rows: the settings, and the logarithms of the counts.
@@ -88,19 +97,12 @@ pub fn settings_fit(s: Settings) -> bool
 
 // ---- 2: a predictor is left
 
-// Predictor p is allowed, and is not the weighted one where that is switched off.
-pub fn is_usable(s: Settings, p: usize) -> bool
-    requires { p < toks_per_row }
-    ensures { result ≡ is_usable (settings_of s) p }
-{
-    (s.allow_wp | (p != PRED_WEIGHTED)) & ((s.allowed_preds >> p) % 2 == 1)
-}
-
 // At least one predictor may be used.
 pub fn any_usable(s: Settings) -> bool
     ensures { result ≡ not (has_no_predictor (settings_of s)) }
 {
-    (0..model::NUM_MA_PREDS).any(|p| is_usable(s, p))
+    let allowed = s.allowed();
+    (0..model::NUM_MA_PREDS as u32).any(|p| allowed.has(p))
 }
 
 // ---- 3: the lists are whole rows
@@ -193,13 +195,11 @@ pub fn seed_rooms_fit(rooms: Rooms, rows: usize, count: usize) -> bool
 
 // ---- the first condition that holds
 
-// Conditions 1 to 7. `short` says that the room which this operation asks for besides is too small.
-// Stays: what else is asked is known before the checks and told last among them, so it is handed in as known.
-fn check_job(rows: &Rows, job: Job, rooms: Rooms, short: bool) -> Result<usize, Refusal>
+// Conditions 1 to 7 of learning; how many rows there are.
+pub fn check_learn(rows: &Rows, job: Job, rooms: Rooms) -> Result<usize, Refusal>
     ensures { (x : Lent singles) → Lends (flat_in rows.now) rooms x
-        → outcome_of_result result ≡ outcome_of
-        (refused_before single (settings_of job.entry.settings) job.entry.logs.now x
-        (room_besides short)) (row_count x) }
+        → outcome_of_result result
+        ≡ outcome_of (learn_refusal single (settings_of job.entry.settings) job.entry.logs.now x) (row_count x) }
 {
     let s = job.settings;
     if !settings_fit(s) {
@@ -221,32 +221,23 @@ fn check_job(rows: &Rows, job: Job, rooms: Rooms, short: bool) -> Result<usize, 
     if !logs_fit(job.logs, count) {
         return Err(Refusal::BadLogarithms);
     }
-    if !rooms_fit(s, rooms) | short {
+    if !rooms_fit(s, rooms) {
         return Err(Refusal::ShortOfRoom);
     }
     Ok(count)
 }
 
-// Conditions 1 to 7 of learning; how many rows there are.
-pub fn check_learn(rows: &Rows, job: Job, rooms: Rooms) -> Result<usize, Refusal>
-    ensures { (x : Lent singles) → Lends (flat_in rows.now) rooms x
-        → outcome_of_result result
-        ≡ outcome_of (learn_refusal single (settings_of job.entry.settings) job.entry.logs.now x) (row_count x) }
-{
-    check_job(rows, job, rooms, false)
-}
-
-// Conditions 1 to 7 of deepening a seed of `seeds` nodes. Whether the seed is a sound tree (8) is asked after a pass.
+// Conditions 1 to 7 of deepening a seed of `seeds` nodes: those of learning, and then the seed's room. Whether the seed
+// is a sound tree (8) is asked after a pass.
 pub fn check_deepen(rows: &Rows, job: Job, rooms: Rooms, seeds: usize) -> Result<usize, Refusal>
     ensures { (x : Lent singles) → Lends (flat_in rows.now) rooms x
         → outcome_of_result result ≡ outcome_of
         (refused_before single (settings_of job.entry.settings) job.entry.logs.now x
         (room_besides (is_short_of_seed_room seeds x))) (row_count x) }
 {
-    check_job(
-        rows,
-        job,
-        rooms,
-        !seed_rooms_fit(rooms, rows.count(), seeds),
-    )
+    let count = check_learn(rows, job, rooms)?;
+    if !seed_rooms_fit(rooms, count, seeds) {
+        return Err(Refusal::ShortOfRoom);
+    }
+    Ok(count)
 }
