@@ -30,8 +30,18 @@ pub struct Scored {
     pub cost: f32,
 }
 
+/// A side predictor with its window: the first token, how many there are, and where the window starts in a bin.
+#[repr(C)]
+#[derive(Clone, Copy, Default)]
+struct Lane {
+    pred: usize,
+    first: usize,
+    width: usize,
+    off: usize,
+}
+
 mod c {
-    use super::{MaNode, PrunedTree, Scored, Span};
+    use super::{Lane, MaNode, PrunedTree, Scored, Span};
 
     // Each slice is a pointer and a length.
     unsafe extern "C" {
@@ -40,12 +50,10 @@ mod c {
             node_length: usize,
             preds: *const u32,
             preds_length: usize,
-            firsts: *mut u32,
-            firsts_length: usize,
-            offs: *mut u32,
-            offs_length: usize,
+            lanes: *mut Lane,
+            lanes_length: usize,
             alphabet: usize,
-        );
+        ) -> usize;
         pub fn ostrovuc_score_property(
             props: *const i32,
             props_length: usize,
@@ -53,12 +61,8 @@ mod c {
             tok_length: usize,
             cands: *const i32,
             cands_length: usize,
-            preds: *const u32,
-            preds_length: usize,
-            firsts: *const u32,
-            firsts_length: usize,
-            offs: *const u32,
-            offs_length: usize,
+            lanes: *const Lane,
+            lanes_length: usize,
             node: *const u32,
             node_length: usize,
             logs: *const f32,
@@ -68,6 +72,7 @@ mod c {
             first: usize,
             end: usize,
             prop: usize,
+            stride: usize,
             alphabet: usize,
         ) -> Scored;
         pub fn ostrovuc_prune(
@@ -299,11 +304,10 @@ pub unsafe fn hist_entropy_bits(hist: &[u32], total: u32, logs: &[f32]) -> f32 {
     }
 }
 
-/// A node's side predictors, with their windows in its histograms.
+/// A node's side predictors, with their windows in its histograms, and the length of a bin.
 pub struct Windows {
-    preds: Vec<u32>,
-    firsts: Vec<u32>,
-    offs: Vec<u32>,
+    lanes: Vec<Lane>,
+    stride: usize,
 }
 
 impl Windows {
@@ -312,27 +316,20 @@ impl Windows {
     /// `node` is 14 histograms of the alphabet, which is at most 256; the predictors, at most
     /// 14, are below 14.
     pub unsafe fn of(node: &[u32], preds: &[u32], alphabet: usize) -> Self {
-        let (mut firsts, mut offs) = (vec![0; preds.len()], vec![0; preds.len() + 1]);
+        let mut lanes = vec![Lane::default(); preds.len()];
         // SAFETY: the pointers and the lengths are lists'; the caller sees to the rest.
-        unsafe {
+        let stride = unsafe {
             c::ostrovuc_set_windows(
                 node.as_ptr(),
                 node.len(),
                 preds.as_ptr(),
                 preds.len(),
-                firsts.as_mut_ptr(),
-                firsts.len(),
-                offs.as_mut_ptr(),
-                offs.len(),
+                lanes.as_mut_ptr(),
+                lanes.len(),
                 alphabet,
-            );
-        }
-        let preds = preds.to_vec();
-        Self {
-            preds,
-            firsts,
-            offs,
-        }
+            )
+        };
+        Self { lanes, stride }
     }
 }
 
@@ -365,12 +362,8 @@ pub unsafe fn score_property(
             tok.len(),
             cands.as_ptr(),
             cands.len(),
-            windows.preds.as_ptr(),
-            windows.preds.len(),
-            windows.firsts.as_ptr(),
-            windows.firsts.len(),
-            windows.offs.as_ptr(),
-            windows.offs.len(),
+            windows.lanes.as_ptr(),
+            windows.lanes.len(),
             node.as_ptr(),
             node.len(),
             logs.as_ptr(),
@@ -380,6 +373,7 @@ pub unsafe fn score_property(
             0,
             props.len() / PROPERTIES,
             prop,
+            windows.stride,
             alphabet,
         )
     };

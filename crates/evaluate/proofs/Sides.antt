@@ -6,13 +6,12 @@ use Prim.Native.Nat.{ℕ, ◌-◌, ◌*◌, ◌≤◌, ◌<◌, min, max}
 use native.Mathlib.Omega.{arith}
 use lib.IntN.{ℤ}
 use lib.Ieee.{Float}
-use lib.ListN.{length, get_or, take, length-take}
+use lib.ListN.{length, get_or, take, length-take, length-map}
 use lib.Seq.{get_or-take, length-slice}
-use Rattle.model.specs.Lists.{range, keep, is_empty, written_over}
+use Rattle.model.specs.Lists.{range, keep, is_empty}
 use Rattle.model.specs.Rows.{rows_of}
 use Rattle.model.specs.Cost.{side_predictors}
 use Rattle.model.proofs.Keeping.{length_keep_le}
-use Rattle.model.proofs.Written.{take-written}
 use Rattle.model.proofs.Places.{length-range, length_rows_of}
 use Rattle.refuse.specs.declared.Settings.{Settings}
 use Rattle.refuse.specs.Given.{settings_of}
@@ -22,7 +21,9 @@ use Rattle.cost.proofs.Numbers.{Each, Passes, keep-passes}
 use Rattle.cost.proofs.Histograms.{histograms-length}
 use Rattle.cost.proofs.Sorting.{by_cost-length, by_cost-each}
 use Rattle.cost.proofs.Bridge.{sides-is, usable-is}
-use Rattle.score_windows.specs.Windows.{Windowable, Windows}
+use Rattle.score_windows.specs.declared.Lane.{Lane}
+use Rattle.score_windows.specs.Windows.{preds_of, Windowable, Windows}
+use Rattle.score_windows.proofs.Windowing.{pred_at}
 use Rattle.evaluate.specs.Evaluated.{Evaluable, Splittable, span_rows}
 
 some-there : (l : List ℕ) → is_empty l ≡ false → 0 < length l
@@ -37,10 +38,13 @@ pub costs-length : (hist : List ℕ) (total alphabet : ℕ) (weighted : Bool) (a
 unfolding node_costs
 costs-length hist total alphabet weighted allowed logs = refl
 
-module _ (costs : List Float) (weighted : Bool) (allowed side n : ℕ) (out : List ℕ) (some : is_empty (usable_predictors weighted allowed) ≡ false)
-    (count : n ≡ min (max side 1) (length (usable_predictors weighted allowed))) where
+module _ (costs : List Float) (weighted : Bool) (allowed side : ℕ) (some : is_empty (usable_predictors weighted allowed) ≡ false) where
   abbrev sorted : List ℕ
   sorted = sorted_predictors costs weighted allowed
+
+  -- as many of them as the sides use
+  abbrev sides : List ℕ
+  sides = take (max side 1) sorted
 
   sorted-length : length sorted ≡ length (usable_predictors weighted allowed)
   unfolding sorted_predictors
@@ -56,25 +60,21 @@ module _ (costs : List Float) (weighted : Bool) (allowed side n : ℕ) (out : Li
   unfolding usable_predictors
   usable-few = omega (arith, length_keep_le (may_use weighted allowed) (range 0 14), length-range 0 14)
 
-  front : take n (written_over sorted out) ≡ take n sorted
-  front = take-written sorted out n (omega (arith, count, sorted-length))
+  sides-length : length sides ≡ min (max side 1) (length (usable_predictors weighted allowed))
+  sides-length = length-take (max side 1) sorted ∙ ap (min (max side 1)) sorted-length
 
-  pub sides-length : length (take n (written_over sorted out)) ≡ n
-  sides-length = ap length front ∙ length-take n sorted ∙ omega (arith, count, sorted-length)
+  pub sides-few : length sides ≤ 14
+  sides-few = omega (arith, sides-length, usable-few)
 
-  pub sides-few : n ≤ 14
-  sides-few = omega (arith, count, usable-few)
+  pub sides-some : 1 ≤ length sides
+  sides-some = omega (arith, sides-length, some-there (usable_predictors weighted allowed) some)
 
-  pub sides-some : 1 ≤ n
-  sides-some = omega (arith, count, some-there (usable_predictors weighted allowed) some)
+  pub sides-wanted : length sides ≤ max side 1
+  sides-wanted = omega (arith, sides-length)
 
-  pub sides-wanted : n ≤ max side 1
-  sides-wanted = omega (arith, count)
-
-  pub sides-low : (i : ℕ) → i < length (take n (written_over sorted out)) → get_or (take n (written_over sorted out)) i 0 < 14
+  pub sides-low : (i : ℕ) → i < length sides → get_or sides i 0 < 14
   sides-low i h =
-      let l : i < n = omega (arith, sides-length) in
-      subst (λ (q : ℕ). q < 14) (sym (ap (λ (x : List ℕ). get_or x i 0) front ∙ get_or-take n sorted i 0 l)) (sorted-low i (omega (arith, count, sorted-length))).0
+      subst (λ (q : ℕ). q < 14) (sym (get_or-take (max side 1) sorted i 0 (omega (arith, sides-length)))) (sorted-low i (omega (arith, sides-length, sorted-length))).0
 
 module _ {props : List ℤ} {tok : List ℕ} {first end : ℕ} {s : Settings} {logs : List Float} {counts : List ℕ} (node : Evaluable props tok first end s logs counts)
     {hist : List ℕ} (counted : CountsSpan tok first end hist s.alphabet) where
@@ -84,52 +84,35 @@ module _ {props : List ℤ} {tok : List ℕ} {first end : ℕ} {s : Settings} {l
   pub hist_length : length hist ≡ 14 * s.alphabet
   hist_length = ap length (counted end [] [] (omega arith)) ∙ histograms-length s.alphabet (span_rows first end [] tok end [])
 
-  module _ (costs : List Float) (n : ℕ) (out out' : List ℕ) (own : costs ≡ node_costs hist (end - first) s.alphabet s.allow_wp s.allowed_preds logs)
-      (count : n ≡ min (max s.side_preds 1) (length (usable_predictors s.allow_wp s.allowed_preds)))
-      (written : out' ≡ written_over (sorted_predictors costs s.allow_wp s.allowed_preds) out) where
-    abbrev lent : List ℕ
-    lent = take n (written_over (sorted_predictors costs s.allow_wp s.allowed_preds) out)
+  module _ (costs : List Float) (preds : List ℕ) (own : costs ≡ node_costs hist (end - first) s.alphabet s.allow_wp s.allowed_preds logs)
+      (are : preds ≡ take (max s.side_preds 1) (sorted_predictors costs s.allow_wp s.allowed_preds)) where
+    low : (i : ℕ) → i < length preds → get_or preds i 0 < 14
+    low =
+        subst (λ (l : List ℕ). (i : ℕ) → i < length l → get_or l i 0 < 14) (sym are)
+        (sides-low costs s.allow_wp s.allowed_preds s.side_preds some-usable)
 
-    lent_is : take n out' ≡ lent
-    lent_is = ap (take n) written
+    few : length preds ≤ 14
+    few = omega (arith, ap length are, sides-few costs s.allow_wp s.allowed_preds s.side_preds some-usable)
 
-    pub lent_length : n ≡ length (take n out')
-    lent_length = sym (ap length lent_is ∙ sides-length costs s.allow_wp s.allowed_preds s.side_preds n out some-usable count)
+    pub windowable : Windowable hist s.alphabet preds
+    windowable = record { room = hist_length; tokens = node.settings.alphabet.1; pred = low; few = few }
 
-    lent-low : (i : ℕ) → i < length (take n out') → get_or (take n out') i 0 < 14
-    lent-low =
-        subst (λ (l : List ℕ). (i : ℕ) → i < length l → get_or l i 0 < 14) (sym lent_is)
-        (sides-low costs s.allow_wp s.allowed_preds s.side_preds n out some-usable count)
-
-    lent-few : length (take n out') ≤ 14
-    lent-few = omega (arith, lent_length, sides-few costs s.allow_wp s.allowed_preds s.side_preds n out some-usable count)
-
-    pub windowable : {firsts offs : List ℕ} → 14 ≤ length firsts → 15 ≤ length offs → Windowable hist s.alphabet (take n out') firsts offs
-    windowable f o =
-        record {
-          room = hist_length;
-          tokens = node.settings.alphabet.1;
-          pred = lent-low;
-          few = lent-few;
-          firsts_room = omega (arith, lent-few);
-          offs_room = omega (arith, lent-few);
-        }
-
-    pub splittable : {firsts offs : List ℕ} → Windows hist s.alphabet (take n out') firsts offs
-        → Splittable props tok first end s (take n out') firsts offs hist logs counts
-    splittable w =
+    pub splittable : {lanes : List Lane} {stride : ℕ} → preds_of lanes ≡ preds → Windows hist s.alphabet lanes stride
+        → Splittable props tok first end s lanes stride hist logs counts
+    splittable {lanes} e w =
+        let long : length lanes ≡ length preds = sym (length-map lanes (λ (l : Lane). l.pred)) ∙ ap length e in
         record {
           node = node;
           counted = counted;
-          below = lent-low;
-          some = omega (arith, lent_length, sides-some costs s.allow_wp s.allowed_preds s.side_preds n out some-usable count);
-          few = lent-few;
-          sides = omega (arith, lent_length, sides-wanted costs s.allow_wp s.allowed_preds s.side_preds n out some-usable count);
+          below = λ j m. rw (sym (pred_at w j) ∙ ap (λ (l : List ℕ). get_or l j 0) e) (low j (omega arith));
+          some = omega (arith, ap length are, sides-some costs s.allow_wp s.allowed_preds s.side_preds some-usable);
+          few = omega (arith, few);
+          sides = omega (arith, ap length are, sides-wanted costs s.allow_wp s.allowed_preds s.side_preds some-usable);
           windows = w;
         }
 
     -- the node's cheapest usable predictors
-    pub preds_are : (rows : ℕ) (rs : List ℤ) → end ≤ rows → take n out' ≡ side_predictors (settings_of s) logs (span_rows first end props tok rows rs)
+    pub preds_are : (rows : ℕ) (rs : List ℤ) → end ≤ rows → preds ≡ side_predictors (settings_of s) logs (span_rows first end props tok rows rs)
     preds_are rows rs h =
         let mine = span_rows first end props tok rows rs in
         let w = s.allow_wp in
@@ -137,7 +120,4 @@ module _ {props : List ℤ} {tok : List ℕ} {first end : ℕ} {s : Settings} {l
         let same : costs ≡ node_costs (histograms s.alphabet mine) (length mine) s.alphabet w allowed logs =
         own ∙ ap (λ (l : List ℕ). node_costs l (end - first) s.alphabet w allowed logs) (counted rows props rs h)
         ∙ ap (λ (i : ℕ). node_costs (histograms s.alphabet mine) i s.alphabet w allowed logs) (sym (span-length props tok first end rows rs h)) in
-        lent_is ∙ ap (λ (c : List Float). take n (written_over (sorted_predictors c w allowed) out)) same
-        ∙ ap (λ (i : ℕ). take i (written_over (sorted_predictors (node_costs (histograms s.alphabet mine) (length mine)
-        s.alphabet w allowed logs) w allowed) out)) count
-        ∙ sides-is (settings_of s) logs mine out
+        are ∙ ap (λ (c : List Float). take (max s.side_preds 1) (sorted_predictors c w allowed)) same ∙ sides-is (settings_of s) logs mine

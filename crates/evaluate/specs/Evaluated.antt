@@ -1,5 +1,5 @@
 -- What evaluating a node asks for and answers (document 01, "A node"). Assumes nothing.
-use Rattle.std.specs.Prelude.{◌≡◌, ℕ, ◌-◌, ◌*◌, ◌≤◌, ◌<◌, max, Bool, false, cond, ◌&&◌, List, length, get_or, replicate, ℤ, pos, eqb, leb, ltb, Float}
+use Rattle.std.specs.Prelude.{◌≡◌, ℕ, ◌-◌, ◌*◌, ◌≤◌, ◌<◌, max, Bool, false, cond, ◌&&◌, List, length, replicate, ℤ, pos, eqb, leb, ltb, Float}
 use Rattle.std.proofs.Math.Option.{none}
 use Rattle.model.specs.Lists.{is_empty}
 use Rattle.model.specs.Single.{singles}
@@ -12,14 +12,14 @@ use Rattle.model.specs.Refuse.{counts_wanted}
 use Rattle.model.specs.Accepting.{InRange}
 use Rattle.refuse.specs.declared.Settings.{Settings}
 use Rattle.refuse.specs.Given.{settings_of}
-use Rattle.cost.specs.declared.Allowed.{Allowed}
 use Rattle.cost.specs.declared.Cheapest.{Cheapest}
 use Rattle.cost.specs.Counted.{LogsReach}
 use Rattle.cost.specs.Histograms.{SpanFits, CountsSpan, span_of}
 use Rattle.layout.specs.declared.Leaf.{Leaf}
 use Rattle.layout.specs.declared.NodeInfo.{NodeInfo}
 use Rattle.layout.specs.Values.{info_is, offer_is}
-use Rattle.score_windows.specs.Windows.{Windows}
+use Rattle.score_windows.specs.declared.Lane.{Lane}
+use Rattle.score_windows.specs.Windows.{lane_of, Windows}
 
 -- the settings passed their checks, the span's rows are there, their tokens lie below the alphabet, the logarithms reach, and the count space is wide enough and zero
 pub record Evaluable (ps : List ℤ) (tok : List ℕ) (first end : ℕ) (s : Settings) (ls : List Float) (counts : List ℕ) : Type 0 where
@@ -41,15 +41,15 @@ pub record Evaluated (r : Leaf) (scored : Bool) (t : model.Settings singles) (lo
   pub offer : offer_is r.offer ≡ cond scored (offered t logs depth (info_of t logs mode mine).cost mine) none
 
 -- a node that was counted, and whose side predictors have their windows
-pub record Splittable (props : List ℤ) (tok : List ℕ) (first end : ℕ) (s : Settings) (preds firsts offs hist : List ℕ) (logs : List Float)
+pub record Splittable (props : List ℤ) (tok : List ℕ) (first end : ℕ) (s : Settings) (lanes : List Lane) (stride : ℕ) (hist : List ℕ) (logs : List Float)
     (counts : List ℕ) : Type 0 where
   pub node : Evaluable props tok first end s logs counts
   pub counted : CountsSpan tok first end hist s.alphabet
-  pub below : (i : ℕ) → i < length preds → get_or preds i 0 < model.toks_per_row
-  pub some : 1 ≤ length preds
-  pub few : length preds ≤ model.toks_per_row
-  pub sides : length preds ≤ max s.side_preds 1
-  pub windows : Windows hist s.alphabet preds firsts offs
+  pub below : (j : ℕ) → j < length lanes → (lane_of lanes j).pred < model.toks_per_row
+  pub some : 1 ≤ length lanes
+  pub few : length lanes ≤ model.toks_per_row
+  pub sides : length lanes ≤ max s.side_preds 1
+  pub windows : Windows hist s.alphabet lanes stride
 
 -- "Scored if rows ≥ smallest node, depth < 26, cost > split cost": the model's `is_scored`, by the number of rows
 abbrev pub scored_at : model.Settings singles → ℕ → Float → ℕ → Bool
@@ -58,7 +58,3 @@ scored_at t depth cost rows = (leb t.smallest rows && ltb depth model.max_depth)
 -- a node's cost, predictor and offset: "offset = mode if predictor 0 wins, else 0"
 abbrev pub info_with : Cheapest → ℤ → NodeInfo
 info_with best mode = record { cost = best.bits; pred = best.pred; offset = cond (eqb best.pred 0) mode (pos 0) }
-
--- the predictors that the settings allow a leaf
-abbrev pub allowed_in : Settings → Allowed
-allowed_in s = record { weighted = s.allow_wp; preds = s.allowed_preds }

@@ -2,26 +2,31 @@
 // (document 01, "A node"; the Rust's `evaluate_rows_typed`).
 #![tactic(auto)]
 
-ghost use Rattle.std.specs.Prelude.{◌≡◌, List, ℕ, ◌-◌, ◌*◌, ◌≤◌, ◌<◌, length, ℤ};
+ghost use Rattle.std.specs.Prelude.{◌≡◌, List, ℕ, ◌-◌, ◌*◌, ◌≤◌, ◌<◌, length, take, ℤ, false, [], IfSome, IfNone};
+ghost use Rattle.model.specs.Candidates.{candidates_of};
+ghost use Rattle.candidates.specs.Column.{column};
+ghost use Rattle.candidates.specs.Plan.{Pickable};
 ghost use Rattle.model.specs.Settings.{props_per_row};
+ghost use Rattle.model.specs.Lists.{is_empty};
 ghost use Rattle.model.specs.Evaluate.{property_order, twin, nowhere, better, best_from, best_split, offer_of};
 ghost use Rattle.refuse.specs.Given.{settings_of};
 ghost use Rattle.cost.specs.Histograms.{CountsSpan};
 ghost use Rattle.cost.specs.Predictors.{node_costs};
 ghost use Rattle.layout.specs.Values.{offer_is};
+ghost use Rattle.score_windows.specs.Windows.{preds_of};
 ghost use Rattle.score.specs.Scored.{score_is};
 ghost use Rattle.evaluate.specs.Order.{order_count, twin_is, equal_columns, repeats_in};
 ghost use Rattle.evaluate.specs.Best.{best_is};
 ghost use Rattle.evaluate.specs.Evaluated.{Evaluable, Evaluated, Splittable, span_rows, scored_at, info_with};
-ghost use Rattle.evaluate.specs.Evaluated.{allowed_in};
 
+use arrayvec::ArrayVec;
 use candidates::Probe;
-use cost::{Allowed, Cheapest, NodeCounts};
+use cost::{Cheapest, NodeCounts};
 use layout::{Leaf, NodeInfo, Offer, Span};
 use refuse::{Job, Settings};
 use rows::Rows;
 use score::Threshold;
-use score_bins::SpanRows;
+use score_bins::{SpanRows, SplitPlan};
 use score_windows::SideWindows;
 
 // The properties in the order in which they are scored.
@@ -35,16 +40,6 @@ struct Split {
     prop: u32,
     val: i32,
     bits: f32,
-}
-
-// The predictors that the settings allow a leaf.
-fn allowed_by(s: Settings) -> Allowed
-    ensures { result ≡ allowed_in s }
-{
-    Allowed {
-        weighted: s.allow_wp,
-        preds: u32::from(s.allowed_preds),
-    }
 }
 
 // How many properties are scored: 15, the last, only with the weighted predictor.
@@ -70,29 +65,33 @@ fn twin_of(prop: usize) -> Option<usize>
 }
 
 // Whether two properties are equal in each row of the span.
-fn columns_equal(props: &[i32], first: usize, end: usize, a: usize, b: usize) -> bool
-    requires { (first ≤ end) × (end * props_per_row ≤ length props.now) × (a < props_per_row) × (b < props_per_row) }
-    ensures { result ≡ equal_columns props.now first end a b }
+fn columns_equal(span: SpanRows, a: usize, b: usize) -> bool
+    requires { (span.first ≤ span.end) × (span.end * props_per_row ≤ length span.props.now)
+        × (a < props_per_row) × (b < props_per_row) }
+    ensures { result ≡ equal_columns span.entry.props.now span.entry.first span.entry.end a b }
 {
-    props[first * model::NUM_MA_PROPS..end * model::NUM_MA_PROPS]
+    span.props[span.first * model::NUM_MA_PROPS..span.end * model::NUM_MA_PROPS]
         .chunks_exact(model::NUM_MA_PROPS)
         .all(|row| row[a] == row[b])
 }
 
 // Whether a property repeats its twin, which was planned. Its candidates and costs would be the twin's, and the earlier
 // property wins ties.
-fn is_repeated(props: &[i32], first: usize, end: usize, prop: usize, planned: &[bool]) -> bool
-    requires { (first ≤ end) × (end * props_per_row ≤ length props.now) × (prop < props_per_row)
-        × (length planned.now ≡ props_per_row) }
-    ensures { result ≡ repeats_in planned.now props.now first end prop (twin prop) }
+fn is_repeated(span: SpanRows, prop: usize, planned: &[bool]) -> bool
+    requires { (span.first ≤ span.end) × (span.end * props_per_row ≤ length span.props.now)
+        × (prop < props_per_row) × (length planned.now ≡ props_per_row) }
+    ensures { result ≡ repeats_in planned.now span.entry.props.now span.entry.first span.entry.end
+        prop (twin prop) }
 {
     let Some(twin) = twin_of(prop) else {
         return false;
     };
-    planned[twin] && columns_equal(props, first, end, twin, prop)
+    planned[twin] && columns_equal(span, twin, prop)
 }
 
 // The next score if it is lower than the best so far.
+// Stays: `score::lower_score` compares two of one type; here the next has no property yet, and gets one only if it
+// wins.
 fn better_of(best: Option<Split>, prop: u32, score: Option<Threshold>) -> Option<Split>
     ensures { best_is result ≡ better (best_is best) prop (score_is score) }
 {
@@ -105,54 +104,75 @@ fn better_of(best: Option<Split>, prop: u32, score: Option<Threshold>) -> Option
     }
 }
 
+// The candidates of a property over the span's rows. The flags at the front of the count space are as before.
+fn candidates_in(
+    span: SpanRows,
+    prop: usize,
+    counts: &mut [u32],
+    most: usize,
+) -> ArrayVec<i32, { candidates::MAX_CANDIDATES }>
+    requires { Pickable span.props.now prop span.first span.end (take 4096 counts.old) }
+    ensures answer { result.items ≡ candidates_of most
+        (column span.entry.props.now prop span.entry.first span.entry.end) }
+    ensures zeros { counts.new ≡ counts.old }
+{
+    let probe = Probe {
+        props: span.props,
+        first: span.first,
+        end: span.end,
+        prop,
+    };
+    let flags = &mut counts[..distinct::PROBE_FLAGS];
+    candidates::pick_candidates(probe, flags, most)
+}
+
+// The plan of a property: its candidates, if it has any.
+fn plan_of(prop: usize, cands: &[i32]) -> Option<SplitPlan>
+    ensures some { IfSome result (λ plan. (plan.prop ≡ prop) × (plan.cands.now ≡ cands.now)
+        × (is_empty cands.now ≡ false)) }
+    ensures none { IfNone result (cands.now ≡ []) }
+{
+    if cands.is_empty() {
+        return None;
+    }
+    Some(SplitPlan { prop, cands })
+}
+
 // The first of the lowest scores over the properties. A property that repeats another or yields no candidate is passed
 // over at once.
 fn best_split(
     span: SpanRows,
     sides: SideWindows,
-    hist: &[u32],
+    node: NodeCounts,
     counts: &mut [u32],
     job: Job,
 ) -> Option<Split>
-    requires { Splittable span.props.now span.tok.now span.first span.end job.settings
-        sides.preds.now sides.firsts.now sides.offs.now hist.now job.logs.now counts.old }
+    requires alphabet { node.alphabet ≡ job.settings.alphabet }
+    requires splittable { Splittable span.props.now span.tok.now span.first span.end job.settings
+        sides.lanes.now sides.stride node.hist.now job.logs.now counts.old }
     ensures answer { (rows : ℕ) (rs : List ℤ) → span.entry.end ≤ rows
-        → best_is result ≡ best_from (settings_of job.entry.settings) job.entry.logs.now sides.entry.preds.now
+        → best_is result ≡ best_from (settings_of job.entry.settings) job.entry.logs.now
+        (preds_of sides.entry.lanes.now)
         (span_rows span.entry.first span.entry.end span.entry.props.now span.entry.tok.now rows rs)
         nowhere (property_order job.entry.settings.allow_wp) }
     ensures zeros { counts.new ≡ counts.old }
 {
     let s = job.settings;
-    let alphabet = s.alphabet as usize;
     let most = s.max_candidates as usize;
-    let node = NodeCounts {
-        hist,
-        total: (span.end - span.first) as u32,
-        alphabet,
-    };
-    let room = distinct::PROBE_FLAGS + model::NUM_MA_PREDS * alphabet;
+    let room = distinct::PROBE_FLAGS + model::NUM_MA_PREDS * node.alphabet;
     let mut planned = [false; model::NUM_MA_PROPS];
-    let mut cands = [0i32; 32];
     let mut best = None;
-    for prop in &PROPERTY_ORDER[..property_count(s.allow_wp)] {
-        let prop = *prop;
-        if is_repeated(span.props, span.first, span.end, prop, &planned) {
+    for &prop in &PROPERTY_ORDER[..property_count(s.allow_wp)] {
+        if is_repeated(span, prop, &planned) {
             continue;
         }
-        let probe = Probe {
-            props: span.props,
-            first: span.first,
-            end: span.end,
-            prop,
-        };
-        let flags = &mut counts[..distinct::PROBE_FLAGS];
-        let plan = candidates::pick_candidates(probe, flags, &mut cands, most);
-        let Some(n) = plan else {
+        let cands = candidates_in(span, prop, counts, most);
+        let Some(plan) = plan_of(prop, &cands) else {
             continue;
         };
         planned[prop] = true;
         let rest = &mut counts[room..];
-        let score = score::score_property(span, prop, &cands[..n], sides, node, job.logs, rest);
+        let score = score::score_property(span, plan, sides, node, job.logs, rest);
         best = better_of(best, prop as u32, score);
     }
     best
@@ -178,17 +198,18 @@ fn offer_of(best: Option<Split>, cost: f32, s: Settings) -> Option<Offer>
 // predictors.
 fn offer_split(
     span: SpanRows,
-    hist: &[u32],
+    node: NodeCounts,
     costs: &[f32],
     counts: &mut [u32],
     job: Job,
     cost: f32,
 ) -> Option<Offer>
+    requires alphabet { node.alphabet ≡ job.settings.alphabet }
     requires evaluable { Evaluable span.props.now span.tok.now span.first span.end
         job.settings job.logs.now counts.old }
-    requires counts_span { CountsSpan span.tok.now span.first span.end hist.now job.settings.alphabet }
-    requires costs_value { costs.now ≡ node_costs hist.now (span.end - span.first) job.settings.alphabet
-        job.settings.allow_wp job.settings.allowed_preds job.logs.now }
+    requires counts_span { CountsSpan span.tok.now span.first span.end node.hist.now job.settings.alphabet }
+    requires costs_value { costs.now ≡ node_costs node.hist.now (span.end - span.first)
+        job.settings.alphabet job.settings.allow_wp job.settings.allowed_preds job.logs.now }
     ensures answer { (rows : ℕ) (rs : List ℤ) → span.entry.end ≤ rows
         → offer_is result ≡ offer_of (settings_of job.entry.settings) cost
         (best_split (settings_of job.entry.settings) job.entry.logs.now
@@ -196,18 +217,13 @@ fn offer_split(
     ensures zeros { counts.new ≡ counts.old }
 {
     let s = job.settings;
-    let alphabet = s.alphabet as usize;
-    let mut preds = [0u32; model::NUM_MA_PREDS];
-    let mut firsts = [0u32; model::NUM_MA_PREDS];
-    let mut offs = [0u32; model::NUM_MA_PREDS + 1];
-    let sides = cost::cheapest_predictors(costs, allowed_by(s), s.side_preds as usize, &mut preds);
-    score_windows::set_windows(hist, &preds[..sides], &mut firsts, &mut offs, alphabet);
+    let preds = cost::cheapest_predictors(costs, s.allowed(), s.side_preds as usize);
+    let (lanes, stride) = score_windows::set_windows(node.hist, &preds, node.alphabet);
     let windows = SideWindows {
-        preds: &preds[..sides],
-        firsts: &firsts,
-        offs: &offs,
+        lanes: &lanes,
+        stride,
     };
-    let best = best_split(span, windows, hist, counts, job);
+    let best = best_split(span, windows, node, counts, job);
     offer_of(best, cost, s)
 }
 
@@ -232,8 +248,10 @@ fn info_of(best: Cheapest, mode: i32) -> NodeInfo
 }
 
 // A node from its counts: what stands beside it, and the split that it offers if it is to be scored.
-// Stays: rows, counts, job and span are structs by now; depth, mode and whether a split may follow are one number
-// each.
+// Stays: of depth, mode and whether a split may follow each comes from elsewhere (the caller's queue, the step on the
+// span, how large the tree is), so a struct of the three would be made for this call and taken apart in it. Nor is it
+// an Option of the depth: whether a split may follow is one fact of the growth, and the depth one of each leaf, which
+// the queue keeps too, so that the Option would be made and opened again at each call.
 pub fn evaluate_counts(
     span: SpanRows,
     hist: &[u32],
@@ -259,18 +277,17 @@ pub fn evaluate_counts(
         total: rows as u32,
         alphabet: s.alphabet as usize,
     };
-    let best = cost::predictor_costs(node, allowed_by(s), &mut costs, job.logs);
+    let best = cost::predictor_costs(node, s.allowed(), &mut costs, job.logs);
     let info = info_of(best, mode);
     if score_split & is_scored(rows, depth, best.bits, s) {
-        let offer = offer_split(span, hist, &costs, counts, job, best.bits);
+        let offer = offer_split(span, node, &costs, counts, job, best.bits);
         return Leaf { info, offer };
     }
     Leaf { info, offer: None }
 }
 
 // Counts the span's rows, and evaluates the node. The count space is as before.
-// Stays: rows, counts, job and span are structs by now; depth, mode and whether a split may follow are one number
-// each.
+// Stays: as `evaluate_counts`.
 pub fn evaluate_rows(
     rows: &Rows,
     counts: &mut [u32],

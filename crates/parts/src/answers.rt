@@ -3,29 +3,10 @@ ghost use Rattle.std.specs.Prelude.{◌≡◌};
 ghost use Rattle.score.specs.Scored.{score_is};
 ghost use Rattle.parts.specs.Answers.{score_out};
 
-use layout::Tree;
 use score::Threshold;
 
-// How many nodes pruning leaves, and their estimated bits.
-#[repr(C)]
-#[derive(Clone, Copy)]
-pub struct PrunedTree {
-    pub nodes: usize,
-    pub bits: f64,
-}
-
-impl From<Tree> for PrunedTree {
-    ghost from_gives = { λ r it. (it.nodes ≡ r.nodes) × (it.bits ≡ r.bits) };
-
-    fn from(r: Tree) -> PrunedTree {
-        PrunedTree {
-            nodes: r.nodes,
-            bits: r.bits,
-        }
-    }
-}
-
 // The best threshold of a property and its cost; found is 0 where there is none.
+// Stays: a number beside the threshold, since an Option does not cross over to C.
 #[repr(C)]
 #[derive(Clone, Copy)]
 pub struct Scored {

@@ -2,7 +2,7 @@
 // `requires` says is the caller's to see to, since C proves nothing. The public operations are in `ma_tree`.
 #![tactic(auto)]
 
-ghost use Rattle.std.specs.Prelude.{◌≡◌, List, length, replicate, ℕ, ◌*◌, ◌≤◌, ℤ};
+ghost use Rattle.std.specs.Prelude.{◌≡◌, List, length, take, replicate, ℕ, ◌*◌, ◌≤◌, ℤ};
 ghost use Rattle.model.specs.Single.{singles};
 ghost use Rattle.model.specs.Lists.{written_over};
 ghost use Rattle.model.specs.Candidates.{candidates_of};
@@ -23,40 +23,39 @@ ghost use Rattle.model.specs.Settings.{toks_per_row};
 ghost use Rattle.model.specs.Score.{score_of};
 ghost use Rattle.model.specs.Rows.{rows_of, within};
 ghost use Rattle.cost.specs.Histograms.{SpanFits, CountsSpan, span_of};
-ghost use Rattle.score_windows.specs.Windows.{Windowable, Windows};
+ghost use Rattle.score_windows.specs.Windows.{preds_of, Windowable, Windows};
 ghost use Rattle.score.specs.Scored.{Scorable, Spare};
 ghost use Rattle.parts.specs.Answers.{score_out};
 
 pub mod answers;
 
-use answers::{PrunedTree, Scored};
+use answers::Scored;
 use candidates::Probe;
 use cost::NodeCounts;
-use layout::{MaNode, Nodes, Span};
+use layout::{MaNode, Nodes, Span, Tree};
 use rows::Rows;
-use score_bins::SpanRows;
-use score_windows::SideWindows;
+use score_bins::{SpanRows, SplitPlan};
+use score_windows::{Lane, SideWindows};
 
 // The tree of the first `count` entries, pruned at a price.
-// Stays: the C interface lends its lists one by one.
+// Stays: an export takes its lists one by one, since a struct of slices does not cross over to C.
 #[unsafe(no_mangle)]
 pub extern "C" fn ostrovuc_prune(
     nodes: &mut [MaNode],
     spans: &mut [Span],
     count: usize,
     price: f32,
-) -> PrunedTree
+) -> Tree
     requires { Prunable (node_lists nodes.old spans.old) count price }
     ensures { (tree : List (Entry singles)) (lent : NodeLists)
         → HoldsTree (node_lists nodes.old spans.old) count price tree lent
-        → PrunedAs price tree lent (node_lists nodes.new spans.new)
-        (record { nodes = result.nodes; bits = result.bits }) }
+        → PrunedAs price tree lent (node_lists nodes.new spans.new) result }
 {
-    PrunedTree::from(prune::prune_tree(&mut Nodes { nodes, spans }, count, price))
+    prune::prune_tree(&mut Nodes { nodes, spans }, count, price)
 }
 
 // Where the rows begin whose property is not above the threshold.
-// Stays: the C interface lends its lists one by one.
+// Stays: an export takes its lists one by one, since a struct of slices does not cross over to C.
 #[unsafe(no_mangle)]
 pub extern "C" fn ostrovuc_partition(
     props: &mut [i32],
@@ -95,7 +94,7 @@ pub extern "C" fn ostrovuc_mode_step(
 }
 
 // How many candidates stand at the front of `cands` then. The first 4,096 flags are 0, before and after.
-// Stays: the C interface lends its lists one by one.
+// Stays: an export takes its lists one by one, since a struct of slices does not cross over to C.
 #[unsafe(no_mangle)]
 pub extern "C" fn ostrovuc_pick_candidates(
     props: &[i32],
@@ -106,7 +105,7 @@ pub extern "C" fn ostrovuc_pick_candidates(
     flags: &mut [u32],
     cands: &mut [i32],
 ) -> usize
-    requires { Pickable props.now prop first end flags.old cands.old }
+    requires { Pickable props.now prop first end flags.old × (32 ≤ length cands.old) }
     ensures answer { result ≡ length (candidates_of max_candidates (column props.now prop first end)) }
     ensures candidates { cands.new ≡ written_over
         (candidates_of max_candidates (column props.now prop first end)) cands.old }
@@ -118,7 +117,9 @@ pub extern "C" fn ostrovuc_pick_candidates(
         end,
         prop,
     };
-    candidates::pick_candidates(probe, flags, cands, max_candidates).unwrap_or(0)
+    let picked = candidates::pick_candidates(probe, flags, max_candidates);
+    cands[..picked.len()].copy_from_slice(&picked);
+    picked.len()
 }
 
 // Counts each predictor's tokens in the rows from first to end; the counts are 0 before.
@@ -147,47 +148,48 @@ pub extern "C" fn ostrovuc_hist_entropy_bits(hist: &[u32], total: u32, logs: &[f
     cost::hist_entropy_bits(hist, total, logs)
 }
 
-// The windows of the side predictors in a node's histograms.
+// The windows of the side predictors in a node's histograms, a lane for each; the length of a bin.
 #[unsafe(no_mangle)]
 pub extern "C" fn ostrovuc_set_windows(
     node: &[u32],
     preds: &[u32],
-    firsts: &mut [u32],
-    offs: &mut [u32],
+    lanes: &mut [Lane],
     alphabet: usize,
-)
-    requires { Windowable node.now alphabet preds.now firsts.old offs.old }
-    ensures { Windows node.now alphabet
-        preds.now firsts.new offs.new }
+) -> usize
+    requires windowable { Windowable node.now alphabet preds.now }
+    requires room { length preds.now ≤ length lanes.old }
+    ensures windows { Windows node.now alphabet (take (length preds.now) lanes.new) result }
+    ensures preds { preds_of (take (length preds.now) lanes.new) ≡ preds.now }
 {
-    score_windows::set_windows(node, preds, firsts, offs, alphabet)
+    let (packed, stride) = score_windows::set_windows(node, preds, alphabet);
+    lanes[..packed.len()].copy_from_slice(&packed);
+    stride
 }
 
 // The best of the candidates of a property over the rows from first to end.
-// Stays: the C interface lends its lists one by one.
+// Stays: an export takes its lists one by one, since a struct of slices does not cross over to C.
 #[unsafe(no_mangle)]
 pub extern "C" fn ostrovuc_score_property(
     props: &[i32],
     tok: &[u8],
     cands: &[i32],
-    preds: &[u32],
-    firsts: &[u32],
-    offs: &[u32],
+    lanes: &[Lane],
     node: &[u32],
     logs: &[f32],
     room: &mut [u32],
     first: usize,
     end: usize,
     prop: usize,
+    stride: usize,
     alphabet: usize,
 ) -> Scored
     requires scorable { Scorable props.now tok.now first end prop
-        cands.now preds.now alphabet node.now logs.now }
-    requires windows { Windows node.now alphabet preds.now firsts.now offs.now }
-    requires spare { Spare (length preds.now) alphabet (length cands.now) room.old }
+        cands.now lanes.now alphabet node.now logs.now }
+    requires windows { Windows node.now alphabet lanes.now stride }
+    requires spare { Spare (length lanes.now) alphabet (length cands.now) room.old }
     ensures answer { (t : model.Settings singles) (rows : ℕ) (rs : List ℤ)
         → t.alphabet ≡ alphabet → end ≤ rows
-        → score_out result ≡ score_of t logs.now preds.now prop
+        → score_out result ≡ score_of t logs.now (preds_of lanes.now) prop
         (within (span_of first end) (rows_of rows props.now tok.now rs)) cands.now }
     ensures zeros { room.new ≡ room.old }
 {
@@ -197,15 +199,12 @@ pub extern "C" fn ostrovuc_score_property(
         first,
         end,
     };
-    let windows = SideWindows {
-        preds,
-        firsts,
-        offs,
-    };
+    let plan = SplitPlan { prop, cands };
+    let windows = SideWindows { lanes, stride };
     let counts = NodeCounts {
         hist: node,
         total: (end - first) as u32,
         alphabet,
     };
-    Scored::from(score::score_property(span, prop, cands, windows, counts, logs, room))
+    Scored::from(score::score_property(span, plan, windows, counts, logs, room))
 }

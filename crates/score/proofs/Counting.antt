@@ -3,16 +3,15 @@ use mathlib.Core.Path.{◌≡◌, refl, sym, ap, ◌∙◌}
 use mathlib.Core.Bool.{Bool, true, false, cond, not}
 use mathlib.Core.List.{List, [], ◌∷◌, ◌++◌}
 use Prim.Native.Nat.{ℕ, zero, suc, ◌+◌, ◌≤◌, ◌<◌}
-use native.Mathlib.Numerals.{add-one}
 use native.Mathlib.Omega.{arith}
 use native.Mathlib.Decide.{ℕ_discrete}
 use borrow.Author.Tests.{eq-eqb, ne_eqb}
-use lib.ListN.{length, get_or, take, drop, take-append-drop, drop_of_length-le}
-use lib.Seq.{drop-cons}
+use lib.ListN.{length, get_or, take, drop, take-append-drop}
 use Rattle.model.specs.Lists.{range, count_if, keep}
 use Rattle.model.specs.Rows.{Row, tok_of}
 use Rattle.model.specs.Cost.{has_token, histogram}
 use Rattle.model.proofs.Histogram.{sum_of, hits, sum_map_add, sum_map_zero, hits-before}
+use Rattle.std.specs.List.{fold, sum}
 use Rattle.cost.specs.Counted.{rows_in}
 use Rattle.cost.proofs.Sums.{rows_are}
 
@@ -68,16 +67,14 @@ unfolding rows_in
 rows_in-none [] z = refl
 rows_in-none (c ∷ cs) z = omega (arith, z 0 (omega arith), rows_in-none cs (λ t l. z (suc t) (omega arith)))
 
--- turns and end of the sweep that adds them up
-pub rows-turn : (counts : List ℕ) (t rows : ℕ) → t < length counts → rows + rows_in (drop t counts) ≡ rows_in counts → rows + get_or counts t 0 + rows_in (drop (t + 1) counts) ≡ rows_in counts
+-- as the library sums them
+sum-more : (n : ℕ) (xs : List ℕ) → fold ◌+◌ n xs ≡ n + rows_in xs
 unfolding rows_in
-rows-turn counts t rows h inv =
-    let step : rows_in (drop t counts) ≡ get_or counts t 0 + rows_in (drop (suc t) counts) = ap rows_in (drop-cons counts t 0 h) in
-    rw add-one (omega arith)
+sum-more n [] = omega arith
+sum-more n (x ∷ xs) = omega (arith, sum-more (n + x) xs)
 
-pub rows_end : (counts : List ℕ) (t rows : ℕ) → length counts ≤ t → rows + rows_in (drop t counts) ≡ rows_in counts → rows ≡ rows_in counts
-unfolding rows_in
-rows_end counts t rows h inv = let none : rows_in (drop t counts) ≡ 0 = ap rows_in (drop_of_length-le counts {i = t} h) in omega arith
+pub sum-is : (xs : List ℕ) → sum xs ≡ rows_in xs
+sum-is xs = omega (arith, sum-more 0 xs)
 
 -- a number is found once in a range that it lies in
 hits-one : (v first n : ℕ) → first ≤ v → v < first + n → hits v (range first n) ≡ 1

@@ -3,7 +3,7 @@
 use mathlib.Core.Path.{◌≡◌, refl, sym, ap, ◌∙◌}
 use mathlib.Core.Bool.{Bool, not}
 use mathlib.Core.List.{List, [], ◌∷◌, ◌++◌}
-use Prim.Native.Nat.{ℕ, zero, suc, ◌+◌, ◌-◌, ◌*◌, ◌≤◌, ◌<◌}
+use Prim.Native.Nat.{ℕ, zero, suc, ◌+◌, ◌-◌, ◌≤◌, ◌<◌}
 use native.Mathlib.Numerals.{add-one}
 use native.Mathlib.Decide.{dec_lt}
 use native.Mathlib.Omega.{arith}
@@ -24,9 +24,10 @@ use Rattle.cost.proofs.Sums.{entropy_zeros}
 use Rattle.cost.proofs.Histograms.{histogram-length, histogram-rows}
 use Rattle.score_sides.specs.declared.Sides.{Sides}
 use Rattle.score_sides.specs.Sides.{rest, costs_of, lower_cost, SideCounted}
-use Rattle.score_sides.specs.Lowest.{run, lane_at, lowest_to}
+use Rattle.score_windows.specs.declared.Lane.{Lane}
+use Rattle.score_sides.specs.Lowest.{run, costs_at, lowest_to}
 use Rattle.score_sides.proofs.Sweeps.{rest-length, rest_at}
-use Rattle.score.specs.Scored.{scored_sides, size_at, scored_at, scored_to}
+use Rattle.score.specs.Scored.{scored_sides, size_at, scored_bin, scored_to}
 use Rattle.score.proofs.Packing.{histogram-at}
 use Rattle.score.proofs.Counting.{count-sides, rows_in-parts, rows_in-none}
 
@@ -263,7 +264,7 @@ module _ (alphabet p first width : ℕ) (rows : List Row) (above : Row → Bool)
 
   pub window_costs : (t : Settings singles) (logs : List Float) → t.alphabet ≡ alphabet
       → costs_of (run (histogram alphabet p (keep (λ (r : Row). not (above r)) rows)) first width) (run (histogram alphabet p rows) first width) first
-      (log_of singles logs (length (keep (λ (r : Row). not (above r)) rows))) (log_of singles logs (length (keep above rows))) logs
+      (record { le = log_of singles logs (length (keep (λ (r : Row). not (above r)) rows)); gt = log_of singles logs (length (keep above rows)) }) logs
       ≡ record { le = cost_of t logs (keep (λ (r : Row). not (above r)) rows) p; gt = cost_of t logs (keep above rows) p }
   unfolding costs_of cost_of
   window_costs t logs e =
@@ -284,29 +285,26 @@ module _ (alphabet p first width : ℕ) (rows : List Row) (above : Row → Bool)
         | no l ↦ omega (arith, get_or-eq_default (run le first width) 0 {n = t} (omega (arith, run_length le first width inside-le.fits)))
       ]
 
--- ---- candidate k, by how many rows its bin counts
+-- ---- a candidate, by how many rows its bin counts
 
-module _ (cells node : List ℕ) (alphabet : ℕ) (preds firsts offs : List ℕ) (stride total : ℕ) (cands : List ℤ) (logs : List Float) (k size : ℕ) (is : size ≡ size_at cells offs (k * stride)) where
-  pub at_no_le : size ≡ 0 → nothing ≡ scored_at cells node alphabet preds firsts offs stride total cands logs k
-  unfolding scored_at
+module _ (bin node : List ℕ) (alphabet : ℕ) (lanes : List Lane) (total : ℕ) (logs : List Float) (val : ℤ) (size : ℕ) (is : size ≡ size_at bin lanes) where
+  pub at_no_le : size ≡ 0 → nothing ≡ scored_bin bin node alphabet lanes total logs val
+  unfolding scored_bin
   at_no_le e = sym (scored_no_le _ _ _ _ (sym is ∙ e))
 
-  pub at_no_gt : (size ≡ 0 → ⊥) → size ≡ total → nothing ≡ scored_at cells node alphabet preds firsts offs stride total cands logs k
-  unfolding scored_at
+  pub at_no_gt : (size ≡ 0 → ⊥) → size ≡ total → nothing ≡ scored_bin bin node alphabet lanes total logs val
+  unfolding scored_bin
   at_no_gt z e = sym (scored_no_gt _ _ _ _ (λ s. z (is ∙ s)) (sym is ∙ e))
 
   pub at_both : (size ≡ 0 → ⊥) → (size ≡ total → ⊥) → size ≤ total → total < length logs → (sides : Sides)
-      → sides ≡ lowest_to (lane_at cells node alphabet preds firsts offs (k * stride) (get_or logs size nan) (get_or logs (total - size) nan) logs) (length preds)
-      → threshold (get_or cands k (pos 0)) (singles.plus sides.le sides.gt) ≡ scored_at cells node alphabet preds firsts offs stride total cands logs k
-  unfolding scored_at log_of
+      → sides ≡ lowest_to (costs_at bin node alphabet lanes (record { le = get_or logs size nan; gt = get_or logs (total - size) nan }) logs) (length lanes)
+      → threshold val (singles.plus sides.le sides.gt) ≡ scored_bin bin node alphabet lanes total logs val
+  unfolding scored_bin log_of
   at_both z f low reach sides e =
-      let val = get_or cands k (pos 0) in
-      let lowest : Float → Float → Sides = λ a b. lowest_to (lane_at cells node alphabet preds firsts offs (k * stride) a b logs) (length preds) in
+      let lowest : Float → Float → Sides = λ a b. lowest_to (costs_at bin node alphabet lanes (record { le = a; gt = b }) logs) (length lanes) in
       let le = get_d_any logs size nan singles.nought (omega arith) in
       let gt = get_d_any logs (total - size) nan singles.nought (omega arith) in
       ap (λ (b : Sides). threshold val (singles.plus b.le b.gt))
       (e ∙ ap (λ (a : Float). lowest a (get_or logs (total - size) nan)) le ∙ ap (lowest (get_or logs size singles.nought)) gt)
       ∙ sym (scored-both size total val (lowest (get_or logs size singles.nought) (get_or logs (total - size) singles.nought)) z f)
       ∙ ap (λ (n : ℕ). scored_sides n total val (lowest (get_or logs n singles.nought) (get_or logs (total - n) singles.nought))) is
-
--- ---- for the loop that sets the node's extra bits

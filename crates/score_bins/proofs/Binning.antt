@@ -24,8 +24,9 @@ use Rattle.model.proofs.Tests.{true-T}
 use Rattle.model.proofs.Slices.{get_d_slice}
 use Rattle.cost.specs.Histograms.{span_of}
 use Rattle.cost.proofs.Blocks.{part_end}
-use Rattle.score_windows.specs.Windows.{width_of}
-use Rattle.score_bins.specs.Bins.{tallied_rows, summed, bin_of, bin_at, bin_cell, Ascends, Low, InLanes, Lanes, RowsThere, SumsLow}
+use Rattle.score_windows.specs.declared.Lane.{Lane}
+use Rattle.score_windows.specs.Windows.{lane_of}
+use Rattle.score_bins.specs.Bins.{tallied_rows, summed, bin_of, bin_at, lane_cell, bin_cell, Ascends, Low, InLanes, Lanes, SumsLow}
 use Rattle.score_bins.proofs.Tallies.{count_to, sum_to, sum_to_le, sum_to_ext, rows_at, rows-length as tallied-rows-length, summed_at, summed-past}
 use Rattle.score_bins.proofs.Lanes.{lane-within, bin-hits, sum_rows}
 
@@ -192,34 +193,33 @@ held ps tok first end rows rs o h =
 
 -- ---- a span in windows
 
-module _ (ps : List ℤ) (tok : List ℕ) (first n prop : ℕ) (cands : List ℤ) (preds firsts offs : List ℕ) (stride : ℕ) (w : Lanes tok first n preds firsts offs stride) where
-  next-lane : (j : ℕ) → j < length preds → get_or offs j 0 + width_of offs j ≤ get_or offs (suc j) 0
-  next-lane j h = omega (arith, w.order j h)
-
-  place_in : (k j : ℕ) → k < n → j < length preds → get_or tok ((first + k) * toks_per_row + get_or preds j 0) 0 - get_or firsts j 0 < width_of offs j
+module _ (ps : List ℤ) (tok : List ℕ) (first n prop : ℕ) (cands : List ℤ) (lanes : List Lane) (stride : ℕ) (w : Lanes tok first n lanes stride) where
+  place_in : (k j : ℕ) → k < n → j < length lanes → get_or tok ((first + k) * toks_per_row + (lane_of lanes j).pred) 0 - (lane_of lanes j).first < (lane_of lanes j).width
   place_in k j h l = omega (arith, w.from k j h l, w.below k j h l)
 
-  pub bin-room : (k j : ℕ) → k < n → j < length preds → bin_cell ps tok first prop cands preds firsts offs stride k j < (length cands + 1) * stride
+  pub bin-room : (k j : ℕ) → k < n → j < length lanes → bin_cell ps tok first prop cands lanes stride k j < (length cands + 1) * stride
   unfolding bin_at
   bin-room k j h l =
       let bin = bin_at cands prop ps (first + k) in
       let few : bin < length cands + 1 = omega (arith, bin_of_le cands (get_or ps ((first + k) * props_per_row + prop) (pos 0))) in
       let end = part_end bin (length cands + 1) stride few in
-      let in-bin = lane-within (length preds) (λ (j : ℕ). get_or offs j 0) (width_of offs) next-lane j (get_or tok ((first + k) * toks_per_row + get_or preds j 0) 0 - get_or firsts j 0) l (place_in k j h l) in
-      omega (arith, w.last)
+      let in-bin = lane-within (length lanes) stride (λ (j : ℕ). (lane_of lanes j).off) (λ (j : ℕ). (lane_of lanes j).width) w.next w.last j (get_or tok ((first + k) * toks_per_row + (lane_of lanes j).pred) 0 - (lane_of lanes j).first) l (place_in k j h l) in
+      omega arith
 
-  pub in_lanes : (k size : ℕ) → k < n → RowsThere ps tok first n → (length cands + 1) * stride ≤ size
-      → InLanes tok preds firsts offs (bin_at cands prop ps (first + k) * stride) (first + k) size
-  in_lanes k size h there room =
-      record {
-        there = omega (arith, there.toks);
-        few = w.few;
-        firsts_room = w.firsts_room;
-        offs_room = w.offs_room;
-        pred = w.pred;
-        from = λ j l. w.from k j h l;
-        room = λ j l. omega (arith, bin-room k j h l);
-      }
+  -- the tokens of the span's row k, as a list of its own
+  module _ (k : ℕ) (h : k < n) (toks : List ℕ) (long : length toks ≡ toks_per_row)
+      (at : (p : ℕ) → p < toks_per_row → get_or toks p 0 ≡ get_or tok ((first + k) * toks_per_row + p) 0) (bin : ℕ) (is : bin ≡ bin_at cands prop ps (first + k)) where
+    pub row-cell : (j : ℕ) → j < length lanes → lane_cell toks lanes (bin * stride) j ≡ bin_cell ps tok first prop cands lanes stride k j
+    row-cell j l = rw (is, at (lane_of lanes j).pred (w.pred j l)) refl
+
+    pub in_lanes : (size : ℕ) → (length cands + 1) * stride ≤ size → InLanes toks lanes (bin * stride) size
+    in_lanes size room =
+        record {
+          few = w.few;
+          pred = λ j l. omega (arith, w.pred j l);
+          from = λ j l. omega (arith, at (lane_of lanes j).pred (w.pred j l), w.from k j h l);
+          room = λ j l. omega (arith, row-cell j l, bin-room k j h l);
+        }
 
   eqb-place : (t f x : ℕ) → f ≤ t → eqb (t - f) x ≡ eqb t (f + x)
   eqb-place t f x h = go (eqb (t - f) x) refl
@@ -229,45 +229,44 @@ module _ (ps : List ℤ) (tok : List ℕ) (first n prop : ℕ) (cands : List ℤ
       go false e = sym (ne_eqb t (f + x) (λ s. eqb-false (t - f) x e (omega arith)))
 
   module _ (rows : List Row) (hold : Held ps tok first n rows) (p24 : prop < props_per_row) (c : List ℕ) (z : Low 0 c) (room : length c ≡ (length cands + 1) * stride) where
-    cell-counts : (b j x : ℕ) → j < length preds → x < width_of offs j
-        → get_or (tallied_rows (bin_cell ps tok first prop cands preds firsts offs stride) (length preds) n c) (b * stride + (get_or offs j 0 + x)) 0
-        ≡ count_if (λ (r : Row). eqb (bin_of cands (prop_of r prop)) b && has_token (get_or preds j 0) (get_or firsts j 0 + x) r) rows
+    cell-counts : (b j x : ℕ) → j < length lanes → x < (lane_of lanes j).width
+        → get_or (tallied_rows (bin_cell ps tok first prop cands lanes stride) (length lanes) n c) (b * stride + ((lane_of lanes j).off + x)) 0
+        ≡ count_if (λ (r : Row). eqb (bin_of cands (prop_of r prop)) b && has_token (lane_of lanes j).pred ((lane_of lanes j).first + x) r) rows
     unfolding bin_at
     cell-counts b j x l hx =
-        let i = b * stride + (get_or offs j 0 + x) in
-        let f : ℕ → ℕ → ℕ = bin_cell ps tok first prop cands preds firsts offs stride in
-        let all = rows_at f (length preds) n c (λ k j a l. omega (arith, bin-room k j a l)) i in
-        let sum = sum_rows (λ (r : Row). eqb (bin_of cands (prop_of r prop)) b && has_token (get_or preds j 0) (get_or firsts j 0 + x) r) no_row rows
-        (λ (k : ℕ). count_to (λ (i' : ℕ). eqb (f k i') i) (length preds)) (λ k h. each k (omega (arith, hold.long))) in
-        let many : sum_to (λ (k : ℕ). count_to (λ (i' : ℕ). eqb (f k i') i) (length preds)) (length rows) ≡ sum_to (λ (k : ℕ). count_to (λ (i' : ℕ). eqb (f k i') i) (length preds)) n =
-        ap (sum_to (λ (k : ℕ). count_to (λ (i' : ℕ). eqb (f k i') i) (length preds))) hold.long in
+        let i = b * stride + ((lane_of lanes j).off + x) in
+        let f : ℕ → ℕ → ℕ = bin_cell ps tok first prop cands lanes stride in
+        let all = rows_at f (length lanes) n c (λ k j a l. omega (arith, bin-room k j a l)) i in
+        let sum = sum_rows (λ (r : Row). eqb (bin_of cands (prop_of r prop)) b && has_token (lane_of lanes j).pred ((lane_of lanes j).first + x) r) no_row rows
+        (λ (k : ℕ). count_to (λ (i' : ℕ). eqb (f k i') i) (length lanes)) (λ k h. each k (omega (arith, hold.long))) in
+        let many : sum_to (λ (k : ℕ). count_to (λ (i' : ℕ). eqb (f k i') i) (length lanes)) (length rows) ≡ sum_to (λ (k : ℕ). count_to (λ (i' : ℕ). eqb (f k i') i) (length lanes)) n =
+        ap (sum_to (λ (k : ℕ). count_to (λ (i' : ℕ). eqb (f k i') i) (length lanes))) hold.long in
         omega (arith, z i)
       where
-        each : (k : ℕ) → k < n → count_to (λ (i' : ℕ). eqb (bin_cell ps tok first prop cands preds firsts offs stride k i') (b * stride + (get_or offs j 0 + x))) (length preds)
-            ≡ cond (eqb (bin_of cands (prop_of (get_or rows k no_row) prop)) b && has_token (get_or preds j 0) (get_or firsts j 0 + x) (get_or rows k no_row)) 1 0
+        each : (k : ℕ) → k < n → count_to (λ (i' : ℕ). eqb (bin_cell ps tok first prop cands lanes stride k i') (b * stride + ((lane_of lanes j).off + x))) (length lanes)
+            ≡ cond (eqb (bin_of cands (prop_of (get_or rows k no_row) prop)) b && has_token (lane_of lanes j).pred ((lane_of lanes j).first + x) (get_or rows k no_row)) 1 0
         each k h =
             rw (
               hold.property k prop h p24,
-              hold.token k (get_or preds j 0) h (w.pred j l),
-              ← eqb-place (get_or tok ((first + k) * toks_per_row + get_or preds j 0) 0) (get_or firsts j 0) x (w.from k j h l),
-              ← w.last,
+              hold.token k (lane_of lanes j).pred h (w.pred j l),
+              ← eqb-place (get_or tok ((first + k) * toks_per_row + (lane_of lanes j).pred) 0) (lane_of lanes j).first x (w.from k j h l),
             )
-            (bin-hits (length preds) (λ (j : ℕ). get_or offs j 0) (width_of offs) next-lane (λ (j : ℕ). get_or tok ((first + k) * toks_per_row + get_or preds j 0) 0 - get_or firsts j 0)
+            (bin-hits (length lanes) stride (λ (j : ℕ). (lane_of lanes j).off) (λ (j : ℕ). (lane_of lanes j).width) w.next w.last (λ (j : ℕ). get_or tok ((first + k) * toks_per_row + (lane_of lanes j).pred) 0 - (lane_of lanes j).first)
             (bin_of cands (get_or ps ((first + k) * props_per_row + prop) (pos 0))) b j x (λ j l. place_in k j h l) l hx)
 
     -- summed, the rows at most candidate b with that token
-    pub left-counts : Ascends cands → (b j x : ℕ) → b < length cands → j < length preds → x < width_of offs j
-        → get_or (summed stride (length cands * stride) (tallied_rows (bin_cell ps tok first prop cands preds firsts offs stride) (length preds) n c)) (b * stride + (get_or offs j 0 + x)) 0
-        ≡ count_if (has_token (get_or preds j 0) (get_or firsts j 0 + x)) (keep (λ (r : Row). not (is_above prop (get_or cands b (pos 0)) r)) rows)
+    pub left-counts : Ascends cands → (b j x : ℕ) → b < length cands → j < length lanes → x < (lane_of lanes j).width
+        → get_or (summed stride (length cands * stride) (tallied_rows (bin_cell ps tok first prop cands lanes stride) (length lanes) n c)) (b * stride + ((lane_of lanes j).off + x)) 0
+        ≡ count_if (has_token (lane_of lanes j).pred ((lane_of lanes j).first + x)) (keep (λ (r : Row). not (is_above prop (get_or cands b (pos 0)) r)) rows)
     left-counts up b j x hb l hx =
-        let d = tallied_rows (bin_cell ps tok first prop cands preds firsts offs stride) (length preds) n c in
-        let y = get_or offs j 0 + x in
-        let long = tallied-rows-length (bin_cell ps tok first prop cands preds firsts offs stride) (length preds) n c in
+        let d = tallied_rows (bin_cell ps tok first prop cands lanes stride) (length lanes) n c in
+        let y = (lane_of lanes j).off + x in
+        let long = tallied-rows-length (bin_cell ps tok first prop cands lanes stride) (length lanes) n c in
         let all : (length cands + 1) * stride ≡ stride + length cands * stride = ap (λ (k : ℕ). k * stride) (add-one (length cands)) ∙ suc-mul (length cands) stride ∙ omega arith in
         let end = part_end b (length cands) stride hb in
-        let in-bin : y < stride = omega (arith, lane-within (length preds) (λ (j : ℕ). get_or offs j 0) (width_of offs) next-lane j x l hx, w.last) in
+        let in-bin : y < stride = omega (arith, lane-within (length lanes) stride (λ (j : ℕ). (lane_of lanes j).off) (λ (j : ℕ). (lane_of lanes j).width) w.next w.last j x l hx) in
         summed_at stride (length cands * stride) d b y (omega arith) in-bin (omega arith)
         ∙ sum_to_ext (λ (a : ℕ). get_or d (a * stride + y) 0)
-        (λ (a : ℕ). count_if (λ (r : Row). eqb (bin_of cands (prop_of r prop)) a && has_token (get_or preds j 0) (get_or firsts j 0 + x) r) rows) (suc b)
+        (λ (a : ℕ). count_if (λ (r : Row). eqb (bin_of cands (prop_of r prop)) a && has_token (lane_of lanes j).pred ((lane_of lanes j).first + x) r) rows) (suc b)
         (λ a h. cell-counts a j x l hx)
-        ∙ side_counts cands prop rows (has_token (get_or preds j 0) (get_or firsts j 0 + x)) b up hb
+        ∙ side_counts cands prop rows (has_token (lane_of lanes j).pred ((lane_of lanes j).first + x)) b up hb

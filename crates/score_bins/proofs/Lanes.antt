@@ -35,8 +35,9 @@ count_to_one q (suc n) j l h = go (ℕ_discrete j n) (λ k. count_to_one q n j k
 
 -- ---- windows one after the other, in bins of one stride
 
-module _ (lanes : ℕ) (off width : ℕ → ℕ) (next : (j : ℕ) → j < lanes → off j + width j ≤ off (suc j)) where
-  ordered : (i d : ℕ) → i + d < lanes → off i + width i ≤ off (suc (i + d))
+module _ (lanes stride : ℕ) (off width : ℕ → ℕ) (next : (j : ℕ) → suc j < lanes → off j + width j ≤ off (suc j))
+    (last : (j : ℕ) → suc j ≡ lanes → off j + width j ≤ stride) where
+  ordered : (i d : ℕ) → suc (i + d) < lanes → off i + width i ≤ off (suc (i + d))
   ordered i zero h = let e : i + 0 ≡ i = omega arith in rw e (next i (omega arith))
   ordered i (suc d) h =
       let ih = ordered i d (omega arith) in
@@ -53,14 +54,16 @@ module _ (lanes : ℕ) (off width : ℕ → ℕ) (next : (j : ℕ) → j < lanes
       omega arith
 
   -- each lies within the bin
-  pub lane-ends : (j : ℕ) → j < lanes → off j + width j ≤ off lanes
-  lane-ends j l =
-      let e : suc (j + (lanes - suc j)) ≡ lanes = omega arith in
-      let o = ordered j (lanes - suc j) (omega arith) in
-      let s : off (suc (j + (lanes - suc j))) ≡ off lanes = ap off e in
-      omega arith
+  pub lane-ends : (j : ℕ) → j < lanes → off j + width j ≤ stride
+  lane-ends j l = elim (dec_lt (suc j) lanes) [
+    | yes m ↦ (
+        let k = lanes - 1 in
+        omega (arith, before j k (omega arith) (omega arith), last k (omega arith))
+        )
+    | no m ↦ last j (omega arith)
+  ]
 
-  pub lane-within : (j x : ℕ) → j < lanes → x < width j → off j + x < off lanes
+  pub lane-within : (j x : ℕ) → j < lanes → x < width j → off j + x < stride
   lane-within j x l h = omega (arith, lane-ends j l)
 
   -- a place of a window is no place of another
@@ -71,33 +74,33 @@ module _ (lanes : ℕ) (off width : ℕ → ℕ) (next : (j : ℕ) → j < lanes
   ]
 
   -- places of different bins differ
-  bins_apart : (a b x y stride : ℕ) → x < stride → y < stride → (a ≡ b → ⊥) → a * stride + x ≡ b * stride + y → ⊥
-  bins_apart a b x y stride hx hy ne e = elim (dec_lt a b) [
+  bins_apart : (a b x y : ℕ) → x < stride → y < stride → (a ≡ b → ⊥) → a * stride + x ≡ b * stride + y → ⊥
+  bins_apart a b x y hx hy ne e = elim (dec_lt a b) [
     | yes l ↦ (let m = part_end a b stride l in omega arith)
     | no l ↦ (let m = part_end b a stride (omega arith) in omega arith)
   ]
 
   -- of a row's cells, which are y i in window i of bin a, the one in window j alone can be cell x of window j of bin b
   pub bin-hits : (y : ℕ → ℕ) (a b j x : ℕ) → ((i : ℕ) → i < lanes → y i < width i) → j < lanes → x < width j
-      → count_to (λ (i : ℕ). eqb (a * off lanes + off i + y i) (b * off lanes + (off j + x))) lanes ≡ cond (eqb a b && eqb (y j) x) 1 0
+      → count_to (λ (i : ℕ). eqb (a * stride + off i + y i) (b * stride + (off j + x))) lanes ≡ cond (eqb a b && eqb (y j) x) 1 0
   bin-hits y a b j x h l hx = go (eqb a b) refl
     where
-      go : (t : Bool) → eqb a b ≡ t → count_to (λ (i : ℕ). eqb (a * off lanes + off i + y i) (b * off lanes + (off j + x))) lanes ≡ cond (t && eqb (y j) x) 1 0
+      go : (t : Bool) → eqb a b ≡ t → count_to (λ (i : ℕ). eqb (a * stride + off i + y i) (b * stride + (off j + x))) lanes ≡ cond (t && eqb (y j) x) 1 0
       go true e =
           let same = eqb-true a b e in
-          let stride : a * off lanes ≡ b * off lanes = ap (λ (k : ℕ). k * off lanes) same in
-          count_to_one (λ (i : ℕ). eqb (a * off lanes + off i + y i) (b * off lanes + (off j + x))) lanes j l
-          (λ i k ne. ne_eqb (a * off lanes + off i + y i) (b * off lanes + (off j + x)) (λ s. apart i j (y i) x k l (h i k) hx ne (omega arith)))
-          ∙ ap (λ (b : Bool). cond b 1 0) (at (eqb (y j) x) refl stride)
+          let bases : a * stride ≡ b * stride = ap (λ (k : ℕ). k * stride) same in
+          count_to_one (λ (i : ℕ). eqb (a * stride + off i + y i) (b * stride + (off j + x))) lanes j l
+          (λ i k ne. ne_eqb (a * stride + off i + y i) (b * stride + (off j + x)) (λ s. apart i j (y i) x k l (h i k) hx ne (omega arith)))
+          ∙ ap (λ (b : Bool). cond b 1 0) (at (eqb (y j) x) refl bases)
         where
-          at : (t : Bool) → eqb (y j) x ≡ t → a * off lanes ≡ b * off lanes → eqb (a * off lanes + off j + y j) (b * off lanes + (off j + x)) ≡ t
-          at true e r = let s = eqb-true (y j) x e in eq-eqb (a * off lanes + off j + y j) (b * off lanes + (off j + x)) (omega arith)
-          at false e r = ne_eqb (a * off lanes + off j + y j) (b * off lanes + (off j + x)) (λ s. eqb-false (y j) x e (omega arith))
+          at : (t : Bool) → eqb (y j) x ≡ t → a * stride ≡ b * stride → eqb (a * stride + off j + y j) (b * stride + (off j + x)) ≡ t
+          at true e r = let s = eqb-true (y j) x e in eq-eqb (a * stride + off j + y j) (b * stride + (off j + x)) (omega arith)
+          at false e r = ne_eqb (a * stride + off j + y j) (b * stride + (off j + x)) (λ s. eqb-false (y j) x e (omega arith))
       go false e =
           let differ = eqb-false a b e in
-          count_to_none (λ (i : ℕ). eqb (a * off lanes + off i + y i) (b * off lanes + (off j + x))) lanes
-          (λ i k. ne_eqb (a * off lanes + off i + y i) (b * off lanes + (off j + x))
-          (λ s. bins_apart a b (off i + y i) (off j + x) (off lanes) (lane-within i (y i) k (h i k)) (lane-within j x l hx) differ (omega arith)))
+          count_to_none (λ (i : ℕ). eqb (a * stride + off i + y i) (b * stride + (off j + x))) lanes
+          (λ i k. ne_eqb (a * stride + off i + y i) (b * stride + (off j + x))
+          (λ s. bins_apart a b (off i + y i) (off j + x) (lane-within i (y i) k (h i k)) (lane-within j x l hx) differ (omega arith)))
 
 -- ---- a sum over the rows of a list is a count of them
 

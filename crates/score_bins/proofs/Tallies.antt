@@ -14,8 +14,9 @@ use lib.Seq.{get_or-set_same, get_or-set_other}
 use Rattle.model.specs.Settings.{toks_per_row, max_rows}
 use Rattle.cost.specs.Histograms.{bumped, tallied}
 use Rattle.cost.proofs.Blocks.{tallied-length, tallied-low}
-use Rattle.score_bins.specs.declared.Lane.{Lane}
-use Rattle.score_bins.specs.Bins.{tallied_rows, summed, lane_cell, lane_of, place_in, Low, TokenFits, InLanes}
+use Rattle.score_windows.specs.declared.Lane.{Lane}
+use Rattle.score_windows.specs.Windows.{lane_of}
+use Rattle.score_bins.specs.Bins.{tallied_rows, summed, lane_cell, place_in, Low, TokenFits, InLanes}
 
 -- how many of the first n numbers pass the test, and a sum over them
 unfoldable pub count_to : (ℕ → Bool) → ℕ → ℕ
@@ -174,13 +175,12 @@ rows-turn f lanes n rows c cells h z few small lt e i =
 
 -- ---- the tokens of a row, one by one: the next has room, and is counted
 
-module _ (tok preds firsts offs : List ℕ) (base row : ℕ) (cells now : List ℕ) (i : ℕ) (lane : Lane) (e : lane ≡ lane_of preds firsts offs i)
-    (is : now ≡ tallied (lane_cell tok preds firsts offs base row) i cells) where
-  pub token-fits : InLanes tok preds firsts offs base row (length cells) → Low 920000 cells → i < length preds → TokenFits tok row lane base now
+module _ (toks : List ℕ) (lanes : List Lane) (base : ℕ) (cells now : List ℕ) (i : ℕ) (is : now ≡ tallied (lane_cell toks lanes base) i cells) where
+  pub token-fits : InLanes toks lanes base (length cells) → Low 920000 cells → i < length lanes → TokenFits toks (lane_of lanes i) base now
   token-fits inside low l =
-      let t = tally-turn (lane_cell tok preds firsts offs base row) (length preds) i cells now inside.room low inside.few l is in
-      rw e (record { there = inside.there; pred = inside.pred i l; from = inside.from i l; room = t.0; low = t.1 })
+      let t = tally-turn (lane_cell toks lanes base) (length lanes) i cells now inside.room low inside.few l is in
+      record { pred = inside.pred i l; from = inside.from i l; room = t.0; low = t.1 }
 
-  pub token-counted : (next : List ℕ) → next ≡ bumped (place_in lane tok base row) now → next ≡ tallied (lane_cell tok preds firsts offs base row) (suc i) cells
+  pub token-counted : (next : List ℕ) → next ≡ bumped (place_in (lane_of lanes i) toks base) now → next ≡ tallied (lane_cell toks lanes base) (i + 1) cells
   unfolding tallied
-  token-counted next h = h ∙ (rw (e, is))
+  token-counted next h = rw add-one (h ∙ ap (bumped (place_in (lane_of lanes i) toks base)) is)

@@ -5,8 +5,8 @@ use Rattle.std.specs.Int.Signed.{lt_z}
 use Rattle.model.specs.Lists.{count_if}
 use Rattle.model.specs.Settings.{props_per_row, toks_per_row, max_rows}
 use Rattle.cost.specs.Histograms.{tallied}
-use Rattle.score_windows.specs.Windows.{width_of}
-use Rattle.score_bins.specs.declared.Lane.{Lane}
+use Rattle.score_windows.specs.declared.Lane.{Lane}
+use Rattle.score_windows.specs.Windows.{lane_of}
 
 -- one more in the cells f k 0, .., f k (lanes - 1) of each of n rows
 unfoldable pub tallied_rows : (ℕ → ℕ → ℕ) → ℕ → ℕ → List ℕ → List ℕ
@@ -26,21 +26,18 @@ bin_of cands v = count_if (λ (c : ℤ). lt_z c v) cands
 unfoldable pub bin_at : List ℤ → ℕ → List ℤ → ℕ → ℕ
 bin_at cands prop ps row = bin_of cands (get_or ps (row * props_per_row + prop) (pos 0))
 
+-- the cell of one of a row's tokens in its window, in the bin that starts at `base`
+abbrev pub place_in : Lane → List ℕ → ℕ → ℕ
+place_in lane toks base = base + lane.off + (get_or toks lane.pred 0 - lane.first)
+
 -- the cell of a row's token in the window of side predictor j, in the bin that starts at `base`
-abbrev pub lane_cell : List ℕ → List ℕ → List ℕ → List ℕ → ℕ → ℕ → ℕ → ℕ
-lane_cell tok preds firsts offs base row j = base + get_or offs j 0 + (get_or tok (row * toks_per_row + get_or preds j 0) 0 - get_or firsts j 0)
-
--- side predictor j with its window
-abbrev pub lane_of : List ℕ → List ℕ → List ℕ → ℕ → Lane
-lane_of preds firsts offs j = record { pred = get_or preds j 0; first = get_or firsts j 0; off = get_or offs j 0 }
-
--- the cell of a row's token in a window, in the bin that starts at `base`
-abbrev pub place_in : Lane → List ℕ → ℕ → ℕ → ℕ
-place_in lane tok base row = base + lane.off + (get_or tok (row * toks_per_row + lane.pred) 0 - lane.first)
+abbrev pub lane_cell : List ℕ → List Lane → ℕ → ℕ → ℕ
+lane_cell toks lanes base j = place_in (lane_of lanes j) toks base
 
 -- the cell of the span's row k in the window of side predictor j, in the row's own bin
-abbrev pub bin_cell : List ℤ → List ℕ → ℕ → ℕ → List ℤ → List ℕ → List ℕ → List ℕ → ℕ → ℕ → ℕ → ℕ
-bin_cell ps tok first prop cands preds firsts offs stride k j = lane_cell tok preds firsts offs (bin_at cands prop ps (first + k) * stride) (first + k) j
+abbrev pub bin_cell : List ℤ → List ℕ → ℕ → ℕ → List ℤ → List Lane → ℕ → ℕ → ℕ → ℕ
+bin_cell ps tok first prop cands lanes stride k j =
+    bin_at cands prop ps (first + k) * stride + (lane_of lanes j).off + (get_or tok ((first + k) * toks_per_row + (lane_of lanes j).pred) 0 - (lane_of lanes j).first)
 
 -- strictly ascending candidates
 abbrev pub Ascends : List ℤ → Type 0
@@ -57,33 +54,28 @@ pub record RowsThere (ps : List ℤ) (tok : List ℕ) (first n : ℕ) : Type 0 w
   pub toks : (first + n) * toks_per_row ≤ length tok
 
 -- a row's token lies in the window, and its cell is there and not full
-pub record TokenFits (tok : List ℕ) (row : ℕ) (lane : Lane) (base : ℕ) (cells : List ℕ) : Type 0 where
-  pub there : row * toks_per_row + toks_per_row ≤ length tok
-  pub pred : lane.pred < toks_per_row
-  pub from : lane.first ≤ get_or tok (row * toks_per_row + lane.pred) 0
-  pub room : place_in lane tok base row < length cells
-  pub low : get_or cells (place_in lane tok base row) 0 < 4294967295
+pub record TokenFits (toks : List ℕ) (lane : Lane) (base : ℕ) (cells : List ℕ) : Type 0 where
+  pub pred : lane.pred < length toks
+  pub from : lane.first ≤ get_or toks lane.pred 0
+  pub room : place_in lane toks base < length cells
+  pub low : get_or cells (place_in lane toks base) 0 < 4294967295
 
 -- a row's tokens lie in the windows, and their cells are there
-pub record InLanes (tok preds firsts offs : List ℕ) (base row size : ℕ) : Type 0 where
-  pub there : row * toks_per_row + toks_per_row ≤ length tok
-  pub few : length preds ≤ toks_per_row
-  pub firsts_room : length preds ≤ length firsts
-  pub offs_room : length preds < length offs
-  pub pred : (j : ℕ) → j < length preds → get_or preds j 0 < toks_per_row
-  pub from : (j : ℕ) → j < length preds → get_or firsts j 0 ≤ get_or tok (row * toks_per_row + get_or preds j 0) 0
-  pub room : (j : ℕ) → j < length preds → lane_cell tok preds firsts offs base row j < size
+pub record InLanes (toks : List ℕ) (lanes : List Lane) (base size : ℕ) : Type 0 where
+  pub few : length lanes ≤ toks_per_row
+  pub pred : (j : ℕ) → j < length lanes → (lane_of lanes j).pred < length toks
+  pub from : (j : ℕ) → j < length lanes → (lane_of lanes j).first ≤ get_or toks (lane_of lanes j).pred 0
+  pub room : (j : ℕ) → j < length lanes → lane_cell toks lanes base j < size
 
 -- at most 14 windows, one after the other, in which the tokens of the span's rows lie
-pub record Lanes (tok : List ℕ) (first n : ℕ) (preds firsts offs : List ℕ) (stride : ℕ) : Type 0 where
-  pub few : length preds ≤ toks_per_row
-  pub firsts_room : length preds ≤ length firsts
-  pub offs_room : length preds < length offs
-  pub pred : (j : ℕ) → j < length preds → get_or preds j 0 < toks_per_row
-  pub order : (j : ℕ) → j < length preds → get_or offs j 0 ≤ get_or offs (suc j) 0
-  pub last : get_or offs (length preds) 0 ≡ stride
-  pub from : (k j : ℕ) → k < n → j < length preds → get_or firsts j 0 ≤ get_or tok ((first + k) * toks_per_row + get_or preds j 0) 0
-  pub below : (k j : ℕ) → k < n → j < length preds → get_or tok ((first + k) * toks_per_row + get_or preds j 0) 0 < get_or firsts j 0 + width_of offs j
+pub record Lanes (tok : List ℕ) (first n : ℕ) (lanes : List Lane) (stride : ℕ) : Type 0 where
+  pub few : length lanes ≤ toks_per_row
+  pub pred : (j : ℕ) → j < length lanes → (lane_of lanes j).pred < toks_per_row
+  pub next : (j : ℕ) → suc j < length lanes → (lane_of lanes j).off + (lane_of lanes j).width ≤ (lane_of lanes (suc j)).off
+  pub last : (j : ℕ) → suc j ≡ length lanes → (lane_of lanes j).off + (lane_of lanes j).width ≤ stride
+  pub from : (k j : ℕ) → k < n → j < length lanes → (lane_of lanes j).first ≤ get_or tok ((first + k) * toks_per_row + (lane_of lanes j).pred) 0
+  pub below : (k j : ℕ) → k < n → j < length lanes
+      → get_or tok ((first + k) * toks_per_row + (lane_of lanes j).pred) 0 < (lane_of lanes j).first + (lane_of lanes j).width
 
 -- no sum on the way is too large
 abbrev pub SumsLow : ℕ → ℕ → List ℕ → Type 0

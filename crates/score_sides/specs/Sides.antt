@@ -14,25 +14,27 @@ rest (n ∷ ns) [] = []
 rest (n ∷ ns) (l ∷ ls) = (n - l) ∷ rest ns ls
 
 -- both sides' entropies: count × (log of side − log of count), in ascending token order
-unfoldable pub entropies_of : List ℕ → List ℕ → Float → Float → List Float → Sides
-entropies_of left node log_le log_gt logs =
-    record { le = entropy_from singles logs log_le singles.nought left; gt = entropy_from singles logs log_gt singles.nought (rest node left) }
+unfoldable pub entropies_of : List ℕ → List ℕ → Sides → List Float → Sides
+entropies_of left node side_logs logs =
+    record { le = entropy_from singles logs side_logs.le singles.nought left; gt = entropy_from singles logs side_logs.gt singles.nought (rest node left) }
 
 -- both sides' costs: the entropy, then the extra bits
-unfoldable pub costs_of : List ℕ → List ℕ → ℕ → Float → Float → List Float → Sides
-costs_of left node first log_le log_gt logs =
+unfoldable pub costs_of : List ℕ → List ℕ → ℕ → Sides → List Float → Sides
+costs_of left node first side_logs logs =
     record {
-      le = singles.plus (entropy_from singles logs log_le singles.nought left) (singles.extra (extra_from first left));
-      gt = singles.plus (entropy_from singles logs log_gt singles.nought (rest node left)) (singles.extra (extra_from first (rest node left)));
+      le = singles.plus (entropy_from singles logs side_logs.le singles.nought left) (singles.extra (extra_from first left));
+      gt = singles.plus (entropy_from singles logs side_logs.gt singles.nought (rest node left)) (singles.extra (extra_from first (rest node left)));
     }
 
 -- the lower cost, the first at a tie
 abbrev pub lower_cost : Float → Float → Float
 lower_cost best next = cond (singles.less next best) next best
 
+-- the lower cost on each side
 abbrev pub lower_sides : Sides → Sides → Sides
 lower_sides best next = record { le = lower_cost best.le next.le; gt = lower_cost best.gt next.gt }
 
+-- before any predictor: no cost is above these
 abbrev pub no_sides : Sides
 no_sides = record { le = singles.endless; gt = singles.endless }
 

@@ -1,9 +1,14 @@
 -- The windows of the side predictors in a node's histograms: of each the tokens from the first to the last that are counted, packed one after the
 -- other (document 01, "Scoring"; the Rust's `SymbolWindow`). Assumes nothing.
-use Rattle.std.specs.Prelude.{◌≡◌, cond, List, ℕ, zero, suc, ◌+◌, ◌-◌, ◌*◌, ◌≤◌, ◌<◌, eqb, length, get_or}
+use Rattle.std.specs.Prelude.{◌≡◌, cond, List, map, ℕ, zero, suc, ◌+◌, ◌-◌, ◌*◌, ◌≤◌, ◌<◌, eqb, length, get_or}
 use Rattle.model.specs.Settings.{toks_per_row}
 use Rattle.cost.specs.Histograms.{part}
-use Rattle.score_windows.specs.declared.Window.{Window}
+use Rattle.score_windows.specs.declared.Lane.{Lane}
+
+-- the tokens from `first` up to `end`; none: 0 and 0
+pub record Window : Type 0 where
+  pub first : ℕ
+  pub end : ℕ
 
 -- a window with one token more, if it is counted
 unfoldable pub widened : Window → ℕ → ℕ → Window
@@ -23,26 +28,40 @@ unfoldable pub window_start : List ℕ → ℕ → List ℕ → ℕ → ℕ
 window_start node alphabet preds zero = 0
 window_start node alphabet preds (suc j) = window_start node alphabet preds j + ((window_at node alphabet preds j).end - (window_at node alphabet preds j).first)
 
--- `firsts` and `offs` have the first n windows
-pub record Packed (node : List ℕ) (alphabet : ℕ) (preds firsts offs : List ℕ) (n : ℕ) : Type 0 where
-  pub first : (j : ℕ) → j < n → get_or firsts j 0 ≡ (window_at node alphabet preds j).first
-  pub start : (j : ℕ) → j ≤ n → get_or offs j 0 ≡ window_start node alphabet preds j
+-- side predictor j with its window
+unfoldable pub packed_lane : List ℕ → ℕ → List ℕ → ℕ → Lane
+packed_lane node alphabet preds j =
+    record {
+      pred = get_or preds j 0;
+      first = (window_at node alphabet preds j).first;
+      width = (window_at node alphabet preds j).end - (window_at node alphabet preds j).first;
+      off = window_start node alphabet preds j;
+    }
 
--- the width of window j
-abbrev pub width_of : List ℕ → ℕ → ℕ
-width_of offs j = get_or offs (suc j) 0 - get_or offs j 0
+-- what is read where there is no lane
+abbrev pub no_lane : Lane
+no_lane = record { pred = 0; first = 0; width = 0; off = 0 }
 
--- what `set_windows` asks: 14 histograms, at most 14 side predictors, and room for their windows
-pub record Windowable (node : List ℕ) (alphabet : ℕ) (preds firsts offs : List ℕ) : Type 0 where
+-- lane j
+abbrev pub lane_of : List Lane → ℕ → Lane
+lane_of lanes j = get_or lanes j no_lane
+
+-- the side predictors of lanes
+abbrev pub preds_of : List Lane → List ℕ
+preds_of lanes = map (λ (l : Lane). l.pred) lanes
+
+-- the first n lanes are the windows of the side predictors
+abbrev pub Packed : List ℕ → ℕ → List ℕ → List Lane → ℕ → Type 0
+Packed node alphabet preds lanes n = (j : ℕ) → j < n → lane_of lanes j ≡ packed_lane node alphabet preds j
+
+-- what `set_windows` asks: 14 histograms, and at most 14 side predictors
+pub record Windowable (node : List ℕ) (alphabet : ℕ) (preds : List ℕ) : Type 0 where
   pub room : length node ≡ toks_per_row * alphabet
   pub tokens : alphabet ≤ 256
   pub pred : (j : ℕ) → j < length preds → get_or preds j 0 < toks_per_row
   pub few : length preds ≤ toks_per_row
-  pub firsts_room : length preds ≤ length firsts
-  pub offs_room : length preds < length offs
 
--- what `set_windows` leaves: the first entries are the windows of all side predictors
-pub record Windows (node : List ℕ) (alphabet : ℕ) (preds firsts offs : List ℕ) : Type 0 where
-  pub windows : Packed node alphabet preds firsts offs (length preds)
-  pub firsts_room : length preds ≤ length firsts
-  pub offs_room : length preds < length offs
+-- what `set_windows` leaves: the windows of all side predictors, and a bin ends with the last
+pub record Windows (node : List ℕ) (alphabet : ℕ) (lanes : List Lane) (stride : ℕ) : Type 0 where
+  pub packed : Packed node alphabet (preds_of lanes) lanes (length lanes)
+  pub end : stride ≡ window_start node alphabet (preds_of lanes) (length lanes)

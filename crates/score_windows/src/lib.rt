@@ -3,70 +3,66 @@
 #![tactic(auto)]
 
 ghost use Rattle.std.specs.Prelude.{◌≡◌, ◌+◌, ◌-◌, ◌*◌, ◌≤◌, ◌<◌, length};
-ghost use Rattle.score_windows.specs.Windows.{widened, window_of, Windowable, Windows};
+ghost use Rattle.score_windows.specs.Windows.{window_of, preds_of, Windowable, Windows};
 
-// The tokens from `first` up to `end`; none: 0 and 0.
-// Stays: an Option would ask of each use that it takes the width of no window to be 0.
-#[derive(Clone, Copy)]
-pub struct Window {
+use arrayvec::ArrayVec;
+
+// A side predictor with its window (the Rust's `PredictorSpan`): the first token, how many there are, and where the
+// window starts in a bin.
+#[repr(C)]
+#[derive(Clone, Copy, Default)]
+pub struct Lane {
+    pub pred: usize,
     pub first: usize,
-    pub end: usize,
+    pub width: usize,
+    pub off: usize,
 }
 
-// The side predictors of a node with their windows, packed one after the other: the first token of each, and where it
-// starts; after the last start stands the length of a bin.
+// The side predictors of a node with their windows, packed one after the other, and the length of a bin.
 #[derive(Clone, Copy)]
 pub struct SideWindows<'a> {
-    pub preds: &'a [u32],
-    pub firsts: &'a [u32],
-    pub offs: &'a [u32],
+    pub lanes: &'a [Lane],
+    pub stride: usize,
 }
 
-// A window with one token more, if it is counted.
-fn widen(w: Window, token: usize, count: u32) -> Window
-    requires { token < 256 }
-    ensures { result ≡ widened w token count }
-{
-    if count == 0 {
-        return w;
-    }
-    let end = token + 1;
-    if w.end == 0 {
-        return Window { first: token, end };
-    }
-    Window { end, ..w }
-}
-
-// The least window outside which every count is zero.
-fn window_of(hist: &[u32]) -> Window
+// The least window outside which every count is zero: its first token and its end, 0 and 0 if none is counted.
+fn window_of(hist: &[u32]) -> (usize, usize)
     requires { length hist.now ≤ 256 }
-    ensures { result ≡ window_of hist.now (length hist.now) }
+    ensures first { result.0 ≡ (window_of hist.now (length hist.now)).first }
+    ensures end { result.1 ≡ (window_of hist.now (length hist.now)).end }
 {
-    let mut w = Window { first: 0, end: 0 };
-    for (t, &count) in hist.iter().enumerate() {
-        w = widen(w, t, count);
-    }
-    w
+    let first = hist.iter().position(|&count| count != 0).unwrap_or(0);
+    let end = hist
+        .iter()
+        .rposition(|&count| count != 0)
+        .map_or(0, |last| last + 1);
+    (first, end)
 }
 
-// The windows of the side predictors in the node's histograms, packed one after the other: the first token of each, and
-// where it starts. After the last start stands the length of a bin.
+// The windows of the side predictors in the node's histograms, packed one after the other, and the length of a bin.
 pub fn set_windows(
-    node: &[u32],
+    hist: &[u32],
     preds: &[u32],
-    firsts: &mut [u32],
-    offs: &mut [u32],
     alphabet: usize,
-)
-    requires { Windowable node.now alphabet preds.now firsts.old offs.old }
-    ensures { Windows node.now alphabet preds.now
-        firsts.new offs.new }
+) -> (ArrayVec<Lane, { model::NUM_MA_PREDS }>, usize)
+    requires { Windowable hist.now alphabet preds.now }
+    ensures windows { Windows hist.now alphabet result.0.items result.1 }
+    ensures preds { preds_of result.0.items ≡ preds.now }
 {
-    offs[0] = 0;
-    for (j, &pred) in preds.iter().enumerate() {
-        let start = pred as usize * alphabet;
-        let w = window_of(&node[start..start + alphabet]);
-        firsts[j] = w.first as u32;
-        offs[j + 1] = offs[j] + (w.end - w.first) as u32;
+    let mut lanes = ArrayVec::new();
+    let mut stride = 0;
+    for &pred in preds {
+        let pred = pred as usize;
+        let start = pred * alphabet;
+        let (first, end) = window_of(&hist[start..start + alphabet]);
+        let width = end - first;
+        lanes.push(Lane {
+            pred,
+            first,
+            width,
+            off: stride,
+        });
+        stride += width;
     }
+    (lanes, stride)
 }

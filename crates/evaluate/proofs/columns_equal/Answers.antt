@@ -13,9 +13,9 @@ use Rattle.evaluate.proofs.columns_equal.Goals as goal
 
 pub returns : goal.returns
 returns c = let a = c.args in
-    let n = a.end - a.first in
-    let rows = take (a.end * 24 - a.first * 24) (drop (a.first * 24) a.props.now) in
-    let long : length rows ≡ n * 24 = omega (arith, length-take (a.end * 24 - a.first * 24) (drop (a.first * 24) a.props.now), length-drop (a.first * 24) a.props.now, c.requires) in
+    let n = a.span.end - a.span.first in
+    let rows = take (a.span.end * 24 - a.span.first * 24) (drop (a.span.first * 24) a.span.props.now) in
+    let long : length rows ≡ n * 24 = omega (arith, length-take (a.span.end * 24 - a.span.first * 24) (drop (a.span.first * 24) a.span.props.now), length-drop (a.span.first * 24) a.span.props.now, c.requires) in
     let given = chunks_yielded n c.chunks_exact.result rows c.chunks_exact.ensures.size c.chunks_exact.ensures.rest long in
-    equal_by_chunks a.props.now a.first a.end a.a a.b c.requires.0 c.requires.2 c.requires.3 c.all.result
+    equal_by_chunks a.span.props.now a.span.first a.span.end a.a a.b c.requires.0 c.requires.2 c.requires.3 c.all.result
     (cases_from_all _ _ _ (λ (row : List ℤ). get_or row a.a (pos 0) ≡ get_or row a.b (pos 0)) (λ (row : List ℤ). get_or row a.a (pos 0) ≡ get_or row a.b (pos 0) → ⊥) c.all.ensures.ran given (λ x q k. search (rules, tests)) (λ x q k. search (rules, tests)))

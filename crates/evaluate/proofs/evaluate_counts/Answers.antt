@@ -7,11 +7,11 @@ use Rattle.evaluate.proofs.Nodes.{usable-node, evaluated_scored, evaluated_not}
 use Rattle.evaluate.proofs.evaluate_counts.Goals as goal
 
 pub predictor_costs-best-requires : goal.predictor_costs-best-requires
-predictor_costs-best-requires c = rw c.allowed_by.ensures (usable-node c.requires.evaluable c.requires.counts_span _ refl)
+predictor_costs-best-requires c = rw c.allowed.ensures (usable-node c.requires.evaluable c.requires.counts_span _ refl)
 
 pub returns-then-score_split-is_scored : goal.returns-then-score_split-is_scored
 returns-then-score_split-is_scored c = let a = c.args in
-    let lowest = rw c.allowed_by.ensures at c.predictor_costs-best.ensures.answer in
+    let lowest = rw c.allowed.ensures at c.predictor_costs-best.ensures.answer in
     record {
       answer = (λ rows rs h.
           evaluated_scored c.requires.evaluable c.requires.counts_span
@@ -26,7 +26,7 @@ returns-then-score_split-is_scored c = let a = c.args in
 
 pub returns : goal.returns
 returns c = let a = c.args in
-    let lowest = rw c.allowed_by.ensures at c.predictor_costs-best.ensures.answer in
+    let lowest = rw c.allowed.ensures at c.predictor_costs-best.ensures.answer in
     record {
       answer = (λ rows rs h.
           evaluated_not c.requires.evaluable c.requires.counts_span lowest a.mode a.depth rows rs h

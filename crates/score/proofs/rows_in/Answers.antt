@@ -1,13 +1,12 @@
--- `score::rows_in` meets its contract: the sum so far, with the counts that are left, is the whole sum. Assumes nothing.
-use Rattle.std.proofs.Common.{arith}
-use Rattle.score.proofs.Counting.{rows-turn, rows_end}
+-- `score::rows_in` meets its contract: the library's sum is it. Assumes nothing.
+use Rattle.std.proofs.Common.{rules, ◌≡◌, ◌<◌, ◌∙◌, arith}
+use Rattle.std.specs.List.{sum}
+use Rattle.std.proofs.iter.runs.Sources.{sums}
+use Rattle.score.proofs.Counting.{sum-is}
 use Rattle.score.proofs.rows_in.Goals as goal
 
-pub overflow_add-rows : goal.overflow_add-rows
-overflow_add-rows c = omega (arith, rows-turn c.args.counts.now c.loop-count.count-index c.loop-count.rows (omega arith) c.loop-count.invariant)
-
-pub loop-count-preserved : goal.loop-count-preserved
-loop-count-preserved c = rows-turn c.args.counts.now c.loop-count.count-index c.loop-count.rows (omega arith) c.loop-count.invariant
+pub sum-requires-clause-fits : goal.sum-requires-clause-fits
+sum-requires-clause-fits c = let small : sum c.args.counts.now < 4294967296 = omega (arith, sum-is c.args.counts.now, c.requires) in search (rules, sums)
 
 pub returns : goal.returns
-returns c = rows_end c.args.counts.now c.loop-count.count-index c.loop-count.rows (omega arith) c.loop-count.invariant
+returns c = let is : c.sum.result ≡ sum c.args.counts.now = search (rules, sums) in is ∙ sum-is c.args.counts.now

@@ -4,5 +4,5 @@ use Rattle.cost.specs.Histograms.{tallied}
 use Rattle.score_bins.specs.Bins.{lane_cell}
 use Rattle.score_bins.proofs.scan_row.Given as goal
 
-abbrev pub invariant-loop-j : goal.invariant-loop-j
-invariant-loop-j l = l.cells ≡ tallied (lane_cell l.tok l.windows.preds.now l.windows.firsts.now l.windows.offs.now l.base l.row) l.j l.initial.cells
+abbrev pub invariant-loop-lane : goal.invariant-loop-lane
+invariant-loop-lane l = l.cells ≡ tallied (lane_cell l.toks l.lanes l.base) l.lane-index l.initial.cells

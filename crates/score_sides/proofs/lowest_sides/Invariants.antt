@@ -1,7 +1,17 @@
--- `score_sides::lowest_sides` meets its contract: the lowest of the predictors passed. Assumes nothing.
-use Rattle.std.proofs.Common.{◌≡◌}
-use Rattle.score_sides.specs.Lowest.{lane_at, lowest_to}
+-- `score_sides::lowest_sides` meets its contract: the lowest of the lanes passed. Assumes nothing.
+use mathlib.Core.Path.{◌≡◌}
+use Prim.Native.Nat.{◌≤◌}
+use lib.ListN.{length, drop}
+use Rattle.std.specs.Iterator.Adapters.{zip_first, zip_second}
+use Rattle.std.specs.Slice.Iter.{iter_rest}
+use Rattle.score_sides.specs.Lowest.{costs_at, lowest_to}
 use Rattle.score_sides.proofs.lowest_sides.Given as goal
 
-abbrev pub invariant-loop-j : goal.invariant-loop-j
-invariant-loop-j l = l.best ≡ lowest_to (lane_at l.cells l.counts.node.hist.now l.counts.node.alphabet l.counts.windows.preds.now l.counts.windows.firsts.now l.counts.windows.offs.now l.base l.log_le l.log_gt l.counts.logs.now) l.j
+abbrev pub invariant-loop-lane : goal.invariant-loop-lane
+invariant-loop-lane l =
+    (goal.iterator-loop-lane).can_next l.lane-iterator ×
+    (goal.iterator-loop-lane).is_finite l.lane-iterator ×
+    (length l.yielded ≤ length l.counts.windows.lanes.now) ×
+    (iter_rest (zip_first l.lane-iterator) ≡ drop (length l.yielded) l.counts.windows.lanes.now) ×
+    (iter_rest (zip_second l.lane-iterator) ≡ drop (length l.yielded) l.counts.extras.now) ×
+    (l.best ≡ lowest_to (costs_at l.bin l.counts.node.hist.now l.counts.node.alphabet l.counts.windows.lanes.now l.side_logs l.counts.logs.now) (length l.yielded))

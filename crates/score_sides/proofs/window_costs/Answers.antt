@@ -6,8 +6,7 @@ use lib.Ieee.{Float}
 use Prim.Native.Nat.{ℕ, ◌≤◌, ◌+◌}
 use native.Mathlib.Omega.{arith}
 use Rattle.model.specs.Cost.{extra_from}
-use Rattle.cost.proofs.Sums.{single_exact}
-use Rattle.cost.proofs.Sums.{extra_le_rows}
+use Rattle.cost.proofs.Sums.{single_exact, extra_le_rows}
 use Rattle.score_sides.specs.Sides.{rest, SideCounted}
 use Rattle.score_sides.proofs.Sweeps.{few-left, extra-sides, costs-join}
 use Rattle.score_sides.proofs.window_costs.Goals as goal
@@ -25,18 +24,18 @@ bits left node logs first extra result h tokens whole le =
     let few = extra_le_rows first node (omega (arith, h.long)) in
     record { le = le; both = omega arith; small = omega (arith, h.small) }
 
-pub window_extra-le-requires : goal.window_extra-le-requires
-window_extra-le-requires c = (c.requires.left_bound.0, few-left _ _ _ c.requires.side_counted)
+pub extra_bits-le-requires : goal.extra_bits-le-requires
+extra_bits-le-requires c = (c.requires.left_bound.0, few-left _ _ _ c.requires.side_counted)
 
 pub int_to_float-result : goal.int_to_float-result
-int_to_float-result c = single_exact _ (omega (arith, bits _ _ _ _ _ _ c.requires.side_counted c.requires.left_bound.0 c.requires.left_bound.1 c.window_extra-le.ensures))
+int_to_float-result c = single_exact _ (omega (arith, bits _ _ _ _ _ _ c.requires.side_counted c.requires.left_bound.0 c.requires.left_bound.1 c.extra_bits-le.ensures))
 
 pub overflow_sub-result : goal.overflow_sub-result
-overflow_sub-result c = omega (arith, bits _ _ _ _ _ _ c.requires.side_counted c.requires.left_bound.0 c.requires.left_bound.1 c.window_extra-le.ensures)
+overflow_sub-result c = omega (arith, bits _ _ _ _ _ _ c.requires.side_counted c.requires.left_bound.0 c.requires.left_bound.1 c.extra_bits-le.ensures)
 
 pub int_to_float-result-2 : goal.int_to_float-result-2
-int_to_float-result-2 c = single_exact _ (omega (arith, bits _ _ _ _ _ _ c.requires.side_counted c.requires.left_bound.0 c.requires.left_bound.1 c.window_extra-le.ensures))
+int_to_float-result-2 c = single_exact _ (omega (arith, bits _ _ _ _ _ _ c.requires.side_counted c.requires.left_bound.0 c.requires.left_bound.1 c.extra_bits-le.ensures))
 
 pub returns : goal.returns
-returns c = let b = bits _ _ _ _ _ _ c.requires.side_counted c.requires.left_bound.0 c.requires.left_bound.1 c.window_extra-le.ensures in
-    costs-join _ _ _ _ _ _ _ _ _ c.window_entropies-bits.ensures b.le (omega (arith, b))
+returns c = let b = bits _ _ _ _ _ _ c.requires.side_counted c.requires.left_bound.0 c.requires.left_bound.1 c.extra_bits-le.ensures in
+    costs-join _ _ _ _ _ _ _ _ c.window_entropies-bits.ensures b.le (omega (arith, b))

@@ -1,31 +1,42 @@
 -- `score_sides::window_entropies` meets its contract: each sum so far, with the counts that are left, is that side's whole sum. Assumes nothing.
-use mathlib.Core.Path.{sym, ap, ◌∙◌}
+use mathlib.Core.Path.{◌≡◌, sym, ◌∙◌}
+use mathlib.Core.Logic.{inl, inr}
 use native.Mathlib.Omega.{arith}
-use Rattle.model.specs.Single.{singles}
-use Rattle.model.specs.Cost.{with_count}
-use Rattle.cost.proofs.Sums.{entropy_turn, entropy_end}
-use Rattle.score_sides.specs.Sides.{rest, entropies_of}
-use Rattle.score_sides.proofs.Sweeps.{turn, rest-length}
+use lib.ListN.{length}
+use Rattle.std.specs.Iterator.Adapters.{zip_first}
+use Rattle.std.specs.Slice.Iter.{iter_rest}
+use Rattle.score_sides.specs.Sides.{entropies_of}
+use Rattle.score_sides.proofs.Sweeps.{counts-here, counts-left, rest-left, rest-length, entropy-left, entropy-done}
 use Rattle.score_sides.proofs.window_entropies.Goals as goal
 
 pub add_count-le-requires : goal.add_count-le-requires
-add_count-le-requires c = let now = turn c.args.left.now c.args.node.now c.args.logs.now c.loop-t.t c.requires (omega arith) in omega (arith, now)
+add_count-le-requires c =
+    let steps = c.in-Some.ensures.steps in
+    omega (arith, counts-here steps.0 steps.1 c.loop-count.invariant.2)
 
 pub add_count-gt-requires : goal.add_count-gt-requires
-add_count-gt-requires c = let now = turn c.args.left.now c.args.node.now c.args.logs.now c.loop-t.t c.requires (omega arith) in omega (arith, now)
+add_count-gt-requires c =
+    let steps = c.in-Some.ensures.steps in
+    omega (arith, counts-here steps.0 steps.1 c.loop-count.invariant.2)
 
-pub loop-t-preserved : goal.loop-t-preserved
-loop-t-preserved c = let now = turn c.args.left.now c.args.node.now c.args.logs.now c.loop-t.t c.requires (omega arith) in
-    let inv = c.loop-t.invariant in
-    let other = c.add_count-gt.ensures ∙ ap (with_count singles c.args.logs.now c.args.log_gt c.loop-t.gt) (sym now.others) in
-    (entropy_turn _ _ _ _ _ _ _ now.at c.add_count-le.ensures inv.0, entropy_turn _ _ _ _ _ _ _ now.at_rest other inv.1)
+pub loop-count-preserved : goal.loop-count-preserved
+loop-count-preserved c =
+    let steps = c.in-Some.ensures.steps in
+    let inv = c.loop-count.invariant in (
+      (tt, tt),
+      tt,
+      counts-left steps.0 steps.1 inv.2,
+      entropy-left c.args.logs.now c.args.side_logs.le _ steps.0 c.add_count-le.ensures inv.3,
+      entropy-left c.args.logs.now c.args.side_logs.gt _ (rest-left steps.0 steps.1 inv.2) c.add_count-gt.ensures inv.4,
+    )
 
 pub returns : goal.returns
 unfolding entropies_of
-returns c = let inv = c.loop-t.invariant in
-    let left = c.args.left.now in
-    let node = c.args.node.now in
-    let end = rest-length node left c.requires.long in
-    let le = entropy_end _ _ _ _ _ _ c.loop-t-test.false inv.0 in
-    let gt = entropy_end c.args.logs.now c.args.log_gt (rest node left) c.loop-t.t c.loop-t.gt _ (omega arith) inv.1 in
+returns c =
+    let inv = c.loop-count.invariant in
+    let it = c.loop-count.count-iterator in
+    let none : length (iter_rest (zip_first it)) ≡ 0 =
+    elim c.in-None.ensures.steps [ inl s ↦ s.1.0 | inr s ↦ sym inv.2.long ∙ s.1.0 ] in
+    let le = entropy-done c.args.logs.now c.args.side_logs.le _ none inv.3 in
+    let gt = entropy-done c.args.logs.now c.args.side_logs.gt _ (rest-length _ _ inv.2.long ∙ none) inv.4 in
     cc

@@ -1,10 +1,17 @@
 -- `score_sides::window_entropies` meets its contract: each sum so far, with the counts that are left, is that side's whole sum. Assumes nothing.
-use Rattle.std.proofs.Common.{◌≡◌, drop}
+use mathlib.Core.Path.{◌≡◌}
+use Rattle.std.specs.Iterator.Adapters.{zip_first, zip_second}
+use Rattle.std.specs.Slice.Iter.{iter_rest}
 use Rattle.model.specs.Single.{singles}
 use Rattle.model.specs.Cost.{entropy_from}
-use Rattle.score_sides.specs.Sides.{rest}
+use Rattle.score_sides.specs.Sides.{rest, SideCounted}
 use Rattle.score_sides.proofs.window_entropies.Given as goal
 
-abbrev pub invariant-loop-t : goal.invariant-loop-t
-invariant-loop-t l = (entropy_from singles l.logs l.log_le l.le (drop l.t l.left) ≡ entropy_from singles l.logs l.log_le singles.nought l.left)
-    × (entropy_from singles l.logs l.log_gt l.gt (drop l.t (rest l.node l.left)) ≡ entropy_from singles l.logs l.log_gt singles.nought (rest l.node l.left))
+abbrev pub invariant-loop-count : goal.invariant-loop-count
+invariant-loop-count l =
+    (goal.iterator-loop-count).can_next l.count-iterator ×
+    (goal.iterator-loop-count).is_finite l.count-iterator ×
+    SideCounted (iter_rest (zip_first l.count-iterator)) (iter_rest (zip_second l.count-iterator)) l.logs ×
+    (entropy_from singles l.logs l.side_logs.le l.le (iter_rest (zip_first l.count-iterator)) ≡ entropy_from singles l.logs l.side_logs.le singles.nought l.left) ×
+    (entropy_from singles l.logs l.side_logs.gt l.gt (rest (iter_rest (zip_second l.count-iterator)) (iter_rest (zip_first l.count-iterator)))
+    ≡ entropy_from singles l.logs l.side_logs.gt singles.nought (rest l.hist l.left))
