@@ -33,7 +33,8 @@ pub fn breadth_order(tree: &[MaNode], order: &mut [u32])
     order[0] = 0;
     let mut end: usize = 1;
     let mut head: usize = 0;
-    // Stays: the list that is gone over is written at its end meanwhile, which no iterator over it allows.
+    // Stays: the list that is gone over is written at its end meanwhile, which no iterator over it allows; and that it
+    // never runs out before every node stands in it is known only at the end.
     while head < end {
         end = queue_children(&tree[order[head] as usize], order, end);
         head += 1;

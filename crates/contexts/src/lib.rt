@@ -2,7 +2,7 @@
 // leaves numbered along the order of the nodes, which is written into the lent queue.
 #![tactic(auto)]
 
-ghost use Rattle.std.specs.Prelude.{◌≡◌, ◌<◌, length, map};
+ghost use Rattle.std.specs.Prelude.{◌≡◌, map};
 ghost use Rattle.model.specs.Tree.{nodes_of};
 ghost use Rattle.model.specs.Learn.{leaf_count};
 ghost use Rattle.model.specs.Contexts.{contexts_of};
@@ -16,6 +16,7 @@ use layout::{MaNode, NodeNumber};
 use model::Refusal;
 
 // What a split has in place of a context.
+// Stays: a number and no Option, since the C interface lends the contexts as a list of numbers.
 const NO_CONTEXT: u32 = 4294967295;
 
 // A leaf's context: a type apart from a node's number, so that a context never indexes the node list.
@@ -48,6 +49,7 @@ fn number_leaves(tree: &[MaNode], contexts: &mut [u32], queue: &mut [u32]) -> u3
 {
     contexts.fill(NO_CONTEXT);
     breadth::breadth_order(tree, queue);
+    // Stays: counted by hand, since how many were given is the answer, and no `enumerate` says that after its loop.
     let mut next = LeafContext(0);
     for i in queue.iter() {
         next = give_context(&tree[*i as usize], NodeNumber(*i), next, contexts);
@@ -70,13 +72,14 @@ pub fn leaf_contexts(
     if nodes.len() < n {
         return Err(Refusal::UnsoundTree(0));
     }
-    if let Some(node) = tree::fault_of(nodes, count) {
+    let tree = &nodes[..n];
+    if let Some(node) = tree::fault_of(tree) {
         return Err(Refusal::UnsoundTree(node));
     }
     if (contexts.len() < n) | (queue.len() < n) {
         return Err(Refusal::ShortOfRoom);
     }
-    let leaves = number_leaves(&nodes[..n], &mut contexts[..n], &mut queue[..n]);
+    let leaves = number_leaves(tree, &mut contexts[..n], &mut queue[..n]);
     queue.fill(0);
     Ok(leaves)
 }

@@ -1,2 +1,3 @@
--- `Ordering`: rows ordered by leaf in the count space.
+-- `Seeds`: what a sound seed says. `Ordering`: rows ordered by leaf in the count space.
+pub mod Seeds
 pub mod Ordering

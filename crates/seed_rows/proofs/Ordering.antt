@@ -16,13 +16,12 @@ use Rattle.layout.specs.declared.Span.{Span}
 use Rattle.layout.specs.Tree.{NodeLists, node_lists}
 use Rattle.order.specs.Order.{Ordering, ordering, ordered, ordered_by, first_of, spans_of}
 use Rattle.order.specs.Leaves.{leaf_numbers}
-use Rattle.order.specs.Space.{Holds, blank}
+use Rattle.order.specs.Space.{numbers_for, Holds, blank}
 use Rattle.order.proofs.Placing.{span-first, span-end}
 use Rattle.rows.specs.Cells.{span}
 use Rattle.rows.specs.Flat.{Flat, held_in, row_count}
 use Rattle.rows.proofs.Cells.{length-held}
-use Rattle.tree.specs.Trees.{SoundTree}
-use Rattle.tree.proofs.Soundness.{few}
+use Rattle.seed_rows.proofs.Seeds.{few}
 use Rattle.seed_rows.specs.Ordered.{seed_in, nodes_in, numbers_in, Orderable, Pairs, SpansOf}
 
 -- ---- zeros
@@ -41,7 +40,7 @@ below_all f count low [] i h = absurd (omega arith)
 below_all f count low (r ∷ l) zero h = low r
 below_all f count low (r ∷ l) (suc i) h = below_all f count low l i (omega arith)
 
-module _ {x : Flat} {n : NodeLists} {counts : List ℕ} {rows count : ℕ} (o : Orderable x n counts rows count) where
+module _ {x : Flat} {n : NodeLists} {counts : List ℕ} {rows count : ℕ} (o : Orderable x n counts count) (counted : rows ≡ row_count x) where
   abbrev ends : ℕ
   ends = rows + count
 
@@ -51,14 +50,11 @@ module _ {x : Flat} {n : NodeLists} {counts : List ℕ} {rows count : ℕ} (o : 
   abbrev ks : List ℕ
   ks = numbers_in count n (held_in x)
 
-  sound : SoundTree n.nodes count
-  sound = record { held = o.room.nodes; faultless = o.sound }
-
-  pub count-few : count ≤ 8191
-  count-few = (few n.nodes count sound).1
+  some : (0 < count) × (count ≤ 8191)
+  some = few n.nodes count o.room.nodes o.sound
 
   rows_long : length (held_in x) ≡ rows
-  rows_long = length-held x.props x.toks x.res ∙ sym o.counted
+  rows_long = length-held x.props x.toks x.res ∙ sym counted
 
   -- ---- the numbers
   module _ (nums : List ℕ) (is : nums ≡ ks) where
@@ -80,8 +76,8 @@ module _ {x : Flat} {n : NodeLists} {counts : List ℕ} {rows count : ℕ} (o : 
         let stored : List (Stored singles) = take count (map stored_of n.nodes) in
         let all : length (nodes_in count n) ≡ count = length-map (seed_in count n) (λ (r : Record singles). r.node)
         ∙ length-map stored record_in ∙ length-take-le count (map stored_of n.nodes) (omega (arith, length-map n.nodes stored_of, o.room.nodes)) in
-        let some : 0 < length (nodes_in count n) = omega (arith, (few n.nodes count sound).0) in
-        rw all at (reached-leaf (nodes_in count n) (model.sound (seed_in count n) o.sound).rooted.family.forward some r.props).1
+        let root : 0 < length (nodes_in count n) = omega (arith, some.0) in
+        rw all at (reached-leaf (nodes_in count n) (model.sound (seed_in count n) o.sound).rooted.family.forward root r.props).1
 
     rest-zeros : drop rows counts ≡ replicate (length counts - rows) 0
     rest-zeros = ap (drop rows) o.zeros ∙ drop-zeros rows (length counts)
@@ -89,7 +85,7 @@ module _ {x : Flat} {n : NodeLists} {counts : List ℕ} {rows count : ℕ} (o : 
     space-is : space1 ≡ nums ++ (replicate count 0 ++ replicate count 0)
     space-is =
         let at : space ≡ length nums + (count + count) = omega (arith, long) in
-        let fits : count + count ≤ length counts - rows = omega (arith, o.space) in
+        let fits : count + count ≤ length counts - rows = omega (arith, counted, o.space) in
         ap (λ (k : ℕ). take k counts1) at ∙ take-append-add nums (drop rows counts) (count + count)
         ∙ ap (λ (l : List ℕ). nums ++ l) (ap (take (count + count)) rest-zeros ∙ take-zeros (count + count) (length counts - rows) fits
         ∙ sym (replicate-append-replicate count count 0))
@@ -100,21 +96,28 @@ module _ {x : Flat} {n : NodeLists} {counts : List ℕ} {rows count : ℕ} (o : 
     front-is : take rows space1 ≡ nums
     front-is = ap (take rows) space-is ∙ take_at nums (replicate count 0 ++ replicate count 0) rows long
 
-    pub hold-space : Holds blank (row_count x) count space1
+    -- the space is for as many numbers as the seed has nodes
+    numbers-are : numbers_for (row_count x) space1 ≡ count
+    numbers-are = rw (← counted, space-long) (omega arith)
+
+    pub hold-space : Holds blank (row_count x) (numbers_for (row_count x) space1) space1
     unfolding blank
-    hold-space = subst (λ (k : ℕ). Holds blank k count space1) o.counted (record {
+    hold-space = rw numbers-are (subst (λ (k : ℕ). Holds blank k count space1) counted (record {
       numbered = record {
         long = omega (arith, space-long);
-        few = omega (arith, o.few, o.counted);
+        few = omega (arith, o.few, counted);
         below = λ i h. rw (space-is, get_or-append nums (replicate count 0 ++ replicate count 0) 0 i (omega (arith, long)), numbers-read)
             (below_all (λ (r : Row). leaf_reached (nodes_in count n) r.props) count low (held_in x) i (omega (arith, rows_long)));
       };
       is = space-is ∙ ap (λ (l : List ℕ). l ++ (replicate count 0 ++ replicate count 0)) (sym front-is);
-    })
+    }))
 
     -- ---- what the ordering leaves
     module _ (rows' : List Row) (space2 : List ℕ) (size2 : length space2 ≡ length space1)
-        (done : ordering rows' space2 ≡ ordered count (ordering (held_in x) space1)) where
+        (ran : ordering rows' space2 ≡ ordered (numbers_for (row_count x) space1) (ordering (held_in x) space1)) where
+      done : ordering rows' space2 ≡ ordered count (ordering (held_in x) space1)
+      done = ran ∙ ap (λ (k : ℕ). ordered k (ordering (held_in x) space1)) numbers-are
+
       abbrev counts2 : List ℕ
       counts2 = space2 ++ drop space counts1
 

@@ -49,13 +49,12 @@ pub record Pairs (firsts ends : List ℕ) (spans spans' : List Span) : Type 0 wh
   pub pair : (i : ℕ) → i < length firsts → get_or spans' i no_span_record ≡ record { first = get_or firsts i 0; end = get_or ends i 0 }
 
 -- a sound seed with its rows, and room to order the rows in: count space that is all 0
-pub record Orderable (x : Flat) (n : NodeLists) (counts : List ℕ) (rows count : ℕ) : Type 0 where
+pub record Orderable (x : Flat) (n : NodeLists) (counts : List ℕ) (count : ℕ) : Type 0 where
   pub shaped : Shaped x
   pub few : row_count x ≤ max_rows
-  pub counted : rows ≡ row_count x
   pub sound : fault_of (seed_in count n) ≡ none
   pub room : HasRoom count n
-  pub space : rows + 2 * count ≤ length counts
+  pub space : row_count x + 2 * count ≤ length counts
   pub zeros : counts ≡ replicate (length counts) 0
 
 -- beside the first nodes stand the spans of the rows with number 0, 1, ..; the nodes are as they were, and so is what lies past them

@@ -1,36 +1,40 @@
 -- The search for the lowest node at fault, node by node. Assumes nothing.
-use mathlib.Core.Path.{◌≡◌}
-use Prim.Native.Nat.{ℕ, suc, ◌≤◌, ◌<◌}
+use mathlib.Core.Path.{◌≡◌, refl, sym, ◌∙◌}
+use Prim.Native.Nat.{ℕ, zero, suc, ◌+◌, ◌≤◌, ◌<◌}
+use native.Mathlib.Numerals.{add-one}
 use native.Mathlib.Omega.{arith}
-use mathlib.Core.Bool.{true, false, ◌||◌}
-use mathlib.Core.List.{List, ◌∷◌, map}
-use mathlib.Core.Option.{none, some}
-use lib.ListN.{length, get_or, take, drop, drop_of_length-le}
+use mathlib.Core.Bool.{Bool, true, false, not, ◌||◌}
+use mathlib.Core.List.{List, ◌∷◌}
+use mathlib.Core.Option.{Option, none, some}
+use lib.ListN.{length, get_or, drop, drop_of_length-le}
 use lib.Seq.{drop-cons}
 use lib.Dec.{eqb, ltb}
+use Rattle.std.specs.List.{zip, enumerate_from, position_from}
 use Rattle.model.specs.Settings.{max_nodes}
 use Rattle.model.specs.Single.{singles}
 use Rattle.model.specs.Tree.{Record, blank_record, nodes_of, is_fine, fault_from, fault_of}
-use Rattle.model.specs.Lent.{tree_in}
-use Rattle.layout.specs.Records.{stored_of, node_is, no_record}
+use Rattle.layout.specs.Records.{node_is, no_record}
 use Rattle.layout.specs.declared.MaNode.{MaNode}
+use Rattle.tree.specs.Answers.{fault_named}
 use Rattle.tree.specs.Trees.{records_in, is_fine_in, Counted}
-use Rattle.tree.proofs.Entries.{records-length, nodes-length, nodes-each, record_at_lem, tree-is, tree-length}
+use Rattle.tree.proofs.Entries.{records-length, nodes-length, nodes-each, record_at_lem}
 
--- ---- the count
-module _ (nodes : List MaNode) (count : ℕ) (held : count ≤ length nodes) where
-  pub fault-count : (eqb count 0 || ltb max_nodes count) ≡ true → fault_of (tree_in count (map stored_of nodes)) ≡ some 0
-  unfolding fault_of
-  fault-count e = rw (tree-length nodes count held, e)
-
-  pub fault-nodes : (eqb count 0 || ltb max_nodes count) ≡ false
-      → fault_of (tree_in count (map stored_of nodes)) ≡ fault_from (nodes_of (records_in (take count nodes))) 0 (records_in (take count nodes))
-  unfolding fault_of
-  fault-nodes e = rw (tree-length nodes count held, e, tree-is nodes count)
+-- the node, numbered and beside its count of parents, is at fault in a tree of so many
+abbrev pub is_misfit : ℕ → ℕ × (MaNode × ℕ) → Bool
+is_misfit count p = not (is_fine_in count p.0 p.1.1 p.1.0)
 
 module _ (t : List MaNode) where
   abbrev rs : List (Record singles)
   rs = records_in t
+
+  -- ---- the count
+  pub fault-count : (eqb (length t) 0 || ltb max_nodes (length t)) ≡ true → fault_of rs ≡ some 0
+  unfolding fault_of
+  fault-count e = rw (records-length t, e)
+
+  pub fault-nodes : (eqb (length t) 0 || ltb max_nodes (length t)) ≡ false → fault_of rs ≡ fault_from (nodes_of rs) 0 rs
+  unfolding fault_of
+  fault-nodes e = rw (records-length t, e)
 
   -- ---- one node
   module _ (parents : List ℕ) (counted : Counted t parents) (i : ℕ) (inside : i < length t) where
@@ -55,3 +59,27 @@ module _ (t : List MaNode) where
   pub fault-none : (i : ℕ) → i ≡ length t → fault_from (nodes_of rs) i (drop i rs) ≡ none
   unfolding fault_from
   fault-none i e = let out : length rs ≤ i = omega (arith, records-length t) in rw (drop_of_length-le rs out)
+
+  -- ---- the first misfit from node i on
+  module _ (parents : List ℕ) (counted : Counted t parents) where
+    abbrev misfit_from : ℕ → Option ℕ
+    misfit_from i = fault_named (position_from (is_misfit (length t)) i (enumerate_from i (zip (drop i t) (drop i parents))))
+
+    misfit-step : (i : ℕ) → i < length t → misfit_from (suc i) ≡ fault_from (nodes_of rs) (suc i) (drop (suc i) rs) → misfit_from i ≡ fault_from (nodes_of rs) i (drop i rs)
+    misfit-step i inside later = go (is_fine_in (length t) i (get_or parents i 0) (get_or t i no_record)) refl
+      where
+        room : i < length parents
+        room = rw counted.places inside
+
+        go : (b : Bool) → is_fine_in (length t) i (get_or parents i 0) (get_or t i no_record) ≡ b → misfit_from i ≡ fault_from (nodes_of rs) i (drop i rs)
+        go true e = rw (drop-cons t i no_record inside, drop-cons parents i 0 room, e, add-one) (later ∙ sym (fault-later parents counted i inside e))
+        go false e = rw (drop-cons t i no_record inside, drop-cons parents i 0 room, e) (sym (fault-here parents counted i inside e))
+
+    misfit-found : (n i : ℕ) → i + n ≡ length t → misfit_from i ≡ fault_from (nodes_of rs) i (drop i rs)
+    misfit-found zero i e =
+        let out : length t ≤ i = omega arith in
+        rw (drop_of_length-le t out) (sym (fault-none i (omega arith)))
+    misfit-found (suc n) i e = misfit-step i (omega arith) (misfit-found n (suc i) (omega arith))
+
+    pub first-misfit : misfit_from 0 ≡ fault_from (nodes_of rs) 0 rs
+    first-misfit = misfit-found (length t) 0 (omega arith)

@@ -5,7 +5,7 @@ use native.Mathlib.Numerals.{add-one}
 use native.Mathlib.Omega.{arith}
 use mathlib.Core.Bool.{cond}
 use mathlib.Core.List.{List, [], ◌∷◌, ◌++◌, map, map-append}
-use lib.ListN.{length, get_or, take, replicate, get_or-replicate}
+use lib.ListN.{length, get_or, take}
 use lib.Seq.{take-suc, length-take-le}
 use Rattle.std.proofs.lemmas.List.{length-map}
 use Rattle.model.specs.Tree.{has_child}
@@ -13,9 +13,6 @@ use Rattle.model.proofs.Counting.{count_append, count_at_most}
 use Rattle.layout.specs.Records.{node_is, no_record}
 use Rattle.layout.specs.declared.MaNode.{MaNode}
 use Rattle.tree.specs.Trees.{CountsParents, AtMost}
-
-pub counts-none : (n : ℕ) → CountsParents [] (replicate n 0)
-counts-none n k h = get_or-replicate n k 0 0 (omega (arith, lib.ListN.length-replicate {A = ℕ} n 0))
 
 module _ (t : List MaNode) (n : ℕ) where
   pub counts-low : (parents : List ℕ) → n ≤ length t → CountsParents (take n t) parents → AtMost n parents

@@ -1,19 +1,19 @@
 -- What the records of a sound tree say. Assumes nothing.
-use mathlib.Core.Path.{◌≡◌, sym, ap, ◌∙◌}
+use mathlib.Core.Path.{◌≡◌}
 use Prim.Native.Nat.{ℕ, ◌≤◌, ◌<◌}
 use native.Mathlib.Omega.{arith}
 use mathlib.Core.Bool.{true}
 use mathlib.Core.List.{List}
-use lib.ListN.{length, get_or, take}
+use lib.ListN.{length, get_or}
 use lib.Dec.{eqb, ltb→lt}
 use Rattle.model.specs.Settings.{props_per_row, max_nodes}
-use Rattle.model.specs.Tree.{split, blank_record, nodes_of, fault_of}
+use Rattle.model.specs.Tree.{split, blank_record, nodes_of}
 use Rattle.model.specs.Family.{Forward}
 use Rattle.model.proofs.Sound as model
 use Rattle.layout.specs.Records.{no_record}
 use Rattle.layout.specs.declared.MaNode.{MaNode}
-use Rattle.tree.specs.Trees.{records_in, IsSound, SoundTree, AtMost, Deepens}
-use Rattle.tree.proofs.Entries.{records-length, record_at_lem, nodes-length, node_at_lem, tree-is, front-length}
+use Rattle.tree.specs.Trees.{records_in, IsSound, AtMost, Deepens}
+use Rattle.tree.proofs.Entries.{records-length, record_at_lem, nodes-length, node_at_lem}
 
 module _ (t : List MaNode) (is : IsSound t) where
   pub all_sound : model.Sound (records_in t)
@@ -30,22 +30,13 @@ module _ (t : List MaNode) (is : IsSound t) where
       let prop = rw (record_at_lem t i blank_record h, k) at (all_sound.fits i inside) in
       (ltb→lt (get_or t i no_record).prop props_per_row prop, rw (nodes-length t, node_at_lem t i h, k) at (all_sound.rooted.family.forward i among))
 
--- the first `count` records
-module _ (nodes : List MaNode) (count : ℕ) (is : SoundTree nodes count) where
-  pub front-sound : IsSound (take count nodes)
-  front-sound = ap fault_of (sym (tree-is nodes count)) ∙ is.faultless
-
-  pub few : (0 < count) × (count ≤ max_nodes)
-  few = rw (front-length nodes count is.held) at (some_nodes (take count nodes) front-sound)
-
   -- a node's depth may be written, and its children's
-  pub deepens : (i : ℕ) (out : List ℕ) → length out ≡ length (take count nodes) → AtMost i out → i < length (take count nodes)
-      → Deepens (get_or (take count nodes) i no_record) i out
+  pub deepens : (i : ℕ) (out : List ℕ) → length out ≡ length t → AtMost i out → i < length t → Deepens (get_or t i no_record) i out
   deepens i out long low inside =
-      let many = (some_nodes (take count nodes) front-sound).1 in
+      let many = some_nodes.1 in
       let place : i < length out = omega arith in
       record {
         place = place;
         shallow = omega (arith, low i place);
-        children = λ is. let fits = (node_fits (take count nodes) front-sound i inside is).1 in (omega arith, omega arith);
+        children = λ is. let fits = (node_fits i inside is).1 in (omega arith, omega arith);
       }

@@ -1,3 +1,3 @@
--- `Trees`: trees at the front of the lists. `Answers`: what the operations' answers say.
+-- `Trees`: trees as lists of records. `Answers`: what the operations' answers say.
 pub mod Trees
 pub mod Answers

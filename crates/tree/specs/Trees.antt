@@ -1,4 +1,4 @@
--- Trees at the front of the node list: what the functions on them ask for. Assumes nothing.
+-- Trees as lists of records: what the functions on them ask for. Assumes nothing.
 use Rattle.std.specs.Prelude.{ℕ, ◌+◌, ◌*◌, ◌≤◌, ◌<◌, ◌≡◌, Bool, true, ◌&&◌, ◌||◌, List, map, length, get_or, set, ℤ, eqb}
 use Rattle.std.proofs.Math.Option.{none}
 use Rattle.model.specs.Lists.{count_if}
@@ -6,7 +6,7 @@ use Rattle.model.specs.Settings.{props_per_row, max_nodes}
 use Rattle.model.specs.Rows.{Row}
 use Rattle.model.specs.Single.{singles}
 use Rattle.model.specs.Tree.{Node, split, leaf, Record, nodes_of, leaf_reached, is_orderly, has_child, has_two_children, fault_of}
-use Rattle.model.specs.Lent.{record_in, tree_in}
+use Rattle.model.specs.Lent.{record_in}
 use Rattle.layout.specs.Records.{stored_of, node_is}
 use Rattle.layout.specs.declared.MaNode.{MaNode}
 
@@ -18,14 +18,9 @@ records_in tree = map (λ (m : MaNode). record_in (stored_of m)) tree
 abbrev pub is_fine_in : ℕ → ℕ → ℕ → MaNode → Bool
 is_fine_in count i parents m = is_orderly count i m.info.pred (node_is m) && (has_two_children (node_is m) && (eqb i 0 || eqb parents 1))
 
--- the records are a sound tree
+-- the records are a sound tree (document 01, 8 of deepening)
 abbrev pub IsSound : List MaNode → Type 0
 IsSound tree = fault_of (records_in tree) ≡ none
-
--- the first `count` nodes are a sound tree (document 01, 8 of deepening)
-pub record SoundTree (nodes : List MaNode) (count : ℕ) : Type 0 where
-  pub held : count ≤ length nodes
-  pub faultless : fault_of (tree_in count (map stored_of nodes)) ≡ none
 
 -- ---- lookup
 -- a sound tree, and the properties of one row
@@ -38,8 +33,8 @@ abbrev pub leaf_numbers : List (Record singles) → List Row → List ℕ
 leaf_numbers tree rows = map (λ (r : Row). leaf_reached (nodes_of tree) r.props) rows
 
 -- the same with the properties of all rows, and a place for each row's leaf
-pub record AllRoutable (nodes : List MaNode) (count : ℕ) (props : List ℤ) (number : List ℕ) : Type 0 where
-  pub sound : SoundTree nodes count
+pub record AllRoutable (tree : List MaNode) (props : List ℤ) (number : List ℕ) : Type 0 where
+  pub sound : IsSound tree
   pub rows : length props ≡ length number * props_per_row
 
 -- ---- soundness
@@ -70,6 +65,6 @@ pub record Deepens (m : MaNode) (i : ℕ) (depths : List ℕ) : Type 0 where
   pub children : eqb m.kind 1 ≡ true → (m.gt < length depths) × (m.le < length depths)
 
 -- a sound tree, and a place for the depth of each of its nodes
-pub record Measurable (nodes : List MaNode) (count : ℕ) (depths : List ℕ) : Type 0 where
-  pub sound : SoundTree nodes count
-  pub places : length depths ≡ count
+pub record Measurable (tree : List MaNode) (depths : List ℕ) : Type 0 where
+  pub sound : IsSound tree
+  pub places : length depths ≡ length tree

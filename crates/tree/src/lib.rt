@@ -1,37 +1,46 @@
-// Trees in the caller's records: which are sound, where a lookup ends, and how deep each node lies.
-// The nodes of a tree stand at the front of the list; `count` says how many there are.
+// Trees of the caller's records: which are sound, where a lookup ends, and how deep each node lies. A tree is the slice
+// of its nodes.
 #![tactic(auto)]
 
-ghost use Rattle.std.specs.Prelude.{◌≡◌, ℕ, ◌+◌, ◌-◌, ◌≤◌, ◌<◌, cond, List, length, get_or, map, replicate, ℤ, eqb};
+ghost use Rattle.std.specs.Prelude.{◌≡◌, true, ℕ, ◌+◌, ◌-◌, ◌≤◌, ◌<◌, cond, List, length, get_or, replicate, ℤ, eqb};
 ghost use Rattle.model.specs.Settings.{max_nodes};
 ghost use Rattle.model.specs.Rows.{rows_of};
 ghost use Rattle.model.specs.Tree.{nodes_of, is_orderly, has_child, has_two_children, fault_from, fault_of};
 ghost use Rattle.model.specs.Tree.{towards, leaf_reached};
-ghost use Rattle.model.specs.Lent.{tree_in};
 ghost use Rattle.model.specs.Deepen.{depths_of};
-ghost use Rattle.layout.specs.Records.{stored_of, node_is};
+ghost use Rattle.layout.specs.Records.{node_is};
 ghost use Rattle.tree.specs.Trees.{records_in, is_fine_in, Routable, leaf_numbers, AllRoutable};
-ghost use Rattle.tree.specs.Trees.{AtMost, Counted, deeper, Deepens, Measurable, IsSound};
+ghost use Rattle.tree.specs.Trees.{AtMost, Counted, deeper, Deepens, Measurable};
 ghost use Rattle.tree.specs.Answers.{fault_named};
 
 use layout::{MaNode, NodeNumber};
 
-// The node's own fields are in range: of a split, the property is below 24 and both children stand behind it, below
-// the count; of a leaf, the predictor is below 14.
-fn is_orderly(node: &MaNode, i: usize, count: usize) -> bool
+// Whether a split is in order: its property is below 24, and both children stand behind it, below the count.
+pub fn is_orderly_split(node: &MaNode, i: usize, count: usize) -> bool
+    requires { eqb node.now.kind 1 ≡ true }
+    ensures { result ≡ is_orderly count i node.now.info.pred (node_is node.now) }
+{
+    let gt = node.gt as usize;
+    let le = node.le as usize;
+    ((node.prop as usize) < model::NUM_MA_PROPS)
+        & (((i < gt) & (i < le)) & ((gt < count) & (le < count)))
+}
+
+// Whether a node is in order: a split as above, and of a leaf the predictor is below 14.
+pub fn is_orderly(node: &MaNode, i: usize, count: usize) -> bool
     ensures { result ≡ is_orderly count i node.now.info.pred (node_is node.now) }
 {
     if node.is_split() {
-        let gt = node.gt as usize;
-        let le = node.le as usize;
-        return ((node.prop as usize) < model::NUM_MA_PROPS)
-            & (((i < gt) & (i < le)) & ((gt < count) & (le < count)));
+        return is_orderly_split(node, i, count);
     }
     (node.info.pred as usize) < model::NUM_MA_PREDS
 }
 
 // One step down from a split: a property above the value leads to gt, else to le.
-fn towards(props: &[i32], node: &MaNode) -> NodeNumber
+// Inlined before all else, so that the step chooses between children that the test for order has read: a lookup takes a
+// quarter longer where it reads the one chosen anew.
+#[inline(always)]
+pub fn towards(props: &[i32], node: &MaNode) -> NodeNumber
     requires { node.now.prop < length props.now }
     ensures { result.0 ≡ towards props.now node.now.prop node.now.val node.now.gt node.now.le }
 {
@@ -48,7 +57,7 @@ fn leaf_reached(props: &[i32], tree: &[MaNode]) -> NodeNumber
     ensures { result.0 ≡ leaf_reached (nodes_of (records_in tree.now)) props.now }
 {
     let mut node = NodeNumber(0);
-    // Stays: a walk from node to node counts nothing.
+    // Stays: the next node is known only once this one is read, which no iterator says plainer.
     while tree[node.0 as usize].is_split() {
         node = towards(props, &tree[node.0 as usize]);
     }
@@ -56,13 +65,13 @@ fn leaf_reached(props: &[i32], tree: &[MaNode]) -> NodeNumber
 }
 
 // The leaf that each row reaches.
-pub fn leaf_numbers(props: &[i32], nodes: &[MaNode], number: &mut [u32], count: u32)
-    requires { AllRoutable nodes.now count props.now number.old }
+pub fn leaf_numbers(props: &[i32], tree: &[MaNode], number: &mut [u32])
+    requires { AllRoutable tree.now props.now number.old }
     ensures { (toks : List ℕ) (res : List ℤ) → number.new
-        ≡ leaf_numbers (tree_in count (map stored_of nodes.now))
-        (rows_of (length number.old) props.now toks res) }
+        ≡ leaf_numbers (records_in tree.now) (rows_of (length number.old) props.now toks res) }
 {
-    let tree = &nodes[..count as usize];
+    // Stays: the properties by number, as the leaves would be in a loop over `chunks_exact`: of a list that is written
+    // through a `zip` of its `iter_mut` a proof knows only the length (`returns` stays open).
     for (row, leaf) in number.iter_mut().enumerate() {
         let at = row * model::NUM_MA_PROPS;
         *leaf = leaf_reached(&props[at..at + model::NUM_MA_PROPS], tree).0;
@@ -125,27 +134,24 @@ fn lowest_fault(tree: &[MaNode], parents: &[u16]) -> Option<u32>
     ensures { fault_named result
         ≡ fault_from (nodes_of (records_in tree.now)) 0 (records_in tree.now) }
 {
-    for (i, node) in tree.iter().enumerate() {
-        if !is_fine(node, i, tree.len(), parents[i]) {
-            return Some(i as u32);
-        }
-    }
-    None
+    let count = tree.len();
+    let mut nodes = tree.iter().zip(parents).enumerate();
+    let fault = nodes.position(|(i, (node, parents))| !is_fine(node, i, count, *parents))?;
+    Some(fault as u32)
 }
 
-// The lowest node at fault of the first `count`, or none where they are a sound tree; node 0 stands for a wrong count.
-// The parents are counted in a local list: a fault is a refusal, after which every lent list reads as before, and the
-// lists lent for contexts may be too short, since an unsound tree is named before too little room.
-pub fn fault_of(nodes: &[MaNode], count: u32) -> Option<u32>
-    requires { count ≤ length nodes.now }
-    ensures { fault_named result ≡ fault_of (tree_in count (map stored_of nodes.now)) }
+// The lowest node at fault, or none where the tree is sound; node 0 stands for a wrong count. The parents are counted
+// in a local list: a fault is a refusal, after which every lent list reads as before, and the lists lent for contexts
+// may be too short, since an unsound tree is named before too little room.
+pub fn fault_of(tree: &[MaNode]) -> Option<u32>
+    ensures { fault_named result ≡ fault_of (records_in tree.now) }
 {
-    if (count == 0) | (layout::MAX_NODES < count as usize) {
+    let count = tree.len();
+    if (count == 0) | (layout::MAX_NODES < count) {
         return Some(0);
     }
-    let tree = &nodes[..count as usize];
     let mut counted = [0u16; layout::MAX_NODES];
-    let parents = &mut counted[..count as usize];
+    let parents = &mut counted[..count];
     count_parents(tree, parents);
     lowest_fault(tree, parents)
 }
@@ -163,11 +169,10 @@ fn lower_children(node: &MaNode, i: usize, out: &mut [u32])
 }
 
 // The depth of each node of a sound tree. Children stand behind their split, so one pass in ascending order does.
-pub fn depths(nodes: &[MaNode], count: u32, out: &mut [u32])
-    requires { Measurable nodes.now count out.old }
-    ensures { out.new ≡ depths_of (nodes_of (tree_in count (map stored_of nodes.now))) }
+pub fn depths(tree: &[MaNode], out: &mut [u32])
+    requires { Measurable tree.now out.old }
+    ensures { out.new ≡ depths_of (nodes_of (records_in tree.now)) }
 {
-    let tree = &nodes[..count as usize];
     out.fill(0);
     for (i, node) in tree.iter().enumerate() {
         lower_children(node, i, out);

@@ -5,4 +5,4 @@ use Rattle.seed_rows.proofs.pair_spans.Given as goal
 
 abbrev pub invariant-loop-k : goal.invariant-loop-k
 invariant-loop-k l = (length l.spans ≡ length l.initial.spans) × (drop (length l.firsts) l.spans ≡ drop (length l.firsts) l.initial.spans)
-    × ((i : ℕ) → i < l.k → get_or l.spans i no_span_record ≡ record { first = get_or l.firsts i 0; end = get_or l.ends i 0 })
+    × ((i : ℕ) → i < length l.yielded → get_or l.spans i no_span_record ≡ record { first = get_or l.firsts i 0; end = get_or l.ends i 0 })

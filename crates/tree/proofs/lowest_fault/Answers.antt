@@ -1,18 +1,28 @@
--- `tree::lowest_fault` meets its contract. Assumes nothing.
-use Rattle.std.proofs.Common.{◌<◌, length, arith, ◌∙◌, sym}
-use native.Mathlib.Numerals.{add-one}
-use Rattle.tree.proofs.Faults.{fault-later, fault-here, fault-none}
+-- `tree::lowest_fault` meets its contract: the place of the first node that is not fine is the fault found from node 0 on. Assumes nothing.
+use Rattle.std.proofs.Common.{◌≡◌, length, sym, ap, ◌∙◌, rules, tests}
+use Rattle.std.specs.List.{zip, enumerate_from, position_from}
+use Rattle.std.proofs.lemmas.Iterator.{YieldsList-from_slice, YieldsList-from_zip}
+use Rattle.std.proofs.lemmas.Iterator.Consumers.{YieldsList-from_enumerate}
+use Rattle.std.proofs.lemmas.Iterator.Search.{position_from_yields_List}
+use Rattle.std.proofs.lemmas.Iterator.Adapters.{position_from-zero}
+use Rattle.tree.specs.Answers.{fault_named}
+use Rattle.tree.proofs.Faults.{is_misfit, first-misfit}
 use Rattle.tree.proofs.lowest_fault.Goals as goal
+use Rattle.tree.proofs.lowest_fault.Goals.{After-position}
 
-pub returns-then-not-is_fine : goal.returns-then-not-is_fine
-returns-then-not-is_fine c = let l = c.loop-i in
-    let inside : l.i < length c.args.tree.now = omega arith in
-    sym (l.invariant ∙ fault-here c.args.tree.now c.args.parents.now c.requires l.i inside (sym c.is_fine.ensures ∙ c.if-not-is_fine.true))
+place : (c : After-position) → let n = length c.args.tree.now in
+    c.position.result ≡ position_from (is_misfit n) 0 (enumerate_from 0 (zip c.args.tree.now c.args.parents.now))
+place c =
+    let t = c.args.tree.now in
+    let ps = c.args.parents.now in
+    position_from_yields_List {s = c.enumerate-nodes.result} (is_misfit (length t)) c.position.new.self _ c.position.result c.position.ensures.ran
+    (YieldsList-from_enumerate (YieldsList-from_zip (YieldsList-from_slice t cc) (YieldsList-from_slice ps cc)) cc) (λ x b q k. search (rules, tests))
+    ∙ position_from-zero (is_misfit (length t)) (enumerate_from 0 (zip t ps))
 
-pub loop-i-preserved : goal.loop-i-preserved
-loop-i-preserved c = let l = c.loop-i in
-    let inside : l.i < length c.args.tree.now = omega arith in
-    l.invariant ∙ rw add-one (fault-later c.args.tree.now c.args.parents.now c.requires l.i inside (sym c.is_fine.ensures ∙ c.if-not-is_fine.false))
+pub returns-in_err-fault : goal.returns-in_err-fault
+returns-in_err-fault c =
+    rw c.from_residual.ensures (ap fault_named (sym c.in_err-fault.was ∙ place (goal.at.returns-in_err-fault c).After-position)
+    ∙ first-misfit c.args.tree.now c.args.parents.now c.requires)
 
 pub returns : goal.returns
-returns c = sym (c.loop-i.invariant ∙ fault-none c.args.tree.now c.loop-i.i (omega arith))
+returns c = ap fault_named (sym c.in_ok-fault.was ∙ place (goal.at.returns c).After-position) ∙ first-misfit c.args.tree.now c.args.parents.now c.requires
