@@ -5,15 +5,16 @@ use native.Mathlib.Numerals.{add-one}
 use native.Mathlib.Omega.{arith}
 use mathlib.Core.Bool.{Bool, false}
 use mathlib.Core.List.{List, [], ◌∷◌, ◌++◌, map, map-append}
-use lib.ListN.{length, get_or, set, take, drop, replicate, length-append}
+use lib.ListN.{length, get_or, set, take, drop, replicate}
 use lib.Seq.{take-append-add, take-suc, length-take-le}
-use Rattle.std.proofs.lemmas.List.{length-map, get_or-map, length-replicate, take-replicate, drop-replicate}
+use Rattle.std.proofs.lemmas.List.{length-map, get_or-map, take-replicate, drop-replicate}
 use Rattle.model.specs.Lists.{written_over}
 use Rattle.model.specs.Single.{singles}
 use Rattle.model.specs.Grow.{Entry, no_entry}
 use Rattle.layout.specs.Records.{no_record, no_span_record}
 use Rattle.layout.specs.Tree.{NodeLists, node_lists, holding, HasRoom, put, entry_record, entry_span}
 use Rattle.layout.specs.declared.MaNode.{MaNode}
+use Rattle.layout.specs.declared.Span.{Span}
 use Rattle.layout.proofs.Held.{room-fewer, put-more, holding-none}
 use Rattle.compact.specs.Moves.{record_from, entry_from, entries_from}
 
@@ -56,7 +57,7 @@ map-replicate f zero a = refl
 map-replicate {A} {B} f (suc n) a = ap (λ (l : List B). f a ∷ l) (map-replicate f n a)
 
 copied : {A : Type 0} (f : Entry singles → A) (t : List (Entry singles)) (count size : ℕ) (l : List A) → length t ≤ count → count ≤ size
-    → take count (written_over (map f t) (replicate size (f no_entry))) ++ drop count l ≡ written_over (map f (t ++ replicate (count - length t) no_entry)) l
+    → written_over (take count (written_over (map f t) (replicate size (f no_entry)))) l ≡ written_over (map f (t ++ replicate (count - length t) no_entry)) l
 copied {A} f t count size l few most =
     let b : A = f no_entry in
     let more : ℕ = count - length t in
@@ -67,15 +68,14 @@ copied {A} f t count size l few most =
     let front : take count (map f t ++ tail) ≡ map f t ++ replicate more b =
     ap (λ (k : ℕ). take k (map f t ++ tail)) whole ∙ take-append-add (map f t) tail more
     ∙ ap (λ (r : List A). map f t ++ r) (ap (take more) (drop-replicate (length (map f t)) size b) ∙ take-replicate more (size - length (map f t)) b (omega arith)) in
-    let sized : length (map f t ++ replicate more b) ≡ count = length-append (map f t) (replicate more b) ∙ ap (λ (k : ℕ). length (map f t) + k) (length-replicate more b) ∙ sym whole in
-    rw (front, all, sized)
+    rw (front, all)
 
 -- the lists, with blanks behind the entries
-pub copied-back : (t : List (Entry singles)) (n count size : ℕ) (x : NodeLists) → length t ≡ n → n ≤ count → count ≤ size → {z : NodeLists} {blank : MaNode}
-    → blank ≡ entry_record no_entry → z ≡ holding t (node_lists (replicate size blank) (replicate size (entry_span no_entry)))
-    → node_lists (take count z.nodes ++ drop count x.nodes) (take count z.spans ++ drop count x.spans) ≡ holding (t ++ replicate (count - n) no_entry) x
+pub copied-back : (t : List (Entry singles)) (n count size : ℕ) (x : NodeLists) → length t ≡ n → n ≤ count → count ≤ size → {z : NodeLists} {blank : MaNode} {empty : Span}
+    → blank ≡ entry_record no_entry → empty ≡ entry_span no_entry → z ≡ holding t (node_lists (replicate size blank) (replicate size empty))
+    → node_lists (written_over (take count z.nodes) x.nodes) (written_over (take count z.spans) x.spans) ≡ holding (t ++ replicate (count - n) no_entry) x
 unfolding holding
-copied-back t n count size x many few most zeros e =
+copied-back t n count size x many few most zeros none e =
     let nodes = copied entry_record t count size x.nodes (omega arith) most in
     let spans = copied entry_span t count size x.spans (omega arith) most in
-    rw (e, zeros, ← many, nodes, spans)
+    rw (e, zeros, none, ← many, nodes, spans)

@@ -35,15 +35,14 @@ entry_from x kept places i =
 unfoldable pub entries_from : NodeLists → List Bool → List ℕ → List ℕ → List (Entry singles)
 entries_from x splits places order = map (λ (i : ℕ). entry_from x (get_or splits i false) places i) order
 
--- and blank ones behind them up to `count`
-abbrev pub compacted : NodeLists → List Bool → List ℕ → List ℕ → ℕ → List (Entry singles)
-compacted x splits places order count = entries_from x splits places order ++ replicate (count - length order) no_entry
+-- and blank ones behind them, as many as are vacated
+abbrev pub compacted : NodeLists → List Bool → List ℕ → List ℕ → List (Entry singles)
+compacted x splits places order = entries_from x splits places order ++ replicate (length splits - length order) no_entry
 
--- the nodes of the new order can be moved: their old numbers are below `count`
-pub record AllMovable (x : NodeLists) (splits : List Bool) (order places : List ℕ) (count : ℕ) : Type 0 where
-  pub few : length order ≤ count
-  pub most : count ≤ max_nodes
-  pub room : HasRoom count x
-  pub splits_there : count ≤ length splits
-  pub old : (q : ℕ) → q < length order → get_or order q 0 < count
-  pub children : (i : ℕ) → i < count → get_or splits i false ≡ true → (gt_at x.nodes i < length places) × (le_at x.nodes i < length places)
+-- the nodes of the new order can be moved: each was a node of the tree, of whose nodes `splits` speaks
+pub record AllMovable (x : NodeLists) (splits : List Bool) (order places : List ℕ) : Type 0 where
+  pub few : length order ≤ length splits
+  pub most : length splits ≤ max_nodes
+  pub room : HasRoom (length splits) x
+  pub old : (q : ℕ) → q < length order → get_or order q 0 < length splits
+  pub children : (i : ℕ) → i < length splits → get_or splits i false ≡ true → (gt_at x.nodes i < length places) × (le_at x.nodes i < length places)

@@ -2,12 +2,23 @@
 // blank.
 #![tactic(auto)]
 
-ghost use Rattle.std.specs.Prelude.{◌≡◌, true, ◌<◌, ◌≤◌, ◌++◌, length, take, drop};
+ghost use Rattle.std.specs.Prelude.{◌≡◌, true, ◌<◌, ◌≤◌, length};
+ghost use Rattle.model.specs.Lists.{written_over};
 ghost use Rattle.layout.specs.Tree.{node_lists, holding, HasRoom};
 ghost use Rattle.layout.specs.Lent.{lists_in, SameNodesLent};
 ghost use Rattle.compact.specs.Moves.{record_from, entries_from, compacted, AllMovable};
 
 use layout::{MaNode, NodeInfo, Nodes, Span};
+
+// The new order of a tree's nodes, as pruning leaves it: of each old node whether it is a split still, the old numbers
+// of those that are left in their new order, and each of their new numbers at its old one.
+// Stays: three lists and none of triples: `splits` and `places` go by the old numbers, and `order` by the new ones.
+#[derive(Clone, Copy)]
+pub struct NewOrder<'a> {
+    pub splits: &'a [bool],
+    pub order: &'a [u32],
+    pub places: &'a [u32],
+}
 
 // The node for its new place: a split that is kept, with its children's new numbers; or else a leaf.
 fn renumbered(node: MaNode, kept: bool, places: &[u32]) -> MaNode
@@ -19,65 +30,54 @@ fn renumbered(node: MaNode, kept: bool, places: &[u32]) -> MaNode
     }
     MaNode {
         kind: 1,
-        prop: node.prop,
-        val: node.val,
         gt: places[node.gt as usize],
         le: places[node.le as usize],
-        info: node.info,
+        ..node
     }
 }
 
-// The nodes that are left, in the new order; `count` only says below what the old numbers lie.
-// Stays: kept splits, order and places are three answers of the walk before it, each read at another index.
-fn gather(
-    from: &Nodes,
-    splits: &[bool],
-    order: &[u32],
-    places: &[u32],
-    count: usize,
-    nodes: &mut [MaNode],
-    spans: &mut [Span],
-)
-    requires all_movable { AllMovable (lists_in from.now) splits.now order.now places.now count }
-    requires has_room { HasRoom (length order.now) (node_lists nodes.old spans.old) }
+// The nodes in the new order, each with its span.
+fn gather(from: &Nodes, new_order: NewOrder, nodes: &mut [MaNode], spans: &mut [Span])
+    requires all_movable { AllMovable (lists_in from.now)
+        new_order.splits.now new_order.order.now new_order.places.now }
+    requires has_room { HasRoom (length new_order.order.now) (node_lists nodes.old spans.old) }
     ensures { node_lists nodes.new spans.new
-        ≡ holding (entries_from (lists_in from.now) splits.now places.now order.now)
+        ≡ holding (entries_from (lists_in from.now)
+        new_order.entry.splits.now new_order.entry.places.now new_order.entry.order.now)
         (node_lists nodes.old spans.old) }
 {
-    for (q, old) in order.iter().enumerate() {
+    // Stays: by number, since of a list that is written through a `zip` of its `iter_mut` a proof knows only the length
+    // (`returns` stays open).
+    for (q, old) in new_order.order.iter().enumerate() {
         let i = *old as usize;
-        nodes[q] = renumbered(from.nodes[i], splits[i], places);
+        nodes[q] = renumbered(from.nodes[i], new_order.splits[i], new_order.places);
         spans[q] = from.spans[i];
     }
 }
 
-// The first entries of one list over those of another.
-// Stays: the caller's lists have room for the largest tree, so how many nodes are the tree's goes beside them.
-fn copy_front<T: Copy>(from: &[T], count: usize, to: &mut [T])
-    requires { (count ≤ length from.now) × (count ≤ length to.old) }
-    ensures { to.new ≡ take count from.now ++ drop count to.old }
+// One list over the front of another.
+fn copy_front<T: Copy>(from: &[T], to: &mut [T])
+    requires { length from.now ≤ length to.old }
+    ensures { to.new ≡ written_over from.now to.old }
 {
-    to[..count].copy_from_slice(&from[..count]);
+    to[..from.len()].copy_from_slice(from);
 }
 
-// The nodes go by way of blank records, so that the entries that are vacated become blank. The order says which nodes
-// of the first `count` are left.
-// Stays: the caller's lists have room for the largest tree, so how many nodes are the tree's goes beside them.
-pub fn move_nodes(at: &mut Nodes, splits: &[bool], order: &[u32], places: &[u32], count: usize)
-    requires { AllMovable (lists_in at.old) splits.now order.now places.now count }
+// The nodes go by way of blank records, so that the entries that are vacated become blank.
+pub fn move_nodes(at: &mut Nodes, new_order: NewOrder)
+    requires { AllMovable (lists_in at.old)
+        new_order.splits.now new_order.order.now new_order.places.now }
     ensures lent { SameNodesLent at.old at.new }
     ensures lists { lists_in at.new
-        ≡ holding (compacted (lists_in at.old) splits.now places.now order.now count)
+        ≡ holding (compacted (lists_in at.old)
+        new_order.entry.splits.now new_order.entry.places.now new_order.entry.order.now)
         (lists_in at.old) }
 {
-    let blank = MaNode::leaf(NodeInfo {
-        cost: 0.0,
-        pred: 0,
-        offset: 0,
-    });
+    let blank = MaNode::leaf(NodeInfo::default());
+    let count = new_order.splits.len();
     let mut nodes = [blank; layout::MAX_NODES];
-    let mut spans = [Span { first: 0, end: 0 }; layout::MAX_NODES];
-    gather(at, splits, order, places, count, &mut nodes, &mut spans);
-    copy_front(&nodes, count, at.nodes);
-    copy_front(&spans, count, at.spans);
+    let mut spans = [Span::default(); layout::MAX_NODES];
+    gather(at, new_order, &mut nodes, &mut spans);
+    copy_front(&nodes[..count], at.nodes);
+    copy_front(&spans[..count], at.spans);
 }

@@ -10,6 +10,7 @@ use native.Mathlib.Omega.{arith}
 use lib.ListN.{length, get_or, set, take, drop, length-append, length-drop, length-set, get_or-append}
 use lib.Seq.{get_or-append_seam, get_or-take, length-take-le}
 use lib.IntN.{ℤ, pos}
+use Rattle.folds.proofs.First.{first_more, first_same, first_below, first_one}
 use Rattle.model.specs.Meter.{Meter}
 use Rattle.model.specs.Job.{Offer, Job}
 use Rattle.model.specs.Grow.{Entry, no_entry, Choice, no_choice, chosen, greater, choice_from}
@@ -18,37 +19,9 @@ use Rattle.layout.specs.Waiting.{laid, words_per_leaf, waits, waiting_from, queu
 use Rattle.layout.specs.Waiting.{QueueListsOf, Queued, QueueRoom, SameQueue}
 use Rattle.layout.proofs.Cells.{laid_one, laid-length, laid-read}
 
-cond_below : (b : Bool) (m k n : ℕ) → m ≤ n → k ≤ n → cond b m k ≤ n
-cond_below true m k n h j = h
-cond_below false m k n h j = j
-
-module _ (M : Meter) where
-  -- ---- the first best place
-  pub best-more : (gains : List M.Cost) (k b r : ℕ) → b ≡ first_best_of M gains k → r ≡ cond (M.less (get_or gains b M.spare) (get_or gains k M.spare)) k b → r ≡ first_best_of M gains (k + 1)
-  unfolding first_best_of
-  best-more gains k b r e h = rw (add-one, ← e, h)
-
-  pub best-below : (gains : List M.Cost) (n : ℕ) → first_best_of M gains n ≤ n - 1
-  unfolding first_best_of
-  best-below gains zero = omega arith
-  best-below gains (suc n) =
-      let h = best-below gains n in
-      cond_below (M.less (get_or gains (first_best_of M gains n) M.spare) (get_or gains n M.spare)) n (first_best_of M gains n) (suc n - 1) (omega arith) (omega arith)
-
-  pub best-same : (g h : List M.Cost) (n : ℕ) → ((i : ℕ) → i < n → get_or g i M.spare ≡ get_or h i M.spare) → first_best_of M g n ≡ first_best_of M h n
-  unfolding first_best_of
-  best-same g h zero e = refl
-  best-same g h (suc n) e =
-      let ih = best-same g h n (λ i l. e i (omega arith)) in
-      let low = best-below g n in
-      rw (e (first_best_of M g n) (omega arith), e n (omega arith), ih)
-
-  pub best-one : (gains : List M.Cost) → first_best_of M gains 1 ≡ 0
-  unfolding first_best_of
-  best-one gains = same (M.less (get_or gains 0 M.spare) (get_or gains 0 M.spare)) where
-    same : (b : Bool) → cond {A = ℕ} b 0 0 ≡ 0
-    same true = refl
-    same false = refl
+-- the first best of n gains is one of them
+pub best-below : (M : Meter) (gains : List M.Cost) (n : ℕ) → first_best_of M gains n ≤ n - 1
+best-below M gains n = first_below M.less M.spare gains n
 
 pub length_without : {A : Type 0} (k : ℕ) (l : List A) → k < length l → length (without k l) ≡ length l - 1
 length_without k l lt =
@@ -101,7 +74,7 @@ module _ {M : Meter} where
   module _ (j : Job M) (order : (o p : Offer M) → j.ahead o p ≡ M.less p.gain o.gain) where
     -- one more waiting leaf behind the others
     one_more : (w : Waiting M) (q : List (Waiting M)) → greater j (choice_of q) w.node (some w.offer) ≡ choice_of (q ++ (w ∷ []))
-    one_more w [] = ap (λ (i : ℕ). chosen_at (get_or (w ∷ []) i no_waiting)) (sym (best-one M (gains_of (w ∷ []))))
+    one_more w [] = ap (λ (i : ℕ). chosen_at (get_or (w ∷ []) i no_waiting)) (sym (first_one M.less M.spare (gains_of (w ∷ []))))
     one_more w (v ∷ vs) =
         let q : List (Waiting M) = v ∷ vs in
         let r : List (Waiting M) = q ++ (w ∷ []) in
@@ -111,7 +84,7 @@ module _ {M : Meter} where
         let size = gains-length q in
         let split : gains_of r ≡ gains_of q ++ (w.offer.gain ∷ []) = laid_one wait_gains q w in
         let same : first_best_of M (gains_of r) (length q) ≡ b =
-        best-same M (gains_of r) (gains_of q) (length q) (λ i l.
+        first_same M.less M.spare (gains_of r) (gains_of q) (length q) (λ i l.
         ap (λ (g : List M.Cost). get_or g i M.spare) split ∙ get_or-append (gains_of q) (w.offer.gain ∷ []) M.spare i (omega arith)) in
         let old : get_or r b no_waiting ≡ get_or q b no_waiting = get_or-append q (w ∷ []) no_waiting b inside in
         let new : get_or r (length q) no_waiting ≡ w = get_or-append_seam q w [] no_waiting in
@@ -123,7 +96,7 @@ module _ {M : Meter} where
         ap (λ (x : M.Cost). M.less x (get_or (gains_of r) (length q) M.spare)) was ∙ ap (M.less (get_or q b no_waiting).offer.gain) is in
         let place : best_of r ≡ cond test (length q) b =
         ap (first_best_of M (gains_of r)) long
-        ∙ sym (best-more M (gains_of r) (length q) b (cond test (length q) b) (sym same) (ap (λ (t : Bool). cond t (length q) b) (sym tests))) in
+        ∙ sym (first_more M.less M.spare (gains_of r) (length q) b (cond test (length q) b) (sym same) (ap (λ (t : Bool). cond t (length q) b) (sym tests))) in
         let found : get_or r (cond test (length q) b) no_waiting ≡ cond test w (get_or q b no_waiting) =
         sym (pick_get_d (λ (i : ℕ). get_or r i no_waiting) test (length q) b)
         ∙ ap (λ (x : Waiting M). cond test x (get_or r b no_waiting)) new
@@ -259,7 +232,7 @@ module _ {M : Meter} where
     -- the place that the code finds
     pub best-queued : first_best_of M q.gains waiting ≡ best_of leaves
     best-queued =
-        best-same M q.gains (laid wait_gains leaves) waiting (λ i l. sym (get_or-take waiting q.gains i M.spare l) ∙ ap (λ (g : List M.Cost). get_or g i M.spare) h.gains)
+        first_same M.less M.spare q.gains (laid wait_gains leaves) waiting (λ i l. sym (get_or-take waiting q.gains i M.spare l) ∙ ap (λ (g : List M.Cost). get_or g i M.spare) h.gains)
         ∙ ap (first_best_of M (laid wait_gains leaves)) h.many
 
     -- the leaf that waits at place k

@@ -1,7 +1,8 @@
 -- How three flat lists hold the queue of waiting leaves: three words (node, property, depth), a threshold and a gain a leaf, in the order of the nodes' numbers.
 -- The queue is a function of the tree: each leaf that offers a split waits (document 01, "Growth"). Assumes nothing.
-use Rattle.std.specs.Prelude.{ℕ, zero, suc, ◌+◌, ◌*◌, ◌≤◌, ◌≡◌, cond, List, [], ◌∷◌, ◌++◌, length, get_or, set, take, drop, ℤ, Float}
+use Rattle.std.specs.Prelude.{ℕ, suc, ◌+◌, ◌*◌, ◌≤◌, ◌≡◌, List, [], ◌∷◌, ◌++◌, length, set, take, drop, ℤ, Float}
 use Rattle.std.proofs.Math.Option.{Option, none, some}
+use Rattle.folds.specs.First.{first_greatest}
 use Rattle.model.specs.Meter.{Meter}
 use Rattle.model.specs.Single.{singles}
 use Rattle.model.specs.Job.{Offer}
@@ -81,9 +82,8 @@ put_wait_words k node prop depth words =
     set (set (set words at node) (at + 1) prop) (at + 2) depth
 
 -- the first of the first n places with the greatest gain: at a tie the lower node number is taken
-unfoldable pub first_best_of : (M : Meter) → List M.Cost → ℕ → ℕ
-first_best_of M gains zero = 0
-first_best_of M gains (suc n) = let b = first_best_of M gains n in cond (M.less (get_or gains b M.spare) (get_or gains n M.spare)) n b
+abbrev pub first_best_of : (M : Meter) → List M.Cost → ℕ → ℕ
+first_best_of M = first_greatest M.less M.spare
 
 abbrev pub first_best : List Float → ℕ → ℕ
 first_best = first_best_of singles

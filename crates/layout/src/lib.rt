@@ -21,7 +21,7 @@ pub struct NodeNumber(pub u32);
 
 // The cost of a node in bits, its predictor and its offset.
 #[repr(C)]
-#[derive(Clone, Copy)]
+#[derive(Clone, Copy, Default)]
 pub struct NodeInfo {
     pub cost: f32,
     pub pred: u32,
@@ -31,6 +31,7 @@ pub struct NodeInfo {
 // A node as a caller holds it: its kind, 1 for a split and any other number for a leaf; a split's property, threshold
 // and children, for which a leaf has no use; and beside every node its cost, predictor and offset. Eight numbers of 32
 // bits with nothing between them, and each may hold any bits.
+// Stays: `kind` is a number and no enum with data, since the C interface lends the record, and a lent one may hold any.
 #[repr(C)]
 #[derive(Clone, Copy)]
 pub struct MaNode {
@@ -66,22 +67,17 @@ impl MaNode {
         if !node.is_split() {
             return MaNode::leaf(NodeInfo {
                 cost: 0.0,
-                pred: node.info.pred,
-                offset: node.info.offset,
+                ..node.info
             });
         }
         let info = NodeInfo {
             cost: f32::INFINITY,
-            pred: 0,
-            offset: 0,
+            ..NodeInfo::default()
         };
         MaNode {
             kind: 1,
-            prop: node.prop,
-            val: node.val,
-            gt: node.gt,
-            le: node.le,
             info,
+            ..node
         }
     }
 
@@ -94,7 +90,7 @@ impl MaNode {
 
 // The rows of a node: the first, and the one behind the last.
 #[repr(C)]
-#[derive(Clone, Copy, PartialEq, Eq, Debug)]
+#[derive(Clone, Copy, Default, PartialEq, Eq, Debug)]
 pub struct Span {
     pub first: u32,
     pub end: u32,
@@ -116,6 +112,7 @@ pub struct Leaf {
 }
 
 // A tree in the lists: how many nodes it has, and its estimated bits.
+#[repr(C)]
 #[derive(Clone, Copy)]
 pub struct Tree {
     pub nodes: usize,
@@ -131,6 +128,7 @@ pub fn leaves_of(nodes: usize) -> usize
 }
 
 // The caller's nodes, with the span of each.
+// Stays: two lists and none of pairs, since the C interface lends nodes and spans each as a list of its own.
 #[derive(Drop)]
 pub struct Nodes<'a> {
     pub nodes: &'a mut [MaNode],
@@ -177,6 +175,6 @@ impl<'a> Nodes<'a> {
             (info_at (lists_in self.old) i)) (lists_in self.old) }
     {
         self.nodes[i] = self.nodes[i].kept();
-        self.spans[i] = Span { first: 0, end: 0 };
+        self.spans[i] = Span::default();
     }
 }

@@ -1,14 +1,13 @@
 -- The walk from the root with a stack finds the preorder. Assumes nothing.
 use mathlib.Core.Path.{◌≡◌, refl, sym, ap, ap₂, ◌∙◌, subst}
 use mathlib.Core.Logic.{inl, inr}
-use Prim.Native.Nat.{ℕ, zero, suc, ◌+◌, ◌-◌, ◌≤◌, ◌<◌}
-use native.Mathlib.Numerals.{add-one}
+use Prim.Native.Nat.{ℕ, zero, suc, ◌+◌, ◌≤◌, ◌<◌}
 use native.Mathlib.Omega.{arith}
 use native.Mathlib.Decide.{ℕ_discrete}
 use mathlib.Core.Bool.{Bool, true, false, true≢false}
 use mathlib.Core.List.{List, [], ◌∷◌, ◌++◌, append-nil, append_assoc}
-use lib.ListN.{length, get_or, set, take, length-set, length-append, get_or-append}
-use lib.Seq.{take-suc-set, get_or-take, length-take-le, get_or-set_same, get_or-set_other, append_snoc, get_or-append-add}
+use lib.ListN.{length, get_or, set, length-append, get_or-append}
+use lib.Seq.{get_or-set_same, get_or-set_other, append_snoc, get_or-append-add}
 use lib.IntN.{ℤ}
 use Rattle.model.specs.Tree.{Node, split, leaf, below}
 use Rattle.model.specs.Prune.{preorder, place_of}
@@ -18,37 +17,53 @@ use Rattle.model.proofs.Preorder.{pre-range, pre_no_repeat, place-of}
 use Rattle.model.proofs.Tally.{short}
 use Rattle.layout.specs.Records.{gt_at, le_at}
 use Rattle.layout.specs.declared.MaNode.{MaNode}
-use Rattle.preorder.specs.Order.{pushed, height_after, ShownAs, ShowsNodes, pending, Ordered}
+use Rattle.preorder.specs.Order.{pushed, ShownAs, ShowsNodes, pending, Ordered}
+
+-- each of them is a node
+abbrev pub Each : List Node → List ℕ → Type 0
+Each nodes l = (k : ℕ) → k < length l → get_or l k 0 < length nodes
 
 -- where the walk stands: the nodes found and those that wait are all
-pub record Walked (nodes : List Node) (order places stack : List ℕ) (depth found : ℕ) : Type 0 where
-  pub on_stack : (d : ℕ) → d < depth → get_or stack d 0 < length nodes
-  pub all : take found order ++ pending nodes stack depth ≡ preorder (length nodes) nodes 0
-  pub placed : (q : ℕ) → q < found → get_or places (get_or order q 0) 0 ≡ q
-  pub inside : found ≤ length order
+pub record Walked (nodes : List Node) (order places stack : List ℕ) : Type 0 where
+  pub on_stack : Each nodes stack
+  pub all : order ++ pending nodes stack ≡ preorder (length nodes) nodes 0
+  pub placed : (q : ℕ) → q < length order → get_or places (get_or order q 0) 0 ≡ q
 
--- only what lies on the stack counts
-same-pending : (nodes : List Node) (s t : List ℕ) (d : ℕ) → ((k : ℕ) → k < d → get_or s k 0 ≡ get_or t k 0) → pending nodes s d ≡ pending nodes t d
+-- the last that was pushed waits in front
+pending-top : (nodes : List Node) (stack : List ℕ) (i : ℕ) → pending nodes (stack ++ i ∷ []) ≡ preorder (length nodes) nodes i ++ pending nodes stack
 unfolding pending
-same-pending nodes s t zero e = refl
-same-pending nodes s t (suc d) e = ap₂ (λ (i : ℕ) (r : List ℕ). preorder (length nodes) nodes i ++ r) (e d (omega arith))
-    (same-pending nodes s t d (λ k h. e k (omega arith)))
+pending-top nodes [] i = sym (append-nil (preorder (length nodes) nodes i))
+pending-top nodes (b ∷ s) i =
+    ap (λ (l : List ℕ). l ++ preorder (length nodes) nodes b) (pending-top nodes s i)
+    ∙ append_assoc (preorder (length nodes) nodes i) (pending nodes s) (preorder (length nodes) nodes b)
+
+-- of what was pushed, each is a node
+each-front : (nodes : List Node) (stack more : List ℕ) → Each nodes (stack ++ more) → Each nodes stack
+each-front nodes stack more e k h =
+    subst (λ (i : ℕ). i < length nodes) (get_or-append stack more 0 k h) (e k (omega (arith, length-append stack more)))
+
+each-top : (nodes : List Node) (stack : List ℕ) (i : ℕ) → Each nodes (stack ++ i ∷ []) → i < length nodes
+each-top nodes stack i e =
+    let z : length stack ≡ length stack + 0 = omega arith in
+    subst (λ (j : ℕ). j < length nodes) (ap (λ (k : ℕ). get_or (stack ++ i ∷ []) k 0) z ∙ get_or-append-add stack (i ∷ []) 0 0)
+    (e (length stack) (omega (arith, length-append stack (i ∷ []))))
+
+each-more : (nodes : List Node) (stack : List ℕ) (i : ℕ) → Each nodes stack → i < length nodes → Each nodes (stack ++ i ∷ [])
+each-more nodes stack i e h k lt = elim (ℕ_discrete k (length stack)) [
+  | yes z ↦ (let w : k ≡ length stack + 0 = omega arith in rw (w, get_or-append-add stack (i ∷ []) 0 0) h)
+  | no ne ↦ (let b : k < length stack = omega (arith, length-append stack (i ∷ [])) in rw (get_or-append stack (i ∷ []) 0 k b) (e k b))
+]
+
+-- nothing waits
+pub none-waits : (l : List ℕ) → (0 < length l → ⊥) → l ≡ []
+none-waits [] h = refl
+none-waits (i ∷ is) h = absurd (h (omega arith))
 
 -- at the end
-pub walk-done : {nodes : List Node} {order places stack : List ℕ} {depth found : ℕ} → Walked nodes order places stack depth found → depth ≡ 0
-    → Ordered nodes order places found
+pub walk-done : {nodes : List Node} {order places stack : List ℕ} → Walked nodes order places stack → stack ≡ [] → Ordered nodes order places
 unfolding pending
-walk-done {nodes} {order} {places} {stack} {depth} {found} w z = record {
-  found_all = sym (length-take-le found order w.inside) ∙ ap length is;
-  order_is = λ q h. at q h;
-  places_are = λ q h. ap (λ (i : ℕ). get_or places i 0) (sym (at q h)) ∙ w.placed q h;
-}
-  where
-    is : take found order ≡ preorder (length nodes) nodes 0
-    is = sym (append-nil (take found order)) ∙ subst (λ (d : ℕ). take found order ++ pending nodes stack d ≡ preorder (length nodes) nodes 0) z w.all
-
-    at : (q : ℕ) → q < found → get_or order q 0 ≡ get_or (preorder (length nodes) nodes 0) q 0
-    at q h = sym (get_or-take found order q 0 h) ∙ ap (λ (l : List ℕ). get_or l q 0) is
+walk-done {nodes} {order} {places} {stack} w z =
+    record { order_is = sym (append-nil order) ∙ subst (λ (l : List ℕ). order ++ pending nodes l ≡ preorder (length nodes) nodes 0) z w.all; places_are = w.placed }
 
 module _ (nodes : List Node) (fam : Family nodes) (some : 0 < length nodes) where
   abbrev n : ℕ
@@ -96,211 +111,132 @@ module _ (nodes : List Node) (fam : Family nodes) (some : 0 < length nodes) wher
   pre-short : length (pre 0) ≤ n
   pre-short = short n (pre 0) (pre_no_repeat nodes fam n 0 some) (λ x m. (pre-range nodes fam n 0 x some m).1)
 
-  pending-long : (stack : List ℕ) (d : ℕ) → ((k : ℕ) → k < d → get_or stack k 0 < n) → d ≤ length (pending nodes stack d)
+  pending-long : (stack : List ℕ) → Each nodes stack → length stack ≤ length (pending nodes stack)
   unfolding pending
-  pending-long stack zero on = omega arith
-  pending-long stack (suc d) on = omega (
-    arith,
-    length-append (pre (get_or stack d 0)) (pending nodes stack d),
-    pre-some (get_or stack d 0)
-        (on d (omega arith)),
-    pending-long stack d (λ k h. on k (omega arith)),
-  )
+  pending-long [] on = omega arith
+  pending-long (b ∷ s) on =
+      omega (arith, length-append (pending nodes s) (pre b), pre-some b (on 0 (omega arith)), pending-long s (λ k h. on (suc k) (omega arith)))
 
-  pub walk_first : (order places stack : List ℕ) → get_or stack 0 0 ≡ 0 → Walked nodes order places stack 1 0
+  pub walk_first : (places : List ℕ) → Walked nodes [] places (0 ∷ [])
   unfolding pending
-  walk_first order places stack root = record {
-    on_stack = λ d h. let e : d ≡ 0 = omega arith in rw (e, root) some;
-    all = rw (root, append-nil);
+  walk_first places = record {
+    on_stack = λ k h. let e : k ≡ 0 = omega arith in rw e some;
+    all = refl;
     placed = λ q h. absurd (omega arith);
-    inside = omega arith;
   }
 
-  module _ (order places stack : List ℕ) (depth found : ℕ) (w : Walked nodes order places stack depth found) where
-    total : found + length (pending nodes stack depth) ≤ n
-    total = omega (arith, pre-short, ap length w.all, length-append (take found order) (pending nodes stack depth), length-take-le found order w.inside)
-
-    pub walk-fits : found + depth ≤ n
-    walk-fits = omega (arith, total, pending-long stack depth w.on_stack)
-
   -- one node is taken off the stack
-  module _ (order places stack : List ℕ) (d found : ℕ) (w : Walked nodes order places stack (suc d) found) (room : n ≤ length order)
-      (places_there : n ≤ length places) (stack_there : n ≤ length stack)
-      (kept : Bool) (gt le : ℕ) where
-    abbrev i : ℕ
-    i = get_or stack d 0
+  module _ (order places stack : List ℕ) (i : ℕ) (w : Walked nodes order places (stack ++ i ∷ [])) (places_there : n ≤ length places) (kept : Bool) (gt le : ℕ) where
+    pub in_n : i < n
+    in_n = each-top nodes stack i w.on_stack
+
+    abbrev rest : List ℕ
+    rest = pending nodes stack
+
+    opened : order ++ (pre i ++ rest) ≡ pre 0
+    opened = ap (λ (l : List ℕ). order ++ l) (sym (pending-top nodes stack i)) ∙ w.all
+
+    size : length order + (length (pre i) + length rest) ≤ n
+    size = omega (arith, pre-short, ap length opened, length-append order (pre i ++ rest), length-append (pre i) rest)
+
+    pub found-few : length order < n
+    found-few = omega (arith, size, pre-some i in_n)
+
+    under : length stack ≤ length rest
+    under = pending-long stack (each-front nodes stack (i ∷ []) w.on_stack)
 
     module _ (shown : ShownAs (get_or nodes i leaf) kept gt le) where
-      in_n : i < n
-      in_n = w.on_stack d (omega arith)
-
-      fits : found + suc d ≤ n
-      fits = walk-fits order places stack (suc d) found w
-
-      abbrev rest : List ℕ
-      rest = pending nodes stack d
-
-      opened : take found order ++ (pre i ++ rest) ≡ pre 0
-      unfolding pending
-      opened = w.all
-
       -- a split has two children, so there is room for both
-      three : (p : ℕ) (v : ℤ) (g l : ℕ) → get_or nodes i leaf ≡ split p v g l → found + 3 + d ≤ n
-      three p v g l e =
-          omega (
-            arith,
-            pre-short,
-            ap length opened,
-            length-append (take found order) (pre i ++ rest),
-            length-append (pre i) rest,
-            length-take-le found order w.inside,
-            pre-three i in_n p v g l e,
-            pending-long stack d (λ k h. w.on_stack k (omega arith)),
-          )
-
-      pub push-room : kept ≡ true → d + 2 ≤ length stack
+      pub push-room : kept ≡ true → length stack + 2 ≤ n
       push-room is = go (get_or nodes i leaf) refl shown
         where
-          go : (m : Node) → get_or nodes i leaf ≡ m → ShownAs m kept gt le → d + 2 ≤ length stack
+          go : (m : Node) → get_or nodes i leaf ≡ m → ShownAs m kept gt le → length stack + 2 ≤ n
           go leaf e s = absurd (true≢false (sym is ∙ s))
-          go (split p v g l) e s = omega (arith, three p v g l e)
+          go (split p v g l) e s = omega (arith, size, under, pre-three i in_n p v g l e)
 
       abbrev order' : List ℕ
-      order' = set order found i
+      order' = order ++ i ∷ []
 
       abbrev places' : List ℕ
-      places' = set places i found
+      places' = set places i (length order)
+
+      long : length order < length (pre 0)
+      long = omega (arith, ap length opened, length-append order (pre i ++ rest), length-append (pre i) rest, pre-some i in_n)
 
       -- the node that is found is none of those before
-      at_place : (q : ℕ) → q < found → get_or (pre 0) q 0 ≡ get_or order q 0
-      at_place q h = let e = length-take-le found order w.inside in
-          ap (λ (l : List ℕ). get_or l q 0) (sym opened) ∙ get_or-append (take found order) (pre i ++ rest) 0 q (omega arith) ∙ get_or-take found order q 0 h
+      at_place : (q : ℕ) → q < length order → get_or (pre 0) q 0 ≡ get_or order q 0
+      at_place q h = ap (λ (l : List ℕ). get_or l q 0) (sym opened) ∙ get_or-append order (pre i ++ rest) 0 q h
 
-      at-found : get_or (pre 0) found 0 ≡ i
-      at-found = let e = length-take-le found order w.inside in let z : found ≡ length (take found order) + 0 = omega arith in
-          ap (λ (l : List ℕ). get_or l found 0) (sym opened) ∙ ap (λ (k : ℕ). get_or (take found order ++ (pre i ++ rest)) k 0) z
-          ∙ get_or-append-add (take found order) (pre i ++ rest) 0 0
+      at-found : get_or (pre 0) (length order) 0 ≡ i
+      at-found = let z : length order ≡ length order + 0 = omega arith in
+          ap (λ (l : List ℕ). get_or l (length order) 0) (sym opened) ∙ ap (λ (k : ℕ). get_or (order ++ (pre i ++ rest)) k 0) z
+          ∙ get_or-append-add order (pre i ++ rest) 0 0
           ∙ ap (λ (l : List ℕ). get_or (l ++ rest) 0 0) (pre-step i in_n)
 
-      long : found < length (pre 0)
-      long = omega (
-        arith,
-        ap length opened,
-        length-append (take found order) (pre i ++ rest),
-        length-append (pre i) rest,
-        length-take-le found order
-            w.inside,
-        pre-some i in_n,
-      )
-
-      new : (q : ℕ) → q < found → get_or order q 0 ≡ i → ⊥
+      new : (q : ℕ) → q < length order → get_or order q 0 ≡ i → ⊥
       new q h e =
           let nr = pre_no_repeat nodes fam n 0 some in
-          let z : q ≡ found = sym (place-of (pre 0) nr q (omega (arith, long))) ∙ ap (λ (x : ℕ). place_of x (pre 0)) (at_place q h ∙ e ∙ sym at-found)
-          ∙ place-of (pre 0) nr found long in
+          let z : q ≡ length order = sym (place-of (pre 0) nr q (omega (arith, long))) ∙ ap (λ (x : ℕ). place_of x (pre 0)) (at_place q h ∙ e ∙ sym at-found)
+          ∙ place-of (pre 0) nr (length order) long in
           omega arith
 
-      front : take (found + 1) order' ≡ take found order ++ (i ∷ [])
-      front = ap (λ (k : ℕ). take k order') (add-one found) ∙ take-suc-set order found i (omega (arith, fits))
-
-      placed' : (q : ℕ) → q < found + 1 → get_or places' (get_or order' q 0) 0 ≡ q
-      placed' q h = elim (ℕ_discrete q found) [ yes e ↦ here e | no ne ↦ there ne (omega arith) ]
+      placed' : (q : ℕ) → q < length order' → get_or places' (get_or order' q 0) 0 ≡ q
+      placed' q h = elim (ℕ_discrete q (length order)) [ yes e ↦ here e | no ne ↦ there ne (omega (arith, length-append order (i ∷ []))) ]
         where
-          here : q ≡ found → get_or places' (get_or order' q 0) 0 ≡ q
-          here e = rw (e, get_or-set_same order found i 0 (omega (arith, fits))) (get_or-set_same places i found 0 (omega (arith, in_n)))
+          here : q ≡ length order → get_or places' (get_or order' q 0) 0 ≡ q
+          here e = let z : q ≡ length order + 0 = omega arith in
+              ap (λ (k : ℕ). get_or places' (get_or order' k 0) 0) z ∙ ap (λ (j : ℕ). get_or places' j 0) (get_or-append-add order (i ∷ []) 0 0)
+              ∙ get_or-set_same places i (length order) 0 (omega (arith, in_n)) ∙ sym e
 
-          there : (q ≡ found → ⊥) → q < found → get_or places' (get_or order' q 0) 0 ≡ q
-          there ne k = rw (get_or-set_other order found q i 0 ne) (get_or-set_other places i (get_or order q 0) found 0 (new q k) ∙ w.placed q k)
-
-      inside' : found + 1 ≤ length order'
-      inside' = rw (length-set order found i) (omega (arith, fits))
+          there : (q ≡ length order → ⊥) → q < length order → get_or places' (get_or order' q 0) 0 ≡ q
+          there ne k = rw (get_or-append order (i ∷ []) 0 q k) (get_or-set_other places i (get_or order q 0) (length order) 0 (new q k) ∙ w.placed q k)
 
       -- its children wait
-      module _ (p : ℕ) (v : ℤ) (g l : ℕ) (e : get_or nodes i leaf ≡ split p v g l) where
-        abbrev stack' : List ℕ
-        stack' = set (set stack d l) (d + 1) g
+      both : (p : ℕ) (v : ℤ) (g l : ℕ) → get_or nodes i leaf ≡ split p v g l → Walked nodes order' places' (stack ++ l ∷ g ∷ [])
+      both p v g l e =
+          let two : (stack ++ l ∷ []) ++ g ∷ [] ≡ stack ++ l ∷ g ∷ [] = append_snoc stack l (g ∷ []) in
+          let front = each-front nodes stack (i ∷ []) w.on_stack in
+          let waits : pending nodes (stack ++ l ∷ g ∷ []) ≡ pre g ++ (pre l ++ rest) =
+          ap (pending nodes) (sym two) ∙ pending-top nodes (stack ++ l ∷ []) g ∙ ap (λ (r : List ℕ). pre g ++ r) (pending-top nodes stack l) in
+          record {
+            on_stack = subst (Each nodes) two
+                (each-more nodes (stack ++ l ∷ []) g (each-more nodes stack l front (children_in_lem i p v g l e).1) (children_in_lem i p v g l e).0);
+            all = ap (λ (r : List ℕ). order' ++ r) waits ∙ append_snoc order i (pre g ++ (pre l ++ rest))
+                ∙ ap (λ (r : List ℕ). order ++ (i ∷ r)) (sym (append_assoc (pre g) (pre l) rest))
+                ∙ sym (ap (λ (r : List ℕ). order ++ (r ++ rest)) (pre-split i in_n p v g l e)) ∙ opened;
+            placed = placed';
+          }
 
-        top : get_or stack' (d + 1) 0 ≡ g
-        top = get_or-set_same (set stack d l) (d + 1) g 0 (rw (length-set stack d l) (omega (arith, three p v g l e)))
-
-        under : get_or stack' d 0 ≡ l
-        under = get_or-set_other (set stack d l) (d + 1) d g 0 (λ z. omega arith) ∙ get_or-set_same stack d l 0 (omega (arith, three p v g l e))
-
-        old : (k : ℕ) → k < d → get_or stack' k 0 ≡ get_or stack k 0
-        old k h = get_or-set_other (set stack d l) (d + 1) k g 0 (λ z. omega arith) ∙ get_or-set_other stack d k l 0 (λ z. omega arith)
-
-        on : (k : ℕ) → k < d + 2 → get_or stack' k 0 < n
-        on k h = elim (ℕ_discrete k (d + 1)) [
-          | yes z ↦ rw (z, top) (children_in_lem i p v g l e).0
-          | no a ↦ elim (ℕ_discrete k d) [
-            | yes z ↦ rw (z, under) (children_in_lem i p v g l e).1
-            | no b ↦ (let c : k < d = omega arith in rw (old k c) (w.on_stack k (omega arith)))
-          ]
-        ]
-
-        waits : pending nodes stack' (d + 2) ≡ pre g ++ (pre l ++ rest)
-        unfolding pending
-        waits =
-            let two : d + 2 ≡ suc (suc d) = omega arith in
-            let t : get_or stack' (suc d) 0 ≡ g = subst (λ (k : ℕ). get_or stack' k 0 ≡ g) (add-one d) top in
-            ap (pending nodes stack') two ∙ ap₂ (λ (x y : ℕ). pre x ++ (pre y ++ pending nodes stack' d)) t under
-            ∙ ap (λ (r : List ℕ). pre g ++ (pre l ++ r)) (same-pending nodes stack' stack d old)
-
-        all' : take (found + 1) order' ++ pending nodes stack' (d + 2) ≡ pre 0
-        all' =
-            ap₂ (λ (x y : List ℕ). x ++ y) front waits ∙ append_snoc (take found order) i (pre g ++ (pre l ++ rest))
-            ∙ ap (λ (r : List ℕ). take found order ++ (i ∷ r)) (sym (append_assoc (pre g) (pre l) rest))
-            ∙ sym (ap (λ (r : List ℕ). take found order ++ (r ++ rest)) (pre-split i in_n p v g l e)) ∙ opened
-
-        both : Walked nodes order' places' stack' (d + 2) (found + 1)
-        both = record { on_stack = on; all = all'; placed = placed'; inside = inside' }
-
-      alone : get_or nodes i leaf ≡ leaf → Walked nodes order' places' stack d (found + 1)
+      alone : get_or nodes i leaf ≡ leaf → Walked nodes order' places' stack
       alone e = record {
-        on_stack = λ k h. w.on_stack k (omega arith);
-        all = ap (λ (l : List ℕ). l ++ rest) front ∙ append_snoc (take found order) i rest
-            ∙ sym (ap (λ (l : List ℕ). take found order ++ (l ++ rest)) (pre-leaf i in_n e)) ∙ opened;
+        on_stack = each-front nodes stack (i ∷ []) w.on_stack;
+        all = append_snoc order i rest ∙ sym (ap (λ (l : List ℕ). order ++ (l ++ rest)) (pre-leaf i in_n e)) ∙ opened;
         placed = placed';
-        inside = inside';
       }
 
-      pub walk-on : Walked nodes order' places' (pushed kept gt le d stack) (height_after kept d) (found + 1)
+      pub walk-on : Walked nodes order' places' (pushed kept gt le stack)
       walk-on = go (get_or nodes i leaf) refl shown
         where
-          go : (m : Node) → get_or nodes i leaf ≡ m → ShownAs m kept gt le → Walked nodes order' places' (pushed kept gt le d stack) (height_after kept d) (found + 1)
+          go : (m : Node) → get_or nodes i leaf ≡ m → ShownAs m kept gt le → Walked nodes order' places' (pushed kept gt le stack)
           go leaf e s = rw s (alone e)
           go (split p v g l) e s = rw (s.0, s.1, s.2) (both p v g l e)
 
 -- ---- the same of the lists that show the nodes
 module _ {nodes : List Node} {tree : List MaNode} {splits : List Bool} (shows : ShowsNodes nodes tree splits)
-    {order places stack : List ℕ} {depth found : ℕ} (w : Walked nodes order places stack depth found) where
-  module _ (more : 0 < depth) where
-    low : get_or stack (depth - 1) 0 < length nodes
-    low = w.on_stack (depth - 1) (omega arith)
+    (order places stack : List ℕ) (i : ℕ) (w : Walked nodes order places (stack ++ i ∷ [])) (places_there : length tree ≤ length places) where
+  taken : i < length nodes
+  taken = each-top nodes stack i w.on_stack
 
-    some : 0 < length nodes
-    some = omega (arith, low)
+  some : 0 < length nodes
+  some = omega (arith, taken)
 
-    pub walk_safe : (found + depth ≤ length tree) × (get_or stack (depth - 1) 0 < length tree)
-    walk_safe = (omega (arith, walk-fits nodes shows.family some order places stack depth found w, shows.many), omega (arith, low, shows.many))
+  pub walk_safe : (i < length tree) × (length order < length tree)
+  walk_safe =
+      (omega (arith, taken, shows.many), omega (arith, found-few nodes shows.family some order places stack i w (omega (arith, shows.many)) (get_or splits i false) (gt_at tree i) (le_at tree i), shows.many))
 
-    again : Walked nodes order places stack (suc (depth - 1)) found
-    again = let e : suc (depth - 1) ≡ depth = omega arith in rw e w
+  pub walk-room : get_or splits i false ≡ true → length stack + 2 ≤ length tree
+  walk-room is =
+      omega (arith, push-room nodes shows.family some order places stack i w (omega (arith, shows.many)) (get_or splits i false) (gt_at tree i) (le_at tree i) (shows.shown i walk_safe.0) is, shows.many)
 
-    module _ (order_there : length tree ≤ length order) (places_there : length tree ≤ length places) (stack_there : length tree ≤ length stack) where
-      abbrev taken : ℕ
-      taken = get_or stack (depth - 1) 0
-
-      abbrev stays : Bool
-      stays = get_or splits taken false
-
-      pub walk-room : stays ≡ true → depth - 1 + 2 ≤ length stack
-      walk-room = push-room nodes shows.family some order places stack (depth - 1) found again (omega (arith, shows.many)) (omega (arith, shows.many))
-          (omega (arith, shows.many))
-          stays (gt_at tree taken) (le_at tree taken) (shows.shown taken walk_safe.1)
-
-      pub walk_turn : Walked nodes (set order found taken) (set places taken found) (pushed stays (gt_at tree taken) (le_at tree taken) (depth - 1) stack)
-          (height_after stays (depth - 1)) (found + 1)
-      walk_turn = walk-on nodes shows.family some order places stack (depth - 1) found again (omega (arith, shows.many)) (omega (arith, shows.many))
-          (omega (arith, shows.many))
-          stays (gt_at tree taken) (le_at tree taken) (shows.shown taken walk_safe.1)
+  pub walk_turn : Walked nodes (order ++ i ∷ []) (set places i (length order)) (pushed (get_or splits i false) (gt_at tree i) (le_at tree i) stack)
+  walk_turn = walk-on nodes shows.family some order places stack i w (omega (arith, shows.many)) (get_or splits i false) (gt_at tree i) (le_at tree i) (shows.shown i walk_safe.0)

@@ -2,59 +2,42 @@
 #![tactic(auto)]
 
 ghost use Rattle.std.specs.Prelude.{◌≡◌, ◌+◌, ◌≤◌, true, List, length};
+ghost use Rattle.model.specs.Settings.{max_nodes};
 ghost use Rattle.model.specs.Tree.{Node};
-ghost use Rattle.preorder.specs.Order.{pushed, height_after, ShowsNodes, Walkable, Rooted, Ordered};
+ghost use Rattle.preorder.specs.Order.{pushed, ShowsNodes, Walkable, Ordered};
 
+use arrayvec::ArrayVec;
 use layout::MaNode;
 
+// Numbers of nodes, of each node at most one.
+pub type Numbers = ArrayVec<u32, { layout::MAX_NODES }>;
+
 // The children of a node, if it is a split still, go onto the stack, gt on top.
-fn push_children(node: &MaNode, kept: bool, depth: usize, stack: &mut [u32]) -> usize
-    requires { kept ≡ true → depth + 2 ≤ length stack.old }
-    ensures answer { result ≡ height_after kept depth }
-    ensures stack { stack.new ≡ pushed kept node.now.gt node.now.le depth stack.old }
+fn push_children(node: &MaNode, kept: bool, stack: &mut Numbers)
+    requires { kept ≡ true → length stack.old.items + 2 ≤ max_nodes }
+    ensures { stack.new.items ≡ pushed kept node.now.gt node.now.le stack.old.items }
 {
-    if !kept {
-        return depth;
+    if kept {
+        let MaNode { gt, le, .. } = *node;
+        stack.push(le);
+        stack.push(gt);
     }
-    stack[depth] = node.le;
-    stack[depth + 1] = node.gt;
-    depth + 2
 }
 
-// The nodes in preorder from the root, gt first, and the place of each; the stack holds node 0.
-fn walk(
-    tree: &[MaNode],
-    splits: &[bool],
-    order: &mut [u32],
-    places: &mut [u32],
-    stack: &mut [u32],
-) -> usize
-    requires walkable { Walkable tree.now splits.now order.old places.old }
-    requires rooted { Rooted (length tree.now) stack.old }
+// The nodes in preorder from the root, gt first, and the place of each.
+pub fn order_nodes(tree: &[MaNode], splits: &[bool], places: &mut [u32]) -> Numbers
+    requires { Walkable tree.now splits.now places.old }
     ensures { (nodes : List Node) → ShowsNodes nodes tree.now splits.now
-        → Ordered nodes order.new places.new result }
+        → Ordered nodes result.items places.new }
 {
-    let mut depth: usize = 1;
-    let mut found: usize = 0;
-    // Stays: a walk by a stack counts nothing, and where it ends the tree says.
-    while 0 < depth {
-        let top = depth - 1;
-        let node = stack[top];
+    let mut order = ArrayVec::new();
+    let mut stack = ArrayVec::new();
+    stack.push(0);
+    while let Some(node) = stack.pop() {
         let i = node as usize;
-        order[found] = node;
-        places[i] = found as u32;
-        found += 1;
-        depth = push_children(&tree[i], splits[i], top, stack);
+        places[i] = order.len() as u32;
+        order.push(node);
+        push_children(&tree[i], splits[i], &mut stack);
     }
-    found
-}
-
-// The nodes in preorder from the root, gt first, and the place of each, with a stack of its own; how many these are.
-pub fn order_nodes(tree: &[MaNode], splits: &[bool], order: &mut [u32], places: &mut [u32]) -> usize
-    requires { Walkable tree.now splits.now order.old places.old }
-    ensures { (nodes : List Node) → ShowsNodes nodes tree.now splits.now
-        → Ordered nodes order.new places.new result }
-{
-    let mut stack = [0u32; layout::MAX_NODES];
-    walk(tree, splits, order, places, &mut stack)
+    order
 }

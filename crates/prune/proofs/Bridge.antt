@@ -141,19 +141,18 @@ module _ {x : NodeLists} {count : ℕ} {price : Float} {tree : List (Entry singl
             let r = record_as i a (split p v g l) (kept-split i p v g l z) in
             rw (split_is i a, z) (refl, ap (λ (r : MaNode). r.gt) r, ap (λ (r : MaNode). r.le) r)
 
-    pub walkable : (order places : List ℕ) → count ≤ length splits → count ≤ length order → count ≤ length places → Walkable front splits order places
-    walkable order places a b c = record {
+    pub walkable : (places : List ℕ) → count ≤ length splits → count ≤ length places → Walkable front splits places
+    walkable places a c = record {
       nodes = pn;
       shows = shows-nodes;
       some = omega (arith, h.some, long);
       few = omega (arith, h.few, long);
       splits_there = omega (arith, long);
-      order_there = omega (arith, long);
       places_there = omega (arith, long);
     }
 
     -- ---- the nodes in their new order
-    module _ {order places : List ℕ} {found : ℕ} (done : Ordered pn order places found) where
+    module _ {order places : List ℕ} (done : Ordered pn order places) where
       abbrev preorder-of : List ℕ
       preorder-of = preorder (length pn) pn 0
 
@@ -163,32 +162,29 @@ module _ {x : NodeLists} {count : ℕ} {price : Float} {tree : List (Entry singl
       abbrev new : List (Entry singles)
       new = pruned_tree price tree
 
-      pub found-is : found ≡ length new
-      found-is = done.found_all ∙ sym (length-kept price tree h.family rooted)
+      -- each that is left has its number in the preorder
+      found-all : length order ≡ length preorder-of
+      found-all = ap length done.order_is
+
+      pub found-is : length order ≡ length new
+      found-is = found-all ∙ sym (length-kept price tree h.family rooted)
 
       pub fewer : length new ≤ length tree
       fewer = omega (arith, order-short price tree h.family rooted, length-kept price tree h.family rooted)
 
-      old : (q : ℕ) → q < found → get_or order q 0 < count
-      old q a = rw (done.order_is q a) (omega (arith, h.many, old-number price tree h.family rooted q (omega (arith, done.found_all))))
+      at_q : (q : ℕ) → get_or order q 0 ≡ get_or preorder-of q 0
+      at_q q = ap (λ (l : List ℕ). get_or l q 0) done.order_is
 
-      abbrev left : List ℕ
-      left = take found order
+      old : (q : ℕ) → q < length order → get_or order q 0 < count
+      old q a = rw (at_q q) (omega (arith, h.many, old-number price tree h.family rooted q (omega (arith, found-all))))
 
-      pub order_fits : count ≤ length order → found ≤ length order
-      order_fits there = omega (arith, found-is, fewer, h.many)
-
-      pub left_long : count ≤ length order → length left ≡ found
-      left_long there = length-take-le found order (order_fits there)
-
-      pub movable : count ≤ length splits → count ≤ length order → count ≤ length places → AllMovable x splits left places count
-      movable splits_there order_there places_there = record {
-        few = omega (arith, left_long order_there, found-is, fewer, h.many);
-        most = h.few;
-        room = room;
-        splits_there = splits_there;
-        old = λ q a. let b : q < found = omega (arith, left_long order_there) in rw (get_or-take found order q 0 b) (old q b);
-        children = λ i a s. children i a s (get_or pn i leaf) refl;
+      pub movable : length splits ≡ count → count ≤ length places → AllMovable x splits order places
+      movable each places_there = record {
+        few = omega (arith, found-is, fewer, h.many);
+        most = rw each h.few;
+        room = rw each room;
+        old = λ q a. rw each (old q a);
+        children = λ i a s. children i (rw each at a) s (get_or pn i leaf) refl;
       }
         where
           children : (i : ℕ) → i < count → get_or splits i false ≡ true → (m : Node) → get_or pn i leaf ≡ m → (gt_at x.nodes i < length places)
@@ -200,21 +196,21 @@ module _ {x : NodeLists} {count : ℕ} {price : Float} {tree : List (Entry singl
               (omega (arith, f.2), omega (arith, f.3))
 
       -- entry q of the pruned tree
-      entry_new : (q : ℕ) → q < found → get_or new q no_entry ≡ moved tree pn preorder-of (get_or order q 0)
-      entry_new q a = rw (done.order_is q a) (entry_kept price tree h.family rooted q (omega (arith, done.found_all)))
+      entry_new : (q : ℕ) → q < length order → get_or new q no_entry ≡ moved tree pn preorder-of (get_or order q 0)
+      entry_new q a = rw (at_q q) (entry_kept price tree h.family rooted q (omega (arith, found-all)))
 
       -- a kept node's place in the order is its new number
       place : (i c : ℕ) → Memᴰ i preorder-of → Child pn i c → get_or places c 0 ≡ place_of c preorder-of
       place i c m k =
           let p = place_at c preorder-of (closed price tree h.family rooted i c m k) in
-          ap (λ (e : ℕ). get_or places e 0) (sym p.1) ∙ done.places_are (place_of c preorder-of) (omega (arith, p.0, done.found_all))
+          ap (λ (e : ℕ). get_or places e 0) (sym (at_q (place_of c preorder-of) ∙ p.1)) ∙ done.places_are (place_of c preorder-of) (omega (arith, p.0, found-all))
 
-      module _ (q : ℕ) (a : q < found) where
+      module _ (q : ℕ) (a : q < length order) where
         abbrev i : ℕ
         i = get_or order q 0
 
         member : Memᴰ i preorder-of
-        member = rw (done.order_is q a) (mem_get_d preorder-of q (omega (arith, done.found_all)))
+        member = rw (at_q q) (mem_get_d preorder-of q (omega (arith, found-all)))
 
         in_count : i < count
         in_count = old q a
@@ -235,15 +231,16 @@ module _ {x : NodeLists} {count : ℕ} {price : Float} {tree : List (Entry singl
             go (split p v g l) z =
                 rw (record_as i in_count (split p v g l) (kept-split i p v g l z), place i g member (rw z (inl refl)), place i l member (rw z (inr refl)))
 
-      pub moved_lists : count ≤ length order → holding (compacted x splits places left count) x ≡ holding (pruned_entries {M = singles} price tree) lent
-      moved_lists there =
-          let t : List (Entry singles) = entries_from x splits places left in
-          let blank : List (Entry singles) = replicate (count - length left) no_entry in
-          let many-moved : length t ≡ found = length-entries x splits places left ∙ left_long there in
-          let all : length (t ++ blank) ≡ length tree = length-append t blank ∙ (let a = length-replicate (count - length left) (no_entry {M = singles}) in omega (arith, left_long there, found-is, fewer, h.many)) in
-          ap (holding (t ++ blank)) h.lists ∙ held-again (t ++ blank) tree lent all
-          ∙ held_same t new lent (many-moved ∙ found-is) blank (λ q a. let b : q < found = omega arith in rw (entry-at x splits places left q (omega (arith, left_long there)), get_or-take found order q 0 b) (new-entry q b))
-          ∙ rw (left_long there, found-is, h.many)
+      pub moved_lists : length splits ≡ count → holding (compacted x splits places order) x ≡ holding (pruned_entries {M = singles} price tree) lent
+      moved_lists each =
+          let t : List (Entry singles) = entries_from x splits places order in
+          let blank : List (Entry singles) = replicate (count - length order) no_entry in
+          let many-moved : length t ≡ length order = length-entries x splits places order in
+          let all : length (t ++ blank) ≡ length tree = length-append t blank ∙ (let a = length-replicate (count - length order) (no_entry {M = singles}) in omega (arith, found-is, fewer, h.many)) in
+          ap (λ (n : ℕ). holding (t ++ replicate (n - length order) no_entry) x) each
+          ∙ ap (holding (t ++ blank)) h.lists ∙ held-again (t ++ blank) tree lent all
+          ∙ held_same t new lent (many-moved ∙ found-is) blank (λ q a. let b : q < length order = omega arith in rw (entry-at x splits places order q b) (new-entry q b))
+          ∙ rw (found-is, h.many)
 
   -- ---- they can be priced
   pub all_priceable : (splits : List Bool) → count ≤ length splits → AllPriceable front price splits

@@ -10,7 +10,7 @@ use lib.ListN.{length, get_or, set, drop, get_or-map}
 use lib.Seq.{get_or-drop, get_or-set_same, get_or-set_other}
 use lib.IntN.{ℤ}
 use lib.Dec.{eqb}
-use lib.Ieee.{Float, nan, le}
+use lib.Ieee.{Float, le}
 use Rattle.model.specs.Meter.{Meter}
 use Rattle.model.specs.Single.{singles}
 use Rattle.model.specs.Tree.{Node, split, leaf, is_leaf}
@@ -21,7 +21,8 @@ use Rattle.model.specs.Lent.{stored_node}
 use Rattle.layout.specs.Records.{record_of, no_record, kind_at, gt_at, le_at}
 use Rattle.layout.specs.declared.MaNode.{MaNode}
 use Rattle.prune.specs.declared.Priced.{Priced}
-use Rattle.prune.specs.Prices.{split_priced, leaf_priced, priced_of, ShowsTree, IsPriced, PricedAs}
+use Rattle.prune.specs.Prices.{leaf_priced, no_price, split_priced, ShowsTree, IsPriced, PricedAs}
+use Rattle.std.specs.Prelude.{Option, Some, None, unwrap_or, is_some}
 
 -- node k is priced from those behind it
 price-of : {M : Meter} (price : M.Cost) (s : ℕ) (es : List (Entry M)) (k : ℕ) → k < length es
@@ -32,9 +33,9 @@ price-of price s [] k h = absurd (omega arith)
 price-of price s (e ∷ es) zero h = rw add-zero
 price-of price s (e ∷ es) (suc k) h = let z : suc s + k ≡ s + suc k = omega arith in rw z at (price-of price (suc s) es k (omega arith))
 
--- a struct and the model's record of one node say the same
-abbrev Agrees : Priced → model.Priced singles → Type 0
-Agrees r p = (r.bits ≡ p.bits) × (r.priced ≡ p.priced) × (r.split ≡ not (is_leaf p.node))
+-- what a node of this cost comes to, and whether it stays a split, is what the model's record says
+abbrev Agrees : Option Priced → Float → model.Priced singles → Type 0
+Agrees r cost p = ((unwrap_or r (leaf_priced cost)).bits ≡ p.bits) × ((unwrap_or r (leaf_priced cost)).priced ≡ p.priced) × (is_some r ≡ not (is_leaf p.node))
 
 module _ (price : Float) (tree : List (Entry singles)) where
   abbrev price_at : ℕ → model.Priced singles
@@ -46,8 +47,8 @@ module _ (price : Float) (tree : List (Entry singles)) where
 
   module _ (nodes : List MaNode) (shows : ShowsTree tree nodes)
       (children : (i : ℕ) → i < length nodes → eqb (kind_at nodes i) 1 ≡ true → (gt_at nodes i < length nodes) × (le_at nodes i < length nodes)) where
-    module _ (bits priced : List Float) (splits : List Bool) (i : ℕ) (h : i < length nodes)
-        (later : (k : ℕ) → suc i ≤ k → k < length nodes → IsPriced price tree k bits priced splits) where
+    module _ (prices : List Priced) (splits : List Bool) (i : ℕ) (h : i < length nodes)
+        (later : (k : ℕ) → suc i ≤ k → k < length nodes → IsPriced price tree k prices splits) where
       abbrev e : Entry singles
       e = get_or tree i no_entry
 
@@ -60,23 +61,20 @@ module _ (price : Float) (tree : List (Entry singles)) where
       whole : price_at i ≡ priced_before price i e e.node (drop (suc i) (priced_from {M = singles} price 0 tree))
       whole = rw zero-add at (price-of {M = singles} price 0 tree i (omega (arith, shows.many)))
 
-      as_leaf_lem : (cost : Float) → cost ≡ e.info.cost → Agrees (leaf_priced cost) (model.as_leaf e)
-      as_leaf_lem cost z = (z, z, refl)
-
-      as_split : (cost b k : Float) (p : ℕ) (v : ℤ) (g l : ℕ) → cost ≡ e.info.cost
-          → Agrees (split_priced cost b k) (cond (le e.info.cost k) (model.as_leaf e) (record { node = split p v g l; bits = b; priced = k }))
-      as_split cost b k p v g l z = rw z (go (le e.info.cost k))
+      as_split : (b k : Float) (p : ℕ) (v : ℤ) (g l : ℕ) → Agrees (cond (le e.info.cost k) None (Some (record { bits = b; priced = k }))) e.info.cost
+          (cond (le e.info.cost k) (model.as_leaf e) (record { node = split p v g l; bits = b; priced = k }))
+      as_split b k p v g l = go (le e.info.cost k)
         where
-          go : (t : Bool) → Agrees (cond t (leaf_priced e.info.cost) (record { split = true; bits = b; priced = k }))
+          go : (t : Bool) → Agrees (cond t None (Some (record { bits = b; priced = k }))) e.info.cost
               (cond t (model.as_leaf e) (record { node = split p v g l; bits = b; priced = k }))
           go true = (refl, refl, refl)
           go false = (refl, refl, refl)
 
-      pub next : Agrees (priced_of m price bits priced) (price_at i)
-      next = subst (Agrees (priced_of m price bits priced)) (sym whole) (go e.node refl)
+      next : Agrees (split_priced m price prices) m.info.cost (price_at i)
+      next = subst (Agrees (split_priced m price prices) m.info.cost) (sym whole) (go e.node refl)
         where
-          go : (n : Node) → e.node ≡ n → Agrees (priced_of m price bits priced) (priced_before price i e n (drop (suc i) (priced_from {M = singles} price 0 tree)))
-          go leaf z = rw (record-is leaf z) (as_leaf_lem e.info.cost refl)
+          go : (n : Node) → e.node ≡ n → Agrees (split_priced m price prices) m.info.cost (priced_before price i e n (drop (suc i) (priced_from {M = singles} price 0 tree)))
+          go leaf z = rw (record-is leaf z) (refl, refl, refl)
           go (split p v g l) z =
               let r = record-is (split p v g l) z in
               let gt : m.gt ≡ g = ap (λ (r : MaNode). r.gt) r in
@@ -88,34 +86,34 @@ module _ (price : Float) (tree : List (Entry singles)) where
               let il : i < l = rw lt at fw.1 in
               let pg = later g ig (rw gt at in_range.0) in
               let pl = later l il (rw lt at in_range.1) in
-              rw (r, behind i g ig, behind i l il, pg.bits_are, pl.bits_are, pg.priced_are, pl.priced_are)
-              (as_split e.info.cost _ _ p v g l refl)
+              rw (r, behind i g ig, behind i l il, pg.bits_are, pl.bits_are, pg.priced_are, pl.priced_are) (as_split _ _ p v g l)
 
       -- one node more is priced
-      pub priced-more : (r : Priced) → r ≡ priced_of m price bits priced → i < length bits → i < length priced → i < length splits
-          → (k : ℕ) → i ≤ k → k < length nodes → IsPriced price tree k (set bits i r.bits) (set priced i r.priced) (set splits i r.split)
-      priced-more r z hb hp hs k a b = elim (ℕ_discrete k i) [ yes q ↦ own q | no ne ↦ other ne (omega arith) ]
+      pub priced-more : (r : Option Priced) → r ≡ split_priced m price prices → {p : Priced} → p ≡ unwrap_or r (leaf_priced m.info.cost) → {s : Bool} → s ≡ is_some r
+          → i < length prices → i < length splits
+          → (k : ℕ) → i ≤ k → k < length nodes → IsPriced price tree k (set prices i p) (set splits i s)
+      priced-more r z {p} y {s} x hp hs k a b = elim (ℕ_discrete k i) [ yes q ↦ own q | no ne ↦ other ne (omega arith) ]
         where
-          own : k ≡ i → IsPriced price tree k (set bits i r.bits) (set priced i r.priced) (set splits i r.split)
-          own q = rw (q, z) record {
-            bits_are = get_or-set_same bits i _ nan hb ∙ next.0;
-            priced_are = get_or-set_same priced i _ nan hp ∙ next.1;
+          own : k ≡ i → IsPriced price tree k (set prices i p) (set splits i s)
+          own q = rw (q, y, x, z) record {
+            bits_are = ap (λ (w : Priced). w.bits) (get_or-set_same prices i _ no_price hp) ∙ next.0;
+            priced_are = ap (λ (w : Priced). w.priced) (get_or-set_same prices i _ no_price hp) ∙ next.1;
             split_is = get_or-set_same splits i _ false hs ∙ next.2;
           }
 
-          other : (k ≡ i → ⊥) → suc i ≤ k → IsPriced price tree k (set bits i r.bits) (set priced i r.priced) (set splits i r.split)
-          other ne c = let p = later k c b in record {
-            bits_are = get_or-set_other bits i k r.bits nan ne ∙ p.bits_are;
-            priced_are = get_or-set_other priced i k r.priced nan ne ∙ p.priced_are;
-            split_is = get_or-set_other splits i k r.split false ne ∙ p.split_is;
+          other : (k ≡ i → ⊥) → suc i ≤ k → IsPriced price tree k (set prices i p) (set splits i s)
+          other ne c = let was = later k c b in record {
+            bits_are = ap (λ (w : Priced). w.bits) (get_or-set_other prices i k p no_price ne) ∙ was.bits_are;
+            priced_are = ap (λ (w : Priced). w.priced) (get_or-set_other prices i k p no_price ne) ∙ was.priced_are;
+            split_is = get_or-set_other splits i k s false ne ∙ was.split_is;
           }
 
   -- when all are priced
-  pub priced-all : (count : ℕ) (bits priced : List Float) (splits : List Bool) → count ≡ length tree → 0 < count
-      → ((i : ℕ) → i < count → IsPriced price tree i bits priced splits)
-      → PricedAs price tree (get_or bits 0 nan) splits
+  pub priced-all : (count : ℕ) (prices : List Priced) (splits : List Bool) → count ≡ length tree → 0 < count
+      → ((i : ℕ) → i < count → IsPriced price tree i prices splits)
+      → PricedAs price tree (get_or prices 0 no_price).bits splits
   unfolding pruned_bits pruned_nodes
-  priced-all count bits priced splits many some all = record {
+  priced-all count prices splits many some all = record {
     bits_are = (all 0 some).bits_are;
     splits_are = λ i h. (all i (omega arith)).split_is
         ∙ ap (λ (n : Node). not (is_leaf n)) (sym (get_or-map (λ (p : model.Priced singles). p.node) (priced_from {M = singles} price 0 tree) i no_priced));

@@ -1,15 +1,14 @@
 -- Lists that hold a tree to be pruned, and what pruning leaves in them. Assumes nothing.
-use Rattle.std.specs.Prelude.{ℕ, ◌-◌, ◌≤◌, ◌<◌, ◌≡◌, Bool, List, ◌++◌, length, get_or, replicate, Float}
+use Rattle.std.specs.Prelude.{ℕ, ◌-◌, ◌≤◌, ◌<◌, ◌≡◌, List, ◌++◌, length, get_or, replicate, Float}
 use Rattle.model.specs.Meter.{Meter}
 use Rattle.model.specs.Settings.{max_nodes}
 use Rattle.model.specs.Single.{singles}
 use Rattle.model.specs.Grow.{Entry, no_entry, tree_nodes}
-use Rattle.model.specs.Prune.{pruned_nodes, pruned_tree, pruned_bits}
+use Rattle.model.specs.Prune.{pruned_tree, pruned_bits}
 use Rattle.model.specs.Family.{Family}
 use Rattle.layout.specs.declared.Tree.{Tree}
 use Rattle.layout.specs.Tree.{NodeLists, holding, HasRoom}
-use Rattle.preorder.specs.Order.{Ordered}
-use Rattle.prune.specs.Prices.{IsNumber, PricedAs}
+use Rattle.prune.specs.Prices.{IsNumber}
 
 -- the lists hold the tree, over those lent; its costs and the price are such as can be compared
 pub record HoldsTree (x : NodeLists) (count : ℕ) (price : Float) (tree : List (Entry singles)) (lent : NodeLists) : Type 0 where
@@ -31,11 +30,6 @@ pub record Prunable (x : NodeLists) (count : ℕ) (price : Float) : Type 0 where
 -- the pruned tree, then the entries that it vacated
 abbrev pub pruned_entries : {M : Meter} → M.Cost → List (Entry M) → List (Entry M)
 pruned_entries price tree = pruned_tree price tree ++ replicate (length tree - length (pruned_tree price tree)) no_entry
-
--- which nodes are splits still, and the order of those that are left
-pub record Arranged (price : Float) (tree : List (Entry singles)) (splits : List Bool) (order places : List ℕ) (r : Tree) : Type 0 where
-  pub priced : PricedAs {M = singles} price tree r.bits splits
-  pub ordered : Ordered (pruned_nodes {M = singles} price tree) order places r.nodes
 
 -- what pruning leaves in the lists, and what it answers: how many nodes there are, and the bits
 pub record PrunedAs (price : Float) (tree : List (Entry singles)) (lent y : NodeLists) (r : Tree) : Type 0 where

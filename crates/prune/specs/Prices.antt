@@ -1,6 +1,6 @@
 -- The pass from the last node back (document 01, "Pruning": a split becomes a leaf if its own cost is at most what its two sides come to).
 -- Assumes nothing.
-use Rattle.std.specs.Prelude.{ℕ, ◌≤◌, ◌<◌, ◌≡◌, Bool, true, false, cond, not, List, length, get_or, T, eqb, Float}
+use Rattle.std.specs.Prelude.{ℕ, ◌≤◌, ◌<◌, ◌≡◌, Bool, true, false, cond, not, List, length, get_or, T, eqb, Float, Option, Some, None}
 use Rattle.std.specs.Float.{nan, binary64}
 use Rattle.std.specs.Float.Ieee.{add, le, is_nan}
 use Rattle.model.specs.Meter.{Meter}
@@ -16,30 +16,33 @@ use Rattle.prune.specs.declared.Priced.{Priced}
 
 -- a leaf's price is its own cost
 abbrev pub leaf_priced : Float → Priced
-leaf_priced cost = record { split = false; bits = cost; priced = cost }
+leaf_priced cost = record { bits = cost; priced = cost }
 
--- a split of this cost, whose sides have these bits and come, with the price, to `kept`
-abbrev pub split_priced : Float → Float → Float → Priced
-split_priced cost bits kept = cond (le cost kept) (leaf_priced cost) (record { split = true; bits = bits; priced = kept })
+-- a price to name where a list has none
+abbrev pub no_price : Priced
+no_price = record { bits = nan; priced = nan }
 
--- a node, with what stands in the two lists for its children
-abbrev pub priced_of : MaNode → Float → List Float → List Float → Priced
-priced_of m price bits priced =
-    cond (eqb m.kind 1)
-    (split_priced m.info.cost
-    (add binary64 (get_or bits m.gt nan) (get_or bits m.le nan))
-    (add binary64 (add binary64 (get_or priced m.gt nan) (get_or priced m.le nan)) price))
-    (leaf_priced m.info.cost)
+-- what a split's two sides come to with the price
+abbrev pub kept_price : Priced → Priced → Float → Float
+kept_price g l price = add binary64 (add binary64 g.priced l.priced) price
+
+-- a split of this cost that stays one; none where it becomes a leaf
+abbrev pub kept_split : Float → Priced → Priced → Float → Option Priced
+kept_split cost g l price = cond (le cost (kept_price g l price)) None (Some (record { bits = add binary64 g.bits l.bits; priced = kept_price g l price }))
+
+-- a node, with what stands in the list for its children, if it stays a split; none for one that becomes, or is, a leaf
+abbrev pub split_priced : MaNode → Float → List Priced → Option Priced
+split_priced m price prices = cond (eqb m.kind 1) (kept_split m.info.cost (get_or prices m.gt no_price) (get_or prices m.le no_price) price) None
 
 -- a number that is none
 abbrev pub IsNumber : Float → Type 0
 IsNumber x = T (not (is_nan x))
 
 -- a node and its children can be priced
-pub record Priceable (m : MaNode) (price : Float) (bits priced : List Float) : Type 0 where
+pub record Priceable (m : MaNode) (price : Float) (prices : List Priced) : Type 0 where
   pub number : IsNumber m.info.cost
   pub price_number : IsNumber price
-  pub children : eqb m.kind 1 ≡ true → (m.gt < length bits) × (m.le < length bits) × (m.gt < length priced) × (m.le < length priced)
+  pub children : eqb m.kind 1 ≡ true → (m.gt < length prices) × (m.le < length prices)
 
 -- all nodes can be priced: children stand behind their split
 pub record AllPriceable (nodes : List MaNode) (price : Float) (splits : List Bool) : Type 0 where
@@ -57,9 +60,9 @@ pub record ShowsTree (tree : List (Entry singles)) (nodes : List MaNode) : Type 
   pub forward : (i : ℕ) → i < length nodes → eqb (kind_at nodes i) 1 ≡ true → (i < gt_at nodes i) × (i < le_at nodes i)
 
 -- node i is priced
-pub record IsPriced (price : Float) (tree : List (Entry singles)) (i : ℕ) (bits priced : List Float) (splits : List Bool) : Type 0 where
-  pub bits_are : get_or bits i nan ≡ (get_or (priced_from {M = singles} price 0 tree) i no_priced).bits
-  pub priced_are : get_or priced i nan ≡ (get_or (priced_from {M = singles} price 0 tree) i no_priced).priced
+pub record IsPriced (price : Float) (tree : List (Entry singles)) (i : ℕ) (prices : List Priced) (splits : List Bool) : Type 0 where
+  pub bits_are : (get_or prices i no_price).bits ≡ (get_or (priced_from {M = singles} price 0 tree) i no_priced).bits
+  pub priced_are : (get_or prices i no_price).priced ≡ (get_or (priced_from {M = singles} price 0 tree) i no_priced).priced
   pub split_is : get_or splits i false ≡ not (is_leaf (get_or (priced_from {M = singles} price 0 tree) i no_priced).node)
 
 -- all are: the surviving leaves' bits, and which nodes are splits

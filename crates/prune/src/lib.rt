@@ -2,23 +2,24 @@
 // `preorder`, and the nodes moved into that order by `compact`.
 #![tactic(auto)]
 
-ghost use Rattle.std.specs.Prelude.{◌≡◌, List, ℕ, ◌≤◌, ◌<◌, length};
+ghost use Rattle.std.specs.Prelude.{◌≡◌, List, ℕ, ◌≤◌, ◌<◌, length, take};
 ghost use Rattle.model.specs.Single.{singles};
 ghost use Rattle.model.specs.Grow.{Entry};
 ghost use Rattle.layout.specs.Tree.{NodeLists};
 ghost use Rattle.layout.specs.Lent.{lists_in, SameNodesLent};
-ghost use Rattle.prune.specs.Prices.{split_priced, leaf_priced, priced_of, IsNumber, Priceable, AllPriceable};
+ghost use Rattle.model.specs.Tree.{Node};
+ghost use Rattle.preorder.specs.Order.{ShowsNodes, Walkable, Ordered};
+ghost use Rattle.prune.specs.Prices.{leaf_priced, split_priced, IsNumber, Priceable, AllPriceable};
 ghost use Rattle.prune.specs.Prices.{ShowsTree, IsPriced, PricedAs};
-ghost use Rattle.prune.specs.Held.{HoldsTree, Prunable, Arranged, PrunedAs};
+ghost use Rattle.prune.specs.Held.{HoldsTree, Prunable, PrunedAs};
 
+use compact::NewOrder;
 use layout::{MaNode, Nodes, Tree};
+use preorder::Numbers;
 
-// What a node has become: a split, or else a leaf; the bits of the leaves under it; and these with a price for each
-// split that is kept.
-// Stays: beside the flag stand the bits of either case, so an enum would hold them in both its variants.
+// The bits of the leaves under a node, and these with a price for each split that is kept.
 #[derive(Clone, Copy)]
 struct Priced {
-    split: bool,
     bits: f64,
     priced: f64,
 }
@@ -30,92 +31,75 @@ fn price_leaf(cost: f32) -> Priced
 {
     let own = f64::from(cost);
     Priced {
-        split: false,
         bits: own,
         priced: own,
     }
 }
 
-// A split becomes a leaf if its own cost is at most what its two sides and the price come to.
-fn price_split(cost: f32, bits: f64, kept: f64) -> Priced
-    requires { IsNumber cost }
-    ensures { result ≡ split_priced cost bits kept }
+// What a node comes to that stays a split; its children stand behind it and are priced. A split becomes a leaf if its
+// own cost is at most what its two sides and the price come to.
+fn price_split(node: &MaNode, prices: &[Priced], price: f32) -> Option<Priced>
+    requires { Priceable node.now price prices.now }
+    ensures { result ≡ split_priced node.now price prices.now }
 {
-    let own = f64::from(cost);
-    if own <= kept {
-        return price_leaf(cost);
-    }
-    Priced {
-        split: true,
-        bits,
-        priced: kept,
-    }
-}
-
-// The price of a node, whose children stand behind it and are priced.
-fn price_node(node: &MaNode, bits: &[f64], priced: &[f64], price: f32) -> Priced
-    requires { Priceable node.now price bits.now priced.now }
-    ensures { result ≡ priced_of node.now price bits.now priced.now }
-{
-    let cost = node.info.cost;
     if !node.is_split() {
-        return price_leaf(cost);
+        return None;
     }
-    let gt = node.gt as usize;
-    let le = node.le as usize;
-    let kept = priced[gt] + priced[le] + f64::from(price);
-    price_split(cost, bits[gt] + bits[le], kept)
+    let gt = prices[node.gt as usize];
+    let le = prices[node.le as usize];
+    let own = f64::from(node.info.cost);
+    let kept = gt.priced + le.priced + f64::from(price);
+    if own <= kept {
+        return None;
+    }
+    Some(Priced {
+        bits: gt.bits + le.bits,
+        priced: kept,
+    })
 }
 
-// Every node's price, from the last node back.
-fn price_all(tree: &[MaNode], bits: &mut [f64], priced: &mut [f64], splits: &mut [bool], price: f32)
+// Every node's price, from the last node back, and whether it stays a split.
+// Stays: `splits` is a list of its own, since the walk in preorder and the move read just these, and no prices.
+fn price_all(tree: &[MaNode], prices: &mut [Priced], splits: &mut [bool], price: f32)
     requires all_priceable { AllPriceable tree.now price splits.old }
-    requires count_in_bounds { (length tree.now ≤ length bits.old) × (length tree.now ≤ length priced.old) }
+    requires count_in_bounds { length tree.now ≤ length prices.old }
     ensures { (entries : List (Entry singles)) → ShowsTree entries tree.now
-        → (i : ℕ) → i < length tree.now → IsPriced price entries i bits.new priced.new splits.new }
+        → (i : ℕ) → i < length tree.now → IsPriced price entries i prices.new splits.new }
 {
-    // Stays: a node's price is made of its children's, which stand behind it in the lists that are written.
+    // Stays: a node's price is made of its children's, which stand behind it in the list that is written.
     for i in (0..tree.len()).rev() {
-        let node = price_node(&tree[i], bits, priced, price);
-        bits[i] = node.bits;
-        priced[i] = node.priced;
-        splits[i] = node.split;
+        let split = price_split(&tree[i], prices, price);
+        splits[i] = split.is_some();
+        prices[i] = split.unwrap_or(price_leaf(tree[i].info.cost));
     }
 }
 
-// Which nodes are splits still, and the bits of the leaves that survive.
-fn price_nodes(tree: &[MaNode], splits: &mut [bool], price: f32) -> f64
-    requires { AllPriceable tree.now price splits.old }
-    ensures { (entries : List (Entry singles)) → ShowsTree entries tree.now
-        → PricedAs price entries result splits.new }
+// Which nodes are splits still, and the bits of the leaves that survive. There is a flag for each node of the tree.
+fn price_nodes(at: &Nodes, splits: &mut [bool], price: f32) -> f64
+    requires { Prunable (lists_in at.now) (length splits.old) price }
+    ensures { (tree : List (Entry singles)) (lent : NodeLists)
+        → HoldsTree (lists_in at.now) (length splits.old) price tree lent
+        → PricedAs price tree result splits.new }
 {
-    let mut bits = [0.0f64; layout::MAX_NODES];
-    let mut priced = [0.0f64; layout::MAX_NODES];
-    price_all(tree, &mut bits, &mut priced, splits, price);
-    bits[0]
+    let tree = &at.nodes[..splits.len()];
+    let mut prices = [Priced {
+        bits: 0.0,
+        priced: 0.0,
+    }; layout::MAX_NODES];
+    price_all(tree, &mut prices, splits, price);
+    prices[0].bits
 }
 
-// Which nodes are splits still, the order of those that are left, and the place of each in it; how many these are and
-// the bits of the leaves that survive.
-// Stays: the caller's lists have room for the largest tree, so how many nodes are the tree's goes beside them.
-fn arrange(
-    at: &Nodes,
-    splits: &mut [bool],
-    order: &mut [u32],
-    places: &mut [u32],
-    count: usize,
-    price: f32,
-) -> Tree
-    requires prunable { Prunable (lists_in at.now) count price }
-    requires room { (count ≤ length splits.old) × (count ≤ length order.old) × (count ≤ length places.old) }
-    ensures { (tree : List (Entry singles)) (lent : NodeLists)
-        → HoldsTree (lists_in at.now) count price tree lent
-        → Arranged price tree splits.new order.new places.new result }
+// The nodes that are left, in their new order, and the place of each. There is a flag for each node of the tree. A
+// function of its own, since of a part of a lent struct's list that is handed on the caller's proof knows no more.
+fn order_nodes(at: &Nodes, splits: &[bool], places: &mut [u32]) -> Numbers
+    requires there { length splits.now ≤ length at.now.nodes.now }
+    requires walkable { Walkable (take (length splits.now) at.now.nodes.now) splits.now places.old }
+    ensures { (nodes : List Node)
+        → ShowsNodes nodes (take (length splits.now) at.now.nodes.now) splits.now
+        → Ordered nodes result.items places.new }
 {
-    let tree = &at.nodes[..count];
-    let bits = price_nodes(tree, splits, price);
-    let nodes = preorder::order_nodes(tree, splits, order, places);
-    Tree { nodes, bits }
+    preorder::order_nodes(&at.nodes[..splits.len()], splits, places)
 }
 
 // Folds each split whose own cost is at most what its two sides and the price come to, and renumbers what is left from
@@ -127,10 +111,19 @@ pub fn prune_tree(at: &mut Nodes, count: usize, price: f32) -> Tree
         → HoldsTree (lists_in at.old) count price tree lent
         → PrunedAs price tree lent (lists_in at.new) result }
 {
-    let mut splits = [false; layout::MAX_NODES];
-    let mut order = [0u32; layout::MAX_NODES];
+    let mut flags = [false; layout::MAX_NODES];
     let mut places = [0u32; layout::MAX_NODES];
-    let tree = arrange(at, &mut splits, &mut order, &mut places, count, price);
-    compact::move_nodes(at, &splits, &order[..tree.nodes], &places, count);
-    tree
+    let splits = &mut flags[..count];
+    let bits = price_nodes(at, splits, price);
+    let order = order_nodes(at, splits, &mut places);
+    let new_order = NewOrder {
+        splits,
+        order: &order,
+        places: &places,
+    };
+    compact::move_nodes(at, new_order);
+    Tree {
+        nodes: order.len(),
+        bits,
+    }
 }

@@ -7,4 +7,4 @@ use Rattle.compact.proofs.gather.Given as goal
 
 abbrev pub invariant-loop-q : goal.invariant-loop-q
 invariant-loop-q l = node_lists l.nodes l.spans
-    ≡ holding (entries_from (lists_in l.from) l.splits l.places (take l.q l.order)) (node_lists l.initial.nodes l.initial.spans)
+    ≡ holding (entries_from (lists_in l.from) l.new_order.splits.now l.new_order.places.now (take l.q l.new_order.order.now)) (node_lists l.initial.nodes l.initial.spans)

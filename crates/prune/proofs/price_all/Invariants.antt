@@ -8,4 +8,4 @@ use Rattle.prune.specs.Prices.{ShowsTree, IsPriced}
 use Rattle.prune.proofs.price_all.Given as goal
 
 abbrev pub invariant-loop-i : goal.invariant-loop-i
-invariant-loop-i l = (entries : List (Entry singles)) → ShowsTree entries l.tree → (k : ℕ) → l.i ≤ k → k < length l.tree → IsPriced l.price entries k l.bits l.priced l.splits
+invariant-loop-i l = (entries : List (Entry singles)) → ShowsTree entries l.tree → (k : ℕ) → l.i ≤ k → k < length l.tree → IsPriced l.price entries k l.prices l.splits

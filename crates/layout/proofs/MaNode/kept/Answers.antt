@@ -8,4 +8,5 @@ pub returns : goal.returns
 unfolding of_bits
 returns c = let m = c.args.self.now in
     let split : eqb m.kind 1 ≡ true = sym c.is_split.ensures ∙ c.if-not-is_split.false in
-    rw (split, to_z-of_z w32 m.val (search rules))
+    let (_, (no_pred, no_offset)) = c.default.ensures in
+    rw (split, no_pred, no_offset, to_z-of_z w32 m.val (search rules))
