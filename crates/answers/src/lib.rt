@@ -1,6 +1,7 @@
 // What the exports answer. Enums do not cross over to C, so an answer is a struct of numbers: number 0 says that the
 // call was accepted, and any other number is document 01's, with its place; the rest of a refusal is 0.
-// Stays: a number and a place beside each answer, since enums do not cross over to C.
+// Stays: a number and a place beside each answer, since enums do not cross over to C; `Read` and `Count` hold the same
+// numbers, and are two types in C's header.
 #![tactic(auto)]
 
 ghost use Rattle.std.specs.Prelude.{◌≡◌};

@@ -13,14 +13,12 @@ use Rattle.model.specs.Refuse.{learn_refusal, deepen_refusal}
 use Rattle.model.specs.Operations.{After, Tree, ContextLists, tree_of, unless, learn, deepen}
 use Rattle.model.specs.Tree.{Record}
 use Rattle.layout.specs.Waiting.{QueueLists, queue_lists}
-use Rattle.layout.specs.declared.Nodes.{Nodes}
 use Rattle.queue.specs.Lent.{queue_in}
 use Rattle.queue.specs.Room.{leaves_lent, cleared}
-use Rattle.queue.specs.declared.Queue.{Queue}
 use Rattle.refuse.specs.declared.Rooms.{Rooms}
 use Rattle.rows.specs.Flat.{Flat, flat, flat_of, has_residuals}
 use Rattle.rows.specs.Lent.{flat_in}
-use Rattle.rows.specs.declared.Rows.{Rows}
+use Rattle.lent.specs.declared.Lists.{Lists}
 use Rattle.lent.specs.Lists.{stored_queue}
 use Rattle.layout.specs.Records.{stored_of, record_of, span_is, span_record}
 use Rattle.layout.specs.declared.MaNode.{MaNode}
@@ -45,9 +43,9 @@ abbrev pub records_with : List MaNode → List Span → MutBor (List ℤ) → Mu
 records_with nodes spans props tok res queue_words queue_values queue_gains counts =
     records (flat props.now tok.now res.now) nodes spans (queue_lists queue_words.now queue_values.now queue_gains.now) counts.now
 
--- what the learner's structs hold
-abbrev pub records_in : Rows → Nodes → Queue → List ℕ → Records
-records_in rows at queue counts = records (flat_in rows) at.nodes.now at.spans.now (queue_in queue) counts
+-- what the learner's struct holds
+abbrev pub records_in : Lists → Records
+records_in x = records (flat_in x.rows.now) x.at.now.nodes.now x.at.now.spans.now (queue_in x.queue.now) x.counts.now
 
 -- how many entries there are
 abbrev pub rooms_in : Records → Rooms

@@ -14,21 +14,19 @@ ghost use Rattle.answers.specs.Answers.{learned_in};
 ghost use Rattle.border.specs.Lists.{records_in, rooms_in, Worked};
 
 use layout::Nodes;
-use lent::Learned;
+use lent::{Learned, Lists};
 use model::Refusal;
-use queue::Queue;
 use refuse::{Job, Rooms};
-use rows::Rows;
 
 // How many entries the caller's lists have.
-fn rooms_of(rows: &Rows, at: &Nodes, queue: &Queue, counts: &[u32]) -> Rooms
-    ensures { result ≡ rooms_in (records_in rows.now at.now queue.now counts.now) }
+fn rooms_of(lists: &Lists) -> Rooms
+    ensures { result ≡ rooms_in (records_in lists.now) }
 {
     Rooms {
-        nodes: at.nodes.len(),
-        spans: at.spans.len(),
-        queue: queue.room(),
-        counts: counts.len(),
+        nodes: lists.at.nodes.len(),
+        spans: lists.at.spans.len(),
+        queue: lists.queue.room(),
+        counts: lists.counts.len(),
     }
 }
 
@@ -37,48 +35,33 @@ fn seed_fault(at: &Nodes, count: u32) -> Option<u32>
     requires { count ≤ length at.now.nodes.now }
     ensures { fault_named result ≡ fault_of (tree_in count (map stored_of at.now.nodes.now)) }
 {
-    tree::fault_of(at.nodes, count)
+    tree::fault_of(&at.nodes[..count as usize])
 }
 
 // Learns, unless one of conditions 1 to 7 holds.
-pub fn learn_on(
-    rows: &mut Rows,
-    at: &mut Nodes,
-    queue: &mut Queue,
-    counts: &mut [u32],
-    job: Job,
-) -> Result<Learned, Refusal>
-    ensures lent { SameLent rows.old rows.new at.old at.new queue.old queue.new }
+pub fn learn_on(lists: &mut Lists, job: Job) -> Result<Learned, Refusal>
+    ensures lent { SameLent lists.old lists.new }
     ensures worked { Worked (settings_of job.entry.settings) job.entry.logs.now false 0
-        (records_in rows.old at.old queue.old counts.old)
-        (records_in rows.new at.new queue.new counts.new) (learned_in (tree_outcome result)) }
+        (records_in lists.old) (records_in lists.new) (learned_in (tree_outcome result)) }
 {
-    let rooms = rooms_of(rows, at, queue, counts);
-    refuse::check_learn(rows, job, rooms)?;
-    let tree = learn::learn_ma_tree_in_place(rows, at, queue, counts, job);
+    let rooms = rooms_of(lists);
+    refuse::check_learn(lists.rows, job, rooms)?;
+    let tree = learn::learn_ma_tree_in_place(lists, job);
     Ok(lent::answer(tree))
 }
 
 // Deepens the first `count` nodes, unless one of conditions 1 to 7 holds or they are no sound tree (8).
-pub fn deepen_on(
-    rows: &mut Rows,
-    at: &mut Nodes,
-    queue: &mut Queue,
-    counts: &mut [u32],
-    job: Job,
-    count: u32,
-) -> Result<Learned, Refusal>
-    ensures lent { SameLent rows.old rows.new at.old at.new queue.old queue.new }
+pub fn deepen_on(lists: &mut Lists, job: Job, count: u32) -> Result<Learned, Refusal>
+    ensures lent { SameLent lists.old lists.new }
     ensures worked { Worked (settings_of job.entry.settings) job.entry.logs.now true count
-        (records_in rows.old at.old queue.old counts.old)
-        (records_in rows.new at.new queue.new counts.new) (learned_in (tree_outcome result)) }
+        (records_in lists.old) (records_in lists.new) (learned_in (tree_outcome result)) }
 {
     let seeds = count as usize;
-    let rooms = rooms_of(rows, at, queue, counts);
-    refuse::check_deepen(rows, job, rooms, seeds)?;
-    if let Some(node) = seed_fault(at, count) {
+    let rooms = rooms_of(lists);
+    refuse::check_deepen(lists.rows, job, rooms, seeds)?;
+    if let Some(node) = seed_fault(lists.at, count) {
         return Err(Refusal::UnsoundTree(node));
     }
-    let tree = deepen::deepen_ma_tree(rows, at, queue, counts, job, seeds);
+    let tree = deepen::deepen_ma_tree(lists, job, seeds);
     Ok(lent::answer(tree))
 }

@@ -15,7 +15,7 @@ use Rattle.layout.specs.Waiting.{QueueLists}
 use Rattle.layout.proofs.Held.{room-fewer}
 use Rattle.rows.specs.Flat.{flat}
 use Rattle.rows.proofs.Cells.{length-held}
-use Rattle.lent.specs.Lists.{stored_queue}
+use Rattle.lent.specs.Lists.{stored_queue, lists}
 use Rattle.lent.specs.Grows.{job_in}
 use Rattle.lent.proofs.Accepting.{accepted-plantable}
 use Rattle.seed_rows.specs.Ordered.{seed_in}
@@ -23,7 +23,7 @@ use Rattle.seed_leaves.specs.Seeded.{Seedable}
 
 pub accepted-seedable : {job : Job} (x : Lent singles) {rows count : ℕ} → Accepted job.settings job.logs.now x rows → SeedRooms count x
     → (n : NodeLists) (q : QueueLists) → x.queue ≡ stored_queue q → HasRoom (max (2 * job.settings.max_leaves - 1) count) n → fault_of (seed_in count n) ≡ none
-    → Seedable job (replicate (length x.counts) 0) (flat x.props x.toks x.res) n q count
+    → Seedable job (lists (flat x.props x.toks x.res) n q (replicate (length x.counts) 0)) count
 accepted-seedable {job} x {count = count} a more n q stands room sound =
     let p = accepted-plantable x a n q stands (room-fewer room (omega arith)) in
     record {

@@ -11,30 +11,23 @@ ghost use Rattle.lent.specs.Answer.{LearnedAs};
 ghost use Rattle.from_seed.specs.Result.{deepened_in};
 ghost use Rattle.deepen.specs.Deepens.{Deepenable};
 
-use layout::Nodes;
-use lent::Finished;
-use queue::Queue;
+use lent::{Finished, Lists};
 use refuse::Job;
-use rows::Rows;
 
 // Deepens the tree of the first `count` nodes.
-// Stays: the caller's lists have room for the largest tree, so how many nodes are the tree's goes beside them.
-pub fn deepen_ma_tree(
-    rows: &mut Rows,
-    at: &mut Nodes,
-    queue: &mut Queue,
-    counts: &mut [u32],
-    job: Job,
-    count: usize,
-) -> Finished
-    requires { Deepenable job (lists_now rows.old at.old queue.old counts.old) count }
-    ensures lent { SameLent rows.old rows.new at.old at.new queue.old queue.new }
-    ensures finished { LearnedAs (deepened_in job.entry count (flat_in rows.old) (lists_in at.old)) result }
-    ensures lists { lists_now rows.new at.new queue.new counts.new
-        ≡ lists_after (deepened_in job.entry count (flat_in rows.old) (lists_in at.old))
-        (lists_now rows.old at.old queue.old counts.old) }
+// Stays: growth appends behind the seed, so the lists can't be cut to it; only deepening has a seed, so its `count` is
+// no field of the lists.
+pub fn deepen_ma_tree(lists: &mut Lists, job: Job, count: usize) -> Finished
+    requires { Deepenable job (lists_now lists.old) count }
+    ensures lent { SameLent lists.old lists.new }
+    ensures finished { LearnedAs (deepened_in job.entry count
+        (flat_in lists.old.rows.now) (lists_in lists.old.at.now)) result }
+    ensures lists { lists_now lists.new
+        ≡ lists_after (deepened_in job.entry count
+        (flat_in lists.old.rows.now) (lists_in lists.old.at.now))
+        (lists_now lists.old) }
 {
-    counts.fill(0);
-    let flat_bits = lent::flat_bits(rows, counts, job);
-    from_seed::grow_from_seed(rows, at, queue, counts, job, count, flat_bits)
+    lists.counts.fill(0);
+    let flat_bits = lent::flat_bits(lists.rows, lists.counts, job);
+    from_seed::grow_from_seed(lists, job, count, flat_bits)
 }

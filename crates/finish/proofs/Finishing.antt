@@ -1,7 +1,7 @@
 -- Pruning and settling on the lists are the model's. Assumes nothing.
 use mathlib.Core.Path.{◌≡◌, refl, sym, ap, ◌∙◌, subst}
-use mathlib.Core.Bool.{Bool, true, false, cond}
-use mathlib.Core.List.{List, [], ◌∷◌, map}
+use mathlib.Core.Bool.{Bool, true, false, ◌&&◌, true≢false, cond}
+use mathlib.Core.List.{List, [], ◌∷◌, ◌++◌, map, append-nil}
 use Prim.Native.Nat.{ℕ, ◌+◌, ◌-◌, ◌*◌, ◌/◌, ◌^◌, ◌≤◌, ◌<◌}
 use native.Mathlib.Omega.{arith}
 use lib.ListN.{length, get_or, replicate, length-map, length-append, length-replicate, get_or-replicate}
@@ -37,13 +37,14 @@ use Rattle.layout.specs.Records.{no_span_record, kind_at}
 use Rattle.layout.specs.Tree.{NodeLists, HasRoom, holding}
 use Rattle.lent.specs.declared.Finished.{Finished}
 use Rattle.std.proofs.lemmas.Simd.{map-map}
-use Rattle.lent.specs.Lists.{node_written, span_written, nodes_after}
+use Rattle.lent.specs.Lists.{work, node_written, span_written, nodes_after}
 use Rattle.queue.specs.Room.{cleared}
 use Rattle.queue.specs.declared.Queue.{Queue}
 use Rattle.mode.specs.Lent.{Clear}
-use Rattle.prune.specs.Held.{HoldsTree}
+use Rattle.prune.specs.Held.{HoldsTree, PrunedAs}
 use Rattle.prune.proofs.Front.{front-held, front-room}
 use Rattle.settle.specs.Leaves.{HoldsLeaves}
+use Rattle.settle.proofs.Settling.{unsettled}
 use Rattle.rows.specs.Flat.{Flat, held_in, row_count, SameSize, Changed}
 use Rattle.rows.proofs.Cells.{length-held}
 use Rattle.rows.proofs.Shapes.{size_same, size-then, count_still}
@@ -57,6 +58,29 @@ use Rattle.lent.proofs.Numbers.{nought-number, evaluated_number, job-fits}
 use Rattle.leaf.proofs.Making.{residuals-given, uses_still}
 
 -- ---- pruning, or not
+
+-- a price above 0 prunes
+pub cut-pruned : {price : Float} {tree : List (Entry singles)} {bits : Float} {lent x y : NodeLists} {pruned r : Tree} → singles.less singles.nought price ≡ true
+    → PrunedAs price tree lent x pruned → y ≡ x → r ≡ pruned → Cut price tree bits lent y r
+cut-pruned above p same is = record {
+  lists = rw above (same ∙ p.lists);
+  nodes = rw above (ap (λ (t : Tree). t.nodes) is ∙ p.nodes);
+  bits_are = rw above (ap (λ (t : Tree). t.bits) is ∙ p.bits);
+}
+
+-- and no other: nothing is vacated
+cut-kept-lists : (tree : List (Entry singles)) (lent : NodeLists) → holding tree lent ≡ holding (with_vacated (length tree) tree) lent
+cut-kept-lists tree lent =
+    let none : length tree - length tree ≡ 0 = omega arith in
+    ap (λ (es : List (Entry singles)). holding es lent) (sym (append-nil tree) ∙ ap (λ (k : ℕ). tree ++ replicate k (no_entry {M = singles})) (sym none))
+
+pub cut-kept : {price : Float} {tree : List (Entry singles)} {lent x y : NodeLists} {grown r : Tree} → singles.less singles.nought price ≡ false
+    → HoldsTree x grown.nodes price tree lent → y ≡ x → r ≡ grown → Cut price tree grown.bits lent y r
+cut-kept {tree = tree} {lent = lent} above h same is = record {
+  lists = rw above (same ∙ h.lists ∙ cut-kept-lists tree lent);
+  nodes = rw above (ap (λ (t : Tree). t.nodes) is ∙ h.many);
+  bits_are = rw above (ap (λ (t : Tree). t.bits) is);
+}
 
 -- ---- the lists of a result
 
@@ -184,8 +208,13 @@ module _ {job : Job} {counts : List ℕ} {x : Flat} {n : NodeLists} {r : Tree} {
     abbrev pub behind : NodeLists
     behind = holding (with_vacated (length tree) new) lent
 
-    pub cut-leaves : HoldsLeaves m kept.nodes (uses_of job.settings x) x new behind
-    cut-leaves =
+    cut-inside : (i : ℕ) → i < length new → ((get_or new i no_entry).span.first ≤ (get_or new i no_entry).span.end) × ((get_or new i no_entry).span.end ≤ row_count x)
+    cut-inside i h =
+        let b = subst (λ (es : List (Entry singles)). (a : ℕ) → a < length es → ((get_or es a no_entry).span.first ≤ (get_or es a no_entry).span.end) × ((get_or es a no_entry).span.end ≤ length (pruned j st).rows)) (pruned-tree j st) cut_done.placed.bounds i h in
+        (b.0, omega (arith, b.1, ap length (pruned-rows j st), held-count))
+
+    pub cut-leaves : uses_of job.settings x ≡ true → HoldsLeaves m kept.nodes x new behind
+    cut-leaves uses =
         let here = k.lists ∙ front-held new (replicate (length tree - length new) no_entry) lent in
         record {
           kinds = λ i h. ap (λ (l : NodeLists). kind_at l.nodes i) here;
@@ -194,10 +223,23 @@ module _ {job : Job} {counts : List ℕ} {x : Flat} {n : NodeLists} {r : Tree} {
           many = k.nodes;
           shaped = fitting.shaped;
           few = fitting.few;
-          given = λ e. residuals-given job.settings.modal_offsets x.res e;
-          inside = λ i h lf. let b = subst (λ (es : List (Entry singles)). (a : ℕ) → a < length es → ((get_or es a no_entry).span.first ≤ (get_or es a no_entry).span.end) × ((get_or es a no_entry).span.end ≤ length (pruned j st).rows)) (pruned-tree j st) cut_done.placed.bounds i h in
-              (b.0, omega (arith, b.1, ap length (pruned-rows j st), held-count));
+          given = residuals-given job.settings.modal_offsets x.res uses;
+          inside = λ i h lf. cut-inside i h;
         }
+
+    -- what is done to the rows: the leaves are settled if that is asked for and modes are in use, and else nothing changes
+    pub settled-lists : {y : Flat} → job.settings.settle ≡ true → uses_of job.settings x ≡ true → Changed (settled true new) x y
+        → Changed (λ (rows : List Row). cond job.settings.settle (settled (uses_of job.settings x) new rows) rows) x y
+    settled-lists asked uses changed = rw (asked, uses) changed
+
+    pub left-alone : (job.settings.settle && uses_of job.settings x) ≡ false
+        → Changed (λ (rows : List Row). cond job.settings.settle (settled (uses_of job.settings x) new rows) rows) x x
+    left-alone = go job.settings.settle (uses_of job.settings x)
+      where
+        go : (asked uses : Bool) → (asked && uses) ≡ false → Changed (λ (rows : List Row). cond asked (settled uses new rows) rows) x x
+        go false uses e = record { rows = refl; size = size_same x }
+        go true true e = absurd (true≢false e)
+        go true false e = record { rows = sym (unsettled new (held_in x) (λ k h lf. (cut-inside k h).0)); size = size_same x }
 
     -- and there is room for it
     pub kept-room : HasRoom kept.nodes m
@@ -277,7 +319,7 @@ pub flat-is : {x y : Flat} {n lent : NodeLists} {r : Finished} (j : model.Job si
 flat-is {x} {y} {n} {lent} {r} j st e f = subst (λ (v : Float). FinishedTo x y n r lent (finished j st v)) e f
 
 module _ {job : Job} {counts : List ℕ} {x : Flat} {n : NodeLists} {q : Queue} {tree : Tree} {more : ℕ} {lent : NodeLists} {st : State singles}
-    {seeds : ℕ → Bool} {given : List Row} (g : Grows job counts x n q tree more lent st seeds given) where
+    {seeds : ℕ → Bool} {given : List Row} (g : Grows job (work counts x n q) tree more lent st seeds given) where
   -- the state that has grown
   abbrev pub grown_state : State singles
   grown_state = steps (job_in job x) more st

@@ -44,6 +44,7 @@ use Rattle.rows.proofs.Shapes.{count_still}
 use Rattle.lent.specs.Fitting.{uses_of, Fitting}
 use Rattle.leaf.specs.Made.{MadeLeaf}
 use Rattle.lent.proofs.Numbers.{nought-number, evaluated_number}
+use Rattle.lent.specs.Lists.{work, lists}
 use Rattle.lent.specs.Grows.{job_in, Number, Grows}
 use Rattle.lent.specs.Starts.{Plantable}
 use Rattle.lent.specs.declared.Finished.{Finished}
@@ -55,7 +56,7 @@ use Rattle.leaf.proofs.Making.{uses_still, made-fitting}
 pub none-queued : (q : QueueLists) → Queued 0 q []
 none-queued q = record { many = refl; words = refl; values = refl; gains = refl }
 
-module _ {job : Job} {counts : List ℕ} {x : Flat} {n : NodeLists} {q : QueueLists} {rows : ℕ} (p : Plantable job counts x n q) (whole : rows ≡ row_count x) where
+module _ {job : Job} {counts : List ℕ} {x : Flat} {n : NodeLists} {q : QueueLists} {rows : ℕ} (p : Plantable job (lists x n q counts)) (whole : rows ≡ row_count x) where
   abbrev j : model.Job singles
   j = job_in job x
 
@@ -97,7 +98,7 @@ module _ {job : Job} {counts : List ℕ} {x : Flat} {n : NodeLists} {q : QueueLi
     pub planted : (q' : Queue) (bits : Float) → SameQueue q (queue_in q') → Queued q'.waiting (queue_in q') ([] ++ waits 0 0 (offer_is r.offer))
         → q'.waiting ≡ 0 + length (waits 0 0 (offer_is r.offer))
         → bits ≡ r.info.cost → (counts' : List ℕ) → counts' ≡ counts
-        → Grows job counts' y (put 0 (leaf_with r.info 0 rows) n) q' (record { nodes = 1; bits = bits }) (job.settings.max_leaves - 1) n root no_seeds given
+        → Grows job (work counts' y (put 0 (leaf_with r.info 0 rows) n) q') (record { nodes = 1; bits = bits }) (job.settings.max_leaves - 1) n root no_seeds given
     unfolding root_state leaf_over waiting_from
     planted q' bits same queued many cost counts' counts-are =
         let limit = p.fitting.settings.limit in

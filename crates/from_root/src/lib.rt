@@ -15,42 +15,43 @@ ghost use Rattle.rows.specs.Flat.{held_in, SameSize};
 ghost use Rattle.rows.specs.Lent.{flat_in};
 ghost use Rattle.lent.specs.Grows.{job_in, Grows};
 ghost use Rattle.lent.specs.Lent.{SameLent};
+ghost use Rattle.lent.specs.Lists.{lists_now, work_in};
 ghost use Rattle.lent.specs.Starts.{Plantable};
 ghost use Rattle.finish.specs.Finished.{FinishedTo};
 ghost use Rattle.from_root.specs.Result.{result_in};
 
-use layout::{Nodes, Span, Tree};
-use lent::Finished;
-use queue::Queue;
+use layout::{Span, Tree};
+use lent::{Finished, Lists};
 use refuse::Job;
-use rows::Rows;
 
 // One leaf over all rows, and nothing else waits. It is scored only if a split may follow.
-fn plant_root(
-    rows: &mut Rows,
-    at: &mut Nodes,
-    queue: &mut Queue,
-    counts: &mut [u32],
-    job: Job,
-) -> Tree
-    requires { Plantable job counts.old (flat_in rows.old) (lists_in at.old) (queue_in queue.old) }
-    ensures lent { SameLent rows.old rows.new at.old at.new queue.old queue.new }
-    ensures planted { Grows job.entry counts.new (flat_in rows.new) (lists_in at.new) queue.new result
-        (job.entry.settings.max_leaves - 1) (lists_in at.old)
-        (root_state (job_in job.entry (flat_in rows.old)) (held_in (flat_in rows.old)))
-        no_seeds (held_in (flat_in rows.old)) }
-    ensures lengths { SameSize (flat_in rows.old) (flat_in rows.new)
-        × SameQueue (queue_in queue.old) (queue_in queue.new) }
-    ensures zeros { counts.new ≡ counts.old }
+fn plant_root(lists: &mut Lists, job: Job) -> Tree
+    requires { Plantable job (lists_now lists.old) }
+    ensures lent { SameLent lists.old lists.new }
+    ensures planted { Grows job.entry (work_in lists.new) result
+        (job.entry.settings.max_leaves - 1) (lists_in lists.old.at.now)
+        (root_state (job_in job.entry (flat_in lists.old.rows.now))
+        (held_in (flat_in lists.old.rows.now)))
+        no_seeds (held_in (flat_in lists.old.rows.now)) }
+    ensures lengths { SameSize (flat_in lists.old.rows.now) (flat_in lists.new.rows.now)
+        × SameQueue (queue_in lists.old.queue.now) (queue_in lists.new.queue.now) }
+    ensures zeros { lists.new.counts.now ≡ lists.old.counts.now }
 {
     let all = Span {
         first: 0,
-        end: rows.count() as u32,
+        end: lists.rows.count() as u32,
     };
-    let root = leaf::make_leaf(rows, counts, job, all, 0, 1 < job.settings.max_leaves);
-    at.put_leaf(0, root.info, all);
-    queue.waiting = 0;
-    queue.enqueue(0, 0, root.offer);
+    let root = leaf::make_leaf(
+        lists.rows,
+        lists.counts,
+        job,
+        all,
+        0,
+        1 < job.settings.max_leaves,
+    );
+    lists.at.put_leaf(0, root.info, all);
+    lists.queue.waiting = 0;
+    lists.queue.enqueue(0, 0, root.offer);
     Tree {
         nodes: 1,
         bits: f64::from(root.info.cost),
@@ -58,24 +59,19 @@ fn plant_root(
 }
 
 // From the root to the finished tree.
-pub fn grow_from_root(
-    rows: &mut Rows,
-    at: &mut Nodes,
-    queue: &mut Queue,
-    counts: &mut [u32],
-    job: Job,
-    flat_bits: f64,
-) -> Finished
-    requires plantable { Plantable job counts.old (flat_in rows.old) (lists_in at.old) (queue_in queue.old) }
+pub fn grow_from_root(lists: &mut Lists, job: Job, flat_bits: f64) -> Finished
+    requires plantable { Plantable job (lists_now lists.old) }
     requires flat_bits_value { flat_bits
-        ≡ flat_bits_of (settings_of job.settings) job.logs.now (held_in (flat_in rows.old)) }
-    ensures lent { SameLent rows.old rows.new at.old at.new queue.old queue.new }
-    ensures finished { FinishedTo (flat_in rows.old) (flat_in rows.new) (lists_in at.new) result
-        (lists_in at.old) (result_in job.entry (flat_in rows.old)) }
-    ensures zeros { counts.new ≡ counts.old }
-    ensures queue { queue_in queue.new ≡ cleared (queue_in queue.old) }
+        ≡ flat_bits_of (settings_of job.settings) job.logs.now
+        (held_in (flat_in lists.old.rows.now)) }
+    ensures lent { SameLent lists.old lists.new }
+    ensures finished { FinishedTo (flat_in lists.old.rows.now) (flat_in lists.new.rows.now)
+        (lists_in lists.new.at.now) result (lists_in lists.old.at.now)
+        (result_in job.entry (flat_in lists.old.rows.now)) }
+    ensures zeros { lists.new.counts.now ≡ lists.old.counts.now }
+    ensures queue { queue_in lists.new.queue.now ≡ cleared (queue_in lists.old.queue.now) }
 {
-    let root = plant_root(rows, at, queue, counts, job);
+    let root = plant_root(lists, job);
     let more = job.settings.max_leaves as usize - 1;
-    finish::grow_and_finish(rows, at, queue, counts, job, root, more, flat_bits)
+    finish::grow_and_finish(lists, job, root, more, flat_bits)
 }

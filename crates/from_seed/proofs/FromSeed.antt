@@ -20,15 +20,16 @@ use Rattle.leaf.proofs.Making.{uses_still}
 use Rattle.finish.specs.Finished.{FinishedTo}
 use Rattle.finish.proofs.Finishing.{finished_from, flat-is}
 use Rattle.lent.specs.declared.Finished.{Finished}
+use Rattle.lent.specs.Lists.{work, lists}
 use Rattle.lent.specs.Grows.{job_in, Grows}
 use Rattle.seed_rows.specs.Ordered.{seed_in}
 use Rattle.seed_leaves.specs.Seeded.{Seeded, splits_of}
 use Rattle.from_seed.specs.Result.{deepened_in}
 
-module _ {job : Job} {counts : List ℕ} {x y : Flat} {n n' : NodeLists} {q : QueueLists} {q' : Queue} {count : ℕ} {r : Tree} (sown : Seeded job counts x y n n' q q' count r)
+module _ {job : Job} {counts₀ counts : List ℕ} {x y : Flat} {n n' : NodeLists} {q : QueueLists} {q' : Queue} {count : ℕ} {r : Tree} (sown : Seeded job (lists x n q counts₀) (work counts y n' q') count r)
     {more : ℕ} (left : more ≡ job.settings.max_leaves - (r.nodes + 1) / 2) where
-  pub seed-grows : Grows job counts y n' q' r more n (seed_state (job_in job x) (seed_in count n) (held_in x)) (splits_of (seed_in count n)) (held_in x)
-  seed-grows = subst (λ (m : ℕ). Grows job counts y n' q' r m n (seed_state (job_in job x) (seed_in count n) (held_in x)) (splits_of (seed_in count n)) (held_in x)) (sym left) sown.grows
+  pub seed-grows : Grows job (work counts y n' q') r more n (seed_state (job_in job x) (seed_in count n) (held_in x)) (splits_of (seed_in count n)) (held_in x)
+  seed-grows = subst (λ (m : ℕ). Grows job (work counts y n' q') r m n (seed_state (job_in job x) (seed_in count n) (held_in x)) (splits_of (seed_in count n)) (held_in x)) (sym left) sown.grows
 
   pub seed-finished : {z : Flat} {l : NodeLists} {f : Finished} {flatly : Float} → flatly ≡ (job_in job x).flat (held_in x)
       → FinishedTo y z l f n (finished (job_in job y) (steps (job_in job y) more (seed_state (job_in job x) (seed_in count n) (held_in x))) flatly)

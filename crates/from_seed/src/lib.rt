@@ -12,15 +12,13 @@ ghost use Rattle.queue.specs.Room.{cleared};
 ghost use Rattle.rows.specs.Flat.{held_in};
 ghost use Rattle.rows.specs.Lent.{flat_in};
 ghost use Rattle.lent.specs.Lent.{SameLent};
+ghost use Rattle.lent.specs.Lists.{lists_now};
 ghost use Rattle.finish.specs.Finished.{FinishedTo};
 ghost use Rattle.seed_leaves.specs.Seeded.{Seedable};
 ghost use Rattle.from_seed.specs.Result.{deepened_in};
 
-use layout::Nodes;
-use lent::Finished;
-use queue::Queue;
+use lent::{Finished, Lists};
 use refuse::Job;
-use rows::Rows;
 
 // How many leaves the limit leaves room for: none where a seed of so many nodes has as many already.
 fn leaves_left(limit: usize, nodes: usize) -> usize
@@ -31,27 +29,20 @@ fn leaves_left(limit: usize, nodes: usize) -> usize
 }
 
 // From the seed to the finished tree.
-// Stays: the caller's lists have room for the largest tree, so how many nodes are the tree's goes beside them.
-pub fn grow_from_seed(
-    rows: &mut Rows,
-    at: &mut Nodes,
-    queue: &mut Queue,
-    counts: &mut [u32],
-    job: Job,
-    count: usize,
-    flat_bits: f64,
-) -> Finished
-    requires seedable { Seedable job counts.old (flat_in rows.old) (lists_in at.old) (queue_in queue.old) count }
+// Stays: growth appends behind the seed, so the lists can't be cut to it; only deepening has a seed, so its `count` is
+// no field of the lists.
+pub fn grow_from_seed(lists: &mut Lists, job: Job, count: usize, flat_bits: f64) -> Finished
+    requires seedable { Seedable job (lists_now lists.old) count }
     requires flat_bits_value { flat_bits ≡ flat_bits_of (settings_of job.settings) job.logs.now
-        (held_in (flat_in rows.old)) }
-    ensures lent { SameLent rows.old rows.new at.old at.new queue.old queue.new }
-    ensures finished { FinishedTo (flat_in rows.old) (flat_in rows.new)
-        (lists_in at.new) result (lists_in at.old)
-        (deepened_in job.entry count (flat_in rows.old) (lists_in at.old)) }
-    ensures zeros { counts.new ≡ counts.old }
-    ensures queue { queue_in queue.new ≡ cleared (queue_in queue.old) }
+        (held_in (flat_in lists.old.rows.now)) }
+    ensures lent { SameLent lists.old lists.new }
+    ensures finished { FinishedTo (flat_in lists.old.rows.now) (flat_in lists.new.rows.now)
+        (lists_in lists.new.at.now) result (lists_in lists.old.at.now)
+        (deepened_in job.entry count (flat_in lists.old.rows.now) (lists_in lists.old.at.now)) }
+    ensures zeros { lists.new.counts.now ≡ lists.old.counts.now }
+    ensures queue { queue_in lists.new.queue.now ≡ cleared (queue_in lists.old.queue.now) }
 {
-    let planted = seed_leaves::plant_seed(rows, at, queue, counts, job, count);
+    let planted = seed_leaves::plant_seed(lists, job, count);
     let more = leaves_left(job.settings.max_leaves as usize, planted.nodes);
-    finish::grow_and_finish(rows, at, queue, counts, job, planted, more, flat_bits)
+    finish::grow_and_finish(lists, job, planted, more, flat_bits)
 }

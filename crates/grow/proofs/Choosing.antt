@@ -32,16 +32,17 @@ use Rattle.layout.proofs.Queue.{best-queued, queued-node, queued-prop, queued-de
 use Rattle.rows.specs.Flat.{Flat, row_count}
 use Rattle.rows.proofs.Cells.{length-held}
 use Rattle.grow.specs.Parts.{RowsFit}
+use Rattle.lent.specs.Lists.{work}
 use Rattle.lent.specs.Grows.{job_in, Number, Grows}
 
 -- the rows of the state are those that the lists hold
 pub rows-many : {job : Job} {counts : List ℕ} {x : Flat} {lists : NodeLists} {q : Queue} {tree : Tree} {more : ℕ}
     {lent : NodeLists} {st : State singles} {seeds : ℕ → Bool} {given : List Row}
-    → Grows job counts x lists q tree more lent st seeds given → length st.rows ≡ row_count x
+    → Grows job (work counts x lists q) tree more lent st seeds given → length st.rows ≡ row_count x
 rows-many {x = x} g = ap length (sym g.rows) ∙ length-held x.props x.toks x.res
 
 module _ {job : Job} {counts : List ℕ} {x : Flat} {lists : NodeLists} {q : Queue} {tree : Tree}
-    {lent : NodeLists} {st : State singles} {seeds : ℕ → Bool} {given : List Row} (left : ℕ) (g : Grows job counts x lists q tree (left + 1) lent st seeds given)
+    {lent : NodeLists} {st : State singles} {seeds : ℕ → Bool} {given : List Row} (left : ℕ) (g : Grows job (work counts x lists q) tree (left + 1) lent st seeds given)
     (k : ℕ) (wait : 0 < q.waiting) (best : k ≡ first_best q.gains.now q.waiting) where
   -- the leaf that waits there, and its entry
   abbrev pub w : Waiting singles

@@ -25,13 +25,14 @@ use Rattle.queue.specs.declared.Queue.{Queue}
 use Rattle.queue.specs.Lent.{queue_in, PendingAt}
 use Rattle.rows.specs.Flat.{Flat}
 use Rattle.grow.specs.Parts.{RowsSplit, split_nodes}
+use Rattle.lent.specs.Lists.{work}
 use Rattle.lent.specs.Grows.{job_in, Number, Grows}
 use Rattle.grow.specs.declared.Sides.{Sides}
 use Rattle.grow.proofs.Choosing as choosing
 use Rattle.grow.proofs.Stepping as stepping
 
 module _ {job : Job} {counts : List ℕ} {x : Flat} {lists : NodeLists} {q : Queue} {tree : Tree}
-    {lent : NodeLists} {st : State singles} {seeds : ℕ → Bool} {given : List Row} (left : ℕ) (g : Grows job counts x lists q tree (left + 1) lent st seeds given)
+    {lent : NodeLists} {st : State singles} {seeds : ℕ → Bool} {given : List Row} (left : ℕ) (g : Grows job (work counts x lists q) tree (left + 1) lent st seeds given)
     (k : ℕ) (wait : 0 < q.waiting) (best : k ≡ first_best q.gains.now q.waiting)
     (p : Pending) (is : PendingAt (queue_in q) k p) (sp : Span) (read : sp ≡ get_or lists.spans p.node no_span_record)
     {y : Flat} {r : Sides} (cut : RowsSplit (ltb 0 left) job counts (p.depth + 1) p.offer.prop p.offer.val (span_is sp) x y r) where
@@ -68,15 +69,15 @@ module _ {job : Job} {counts : List ℕ} {x : Flat} {lists : NodeLists} {q : Que
   pub growth_fits : Number (sub binary32 (add binary32 r.gt.leaf.info.cost r.le.leaf.info.cost) parent)
   growth_fits = stepping.growth_is_number left g k wait best told parent (choosing.cost-is left g k wait best p is)
 
-  module _ {lists' : NodeLists} {q' : Queue} {tree' : Tree} (two-more : tree'.nodes ≡ tree.nodes + 2)
+  module _ {counts' : List ℕ} {lists' : NodeLists} {q' : Queue} {tree' : Tree} (space : counts' ≡ counts) (two-more : tree'.nodes ≡ tree.nodes + 2)
       (nodes : lists' ≡ split_nodes p.node p.offer.prop p.offer.val tree.nodes r lists)
       (requeued : (leaves : List (Waiting singles)) → Queued q.waiting (queue_in q) leaves
       → Queued q'.waiting (queue_in q') (without k leaves ++ waits tree.nodes (p.depth + 1) (offer_is r.gt.leaf.offer) ++ waits (tree.nodes + 1) (p.depth + 1) (offer_is r.le.leaf.offer)))
       (fewer : q'.waiting ≤ q.waiting + 1) (same : SameQueue (queue_in q) (queue_in q'))
       (summed : tree'.bits ≡ grown_bits singles tree.bits r.gt.leaf.info.cost r.le.leaf.info.cost parent) where
-    pub grows-on : Grows job counts y lists' q' tree' left lent (step (job_in job x) st) seeds given
+    pub grows-on : Grows job (work counts' y lists' q') tree' left lent (step (job_in job x) st) seeds given
     grows-on =
-        stepping.grows-next left g k wait best told two-more
+        stepping.grows-next left g k wait best told space two-more
         (transport (λ j. lists' ≡ split_nodes (node-is j) (prop-is j) (val_is j) tree.nodes r lists) nodes)
         (transport (λ j. (leaves : List (Waiting singles)) → Queued q.waiting (queue_in q) leaves
         → Queued q'.waiting (queue_in q') (without k leaves ++ waits tree.nodes (depth_is j) (offer_is r.gt.leaf.offer) ++ waits (tree.nodes + 1) (depth_is j) (offer_is r.le.leaf.offer))) requeued)

@@ -1,5 +1,5 @@
 -- The rows of a split: a partition, and then the mode step on either part. Assumes nothing.
-use mathlib.Core.Path.{◌≡◌, sym, ap, ◌∙◌, subst}
+use mathlib.Core.Path.{◌≡◌, refl, sym, ap, ◌∙◌, subst}
 use mathlib.Core.Bool.{Bool}
 use mathlib.Core.List.{List, ◌++◌, append_assoc}
 use Prim.Native.Nat.{ℕ, ◌+◌}
@@ -137,7 +137,7 @@ module _ {job : Job} {counts : List ℕ} {prop at : ℕ} {val : ℤ} {first end 
           (subst (λ (b : Bool). Evaluated r scored (settings_of job.settings) job.logs.now (span_mode b mine) depth (fresh b mine)) p e))
 
       pub rows_split : (a b : layout.Span) → span_is a ≡ span first at → span_is b ≡ span at end
-          → RowsSplit scored job counts depth prop val (span first end) x z (record { gt = record { span = a; leaf = gt }; le = record { span = b; leaf = le } })
+          → RowsSplit scored job counts depth prop val (span first end) x z (record { gt = record { span = a; leaf = gt }; le = record { span = b; leaf = le }; depth = depth })
       rows_split a b front-is back-is = record {
         gt_rows = front-is ∙ ap (span first) (sym fresh-end);
         le_rows = back-is ∙ ap (λ (m : ℕ). span m end) (sym fresh-end);
@@ -145,4 +145,5 @@ module _ {job : Job} {counts : List ℕ} {prop at : ℕ} {val : ℤ} {first end 
         gt = told (uses_of job.settings y) (within (span first at) (held_in y)) above uses-y gt-mine gt-made.leaf;
         le = told (uses_of job.settings mid) (within (span at end) (held_in mid)) others uses-mid le-mine le-made.leaf;
         fitting = made-fitting le-fits.fitting le-made;
+        depth_is = refl;
       }

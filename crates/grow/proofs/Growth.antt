@@ -24,6 +24,7 @@ use Rattle.rows.specs.Flat.{Flat, SameSize}
 use Rattle.rows.proofs.Shapes.{size_same, size-then}
 use Rattle.lent.specs.Fitting.{Fitting}
 use Rattle.leaf.proofs.Making.{uses_still}
+use Rattle.lent.specs.Lists.{work}
 use Rattle.lent.specs.Grows.{job_in, Grows, Growable}
 use Rattle.grow.specs.Grown.{Splits, GrownTo}
 
@@ -53,13 +54,13 @@ module _ {M : Meter} (j : model.Job M) (order : (o p : Offer M) → j.ahead o p 
 pub record Reached (job : Job) (counts : List ℕ) (x₀ x : Flat) (lists : NodeLists) (q : Queue) (tree : Tree) (more left : ℕ)
     (lent : NodeLists) (st : State singles) (seeds : ℕ → Bool) (given : List Row) : Type 0 where
   pub state : State singles
-  pub grows : Grows job counts x lists q tree left lent state seeds given
+  pub grows : Grows job (work counts x lists q) tree left lent state seeds given
   pub onward : steps (job_in job x₀) left state ≡ steps (job_in job x₀) more st
 
 pub record Going (job : Job) (counts₀ counts : List ℕ) (x₀ x : Flat) (lists₀ lists : NodeLists) (q₀ q : Queue)
     (tree₀ tree : Tree) (more left : ℕ) : Type 0 where
   pub reached : (lent : NodeLists) (st : State singles) (seeds : ℕ → Bool) (given : List Row)
-      → Grows job counts₀ x₀ lists₀ q₀ tree₀ more lent st seeds given
+      → Grows job (work counts₀ x₀ lists₀ q₀) tree₀ more lent st seeds given
       → Reached job counts x₀ x lists q tree more left lent st seeds given
   pub size : SameSize x₀ x
   pub queue : SameQueue (queue_in q₀) (queue_in q)
@@ -75,9 +76,9 @@ begins {x = x} {q = q} = record {
 }
 
 module _ {job : Job} {counts₀ counts : List ℕ} {x₀ x : Flat} {lists₀ lists : NodeLists} {q₀ q : Queue}
-    {tree₀ tree : Tree} {more left : ℕ} (first : Growable job counts₀ x₀ lists₀ q₀ tree₀ more)
+    {tree₀ tree : Tree} {more left : ℕ} (first : Growable job (work counts₀ x₀ lists₀ q₀) tree₀ more)
     (h : Going job counts₀ counts x₀ x lists₀ lists q₀ q tree₀ tree more left) where
-  pub going_on : Growable job counts x lists q tree left
+  pub going_on : Growable job (work counts x lists q) tree left
   going_on =
       let r = h.reached first.lent first.state first.seeds first.given first.grows in
       record { lent = first.lent; state = r.state; seeds = first.seeds; given = first.given; grows = r.grows }
@@ -90,16 +91,16 @@ module _ {job : Job} {counts₀ counts : List ℕ} {x₀ x : Flat} {lists₀ lis
     one-less : left - 1 + 1 ≡ left
     one-less = omega arith
 
-    pub splits : (k : ℕ) → 0 < q.waiting → k ≡ first_best q.gains.now q.waiting → Splits job counts x lists q tree (left - 1) k
+    pub splits : (k : ℕ) → 0 < q.waiting → k ≡ first_best q.gains.now q.waiting → Splits job (work counts x lists q) tree (left - 1) k
     splits k wait best = record {
-      growable = subst (λ (m : ℕ). Growable job counts x lists q tree m) (sym one-less) going_on;
+      growable = subst (λ (m : ℕ). Growable job (work counts x lists q) tree m) (sym one-less) going_on;
       some_wait = wait;
       best = best;
     }
 
     pub turn : {counts' : List ℕ} {x' : Flat} {lists' : NodeLists} {q' : Queue} {tree' : Tree}
-        → ((lent : NodeLists) (st : State singles) (seeds : ℕ → Bool) (given : List Row) → Grows job counts x lists q tree (left - 1 + 1) lent st seeds given
-        → Grows job counts x' lists' q' tree' (left - 1) lent (step (job_in job x) st) seeds given)
+        → ((lent : NodeLists) (st : State singles) (seeds : ℕ → Bool) (given : List Row) → Grows job (work counts x lists q) tree (left - 1 + 1) lent st seeds given
+        → Grows job (work counts' x' lists' q') tree' (left - 1) lent (step (job_in job x) st) seeds given)
         → counts' ≡ counts → SameSize x x' → SameQueue (queue_in q) (queue_in q')
         → Going job counts₀ counts' x₀ x' lists₀ lists' q₀ q' tree₀ tree' more (left - 1)
     turn {counts'} {x'} {lists'} {q'} {tree'} split space size queue = record {
@@ -107,8 +108,7 @@ module _ {job : Job} {counts₀ counts : List ℕ} {x₀ x : Flat} {lists₀ lis
           let r = h.reached lent st seeds given g in
           record {
             state = step (job_in job x) r.state;
-            grows = subst (λ (l : List ℕ). Grows job l x' lists' q' tree' (left - 1) lent (step (job_in job x) r.state) seeds given)
-                (sym space) (split lent r.state seeds given (subst (λ (m : ℕ). Grows job counts x lists q tree m lent r.state seeds given) (sym one-less) r.grows));
+            grows = split lent r.state seeds given (subst (λ (m : ℕ). Grows job (work counts x lists q) tree m lent r.state seeds given) (sym one-less) r.grows);
             onward = next r.state ∙ r.onward;
           };
       size = size-then h.size size;
@@ -124,7 +124,7 @@ module _ {job : Job} {counts₀ counts : List ℕ} {x₀ x : Flat} {lists₀ lis
             ∙ ap (λ (m : ℕ). steps (job_in job x₀) m st) less
 
   -- ---- no split is left, or no leaf waits
-  module _ (lent : NodeLists) (st : State singles) (seeds : ℕ → Bool) (given : List Row) (g : Grows job counts₀ x₀ lists₀ q₀ tree₀ more lent st seeds given) where
+  module _ (lent : NodeLists) (st : State singles) (seeds : ℕ → Bool) (given : List Row) (g : Grows job (work counts₀ x₀ lists₀ q₀) tree₀ more lent st seeds given) where
     abbrev r : Reached job counts x₀ x lists q tree more left lent st seeds given
     r = h.reached lent st seeds given g
 

@@ -43,16 +43,17 @@ use Rattle.layout.proofs.Queue.{StandsIn, queue-split, fewer-room, same-room}
 use Rattle.rows.specs.Cells.{span}
 use Rattle.rows.specs.Flat.{Flat, held_in, row_count}
 use Rattle.rows.proofs.Shapes.{count_still}
-use Rattle.lent.specs.Fitting.{uses_of}
+use Rattle.lent.specs.Fitting.{uses_of, Fitting}
 use Rattle.leaf.proofs.Making.{uses_still}
 use Rattle.grow.specs.Parts.{gt_of, le_of, divided, RowsSplit, side_entry, split_nodes}
+use Rattle.lent.specs.Lists.{work}
 use Rattle.lent.specs.Grows.{job_in, Number, Grows}
 use Rattle.grow.specs.declared.Sides.{Sides}
 use Rattle.lent.proofs.Numbers.{growth_number, evaluated_within, evaluated_number, job-fits, offered-shallow}
 use Rattle.grow.proofs.Choosing as choosing
 
 module _ {job : Job} {counts : List ℕ} {x : Flat} {lists : NodeLists} {q : Queue} {tree : Tree}
-    {lent : NodeLists} {st : State singles} {seeds : ℕ → Bool} {given : List Row} (left : ℕ) (g : Grows job counts x lists q tree (left + 1) lent st seeds given)
+    {lent : NodeLists} {st : State singles} {seeds : ℕ → Bool} {given : List Row} (left : ℕ) (g : Grows job (work counts x lists q) tree (left + 1) lent st seeds given)
     (k : ℕ) (wait : 0 < q.waiting) (best : k ≡ first_best q.gains.now q.waiting) where
   abbrev j : model.Job singles
   j = job_in job x
@@ -294,16 +295,16 @@ module _ {job : Job} {counts : List ℕ} {x : Flat} {lists : NodeLists} {q : Que
     longer = let l = shape.longer in omega arith
 
     -- ---- all together
-    module _ {lists' : NodeLists} {q' : Queue} {tree' : Tree} (two-more : tree'.nodes ≡ tree.nodes + 2)
+    module _ {counts' : List ℕ} {lists' : NodeLists} {q' : Queue} {tree' : Tree} (space : counts' ≡ counts) (two-more : tree'.nodes ≡ tree.nodes + 2)
         (nodes : lists' ≡ split_nodes i o.prop o.val tree.nodes r lists)
         (requeued : (leaves : List (Waiting singles)) → Queued q.waiting (queue_in q) leaves
         → Queued q'.waiting (queue_in q') (without k leaves ++ waits tree.nodes (suc w.depth) (offer_is r.gt.leaf.offer) ++ waits (tree.nodes + 1) (suc w.depth) (offer_is r.le.leaf.offer)))
         (fewer : q'.waiting ≤ q.waiting + 1) (same : SameQueue (queue_in q) (queue_in q'))
         (summed : tree'.bits ≡ grown_bits singles tree.bits r.gt.leaf.info.cost r.le.leaf.info.cost e.info.cost) where
-      pub grows-next : Grows job counts y lists' q' tree' left lent (step j st) seeds given
-      grows-next = subst (λ (t : State singles). Grows job counts y lists' q' tree' left lent t seeds given)
+      pub grows-next : Grows job (work counts' y lists' q') tree' left lent (step j st) seeds given
+      grows-next = subst (λ (t : State singles). Grows job (work counts' y lists' q') tree' left lent t seeds given)
           (sym (choosing.step-splits left g k wait best)) record {
-            fitting = cut.fitting;
+            fitting = subst (λ (l : List ℕ). Fitting job l y) (sym space) cut.fitting;
             rows = next-rows;
             nodes = nodes ∙ next-nodes;
             room = let l = longer in room-fewer g.room (omega arith);

@@ -34,7 +34,7 @@ pub record RowsFit (job : Job) (counts : List ℕ) (prop : ℕ) (sp : Span) (x :
   pub fitting : Fitting job counts x
   pub divisible : Divisible sp prop x
 
--- y is x divided, le's rows begin where gt's end, and both parts are evaluated
+-- y is x divided, le's rows begin where gt's end, and both parts are evaluated at the depth
 pub record RowsSplit (scored : Bool) (job : Job) (counts : List ℕ)
     (depth prop : ℕ) (val : ℤ) (sp : Span) (x y : Flat) (r : Sides) : Type 0 where
   pub gt_rows : span_is r.gt.span ≡ span sp.first (sp.first + length (gt_of (uses_of job.settings x) prop val sp (held_in x)))
@@ -45,6 +45,7 @@ pub record RowsSplit (scored : Bool) (job : Job) (counts : List ℕ)
   pub le : Evaluated r.le.leaf scored (settings_of job.settings) job.logs.now
       (span_mode (uses_of job.settings x) (le_of (uses_of job.settings x) prop val sp (held_in x))) depth (le_of (uses_of job.settings x) prop val sp (held_in x))
   pub fitting : Fitting job counts y
+  pub depth_is : r.depth ≡ depth
 
 -- ---- the nodes
 -- a new leaf as the node lists have it

@@ -2,10 +2,10 @@
 // waits. The Rust's `grow_tree` without its threads and speculation.
 #![tactic(auto)]
 
-ghost use Rattle.std.specs.Prelude.{◌≡◌, Bool, List, ◌++◌, ℕ, ◌+◌, ◌<◌, ◌≤◌};
+ghost use Rattle.std.specs.Prelude.{◌≡◌, Bool, List, ◌++◌, ℕ, ◌+◌, ◌<◌, ◌≤◌, ltb};
 ghost use Rattle.std.specs.Float.{binary32};
 ghost use Rattle.std.specs.Float.Ieee.{add, sub};
-ghost use Rattle.model.specs.Settings.{max_nodes};
+ghost use Rattle.model.specs.Settings.{max_nodes, max_depth};
 ghost use Rattle.model.specs.Rows.{Row};
 ghost use Rattle.model.specs.Single.{singles};
 ghost use Rattle.model.specs.Lent.{Waiting};
@@ -20,11 +20,13 @@ ghost use Rattle.rows.specs.Flat.{SameSize};
 ghost use Rattle.rows.specs.Lent.{flat_in, SameRowsLent};
 ghost use Rattle.grow.specs.Parts.{RowsFit, RowsSplit, split_nodes};
 ghost use Rattle.lent.specs.Lent.{SameLent};
+ghost use Rattle.lent.specs.Lists.{work_in};
 ghost use Rattle.lent.specs.Grows.{job_in, Number, Grows, Growable};
 ghost use Rattle.grow.specs.Grown.{Splits, GrownTo};
 
 use layout::{Leaf, Nodes, Offer, Span, Tree};
-use queue::Queue;
+use lent::Lists;
+use queue::{Pending, Queue};
 use refuse::Job;
 use rows::Rows;
 
@@ -37,33 +39,35 @@ struct Side {
     leaf: Leaf,
 }
 
-// The two leaves that a leaf's rows are split into.
+// The two leaves that a leaf's rows are split into, and how deep they stand.
 #[derive(Clone, Copy)]
 struct Sides {
     gt: Side,
     le: Side,
+    depth: u32,
 }
 
 // Rows above the threshold go first, and both parts take their own mode. Splits of the new leaves are scored only if
-// asked for.
-// Stays: `scored` is a flag, since it only says whether a split may follow; a closure that scores would be no plainer.
+// some are left.
 fn split_rows(
     rows: &mut Rows,
     counts: &mut [u32],
     job: Job,
     span: Span,
-    offer: Offer,
-    depth: u32,
-    scored: bool,
+    pending: Pending,
+    left: usize,
 ) -> Sides
-    requires { RowsFit job counts.old offer.prop (span_is span) (flat_in rows.old) }
+    requires fits { RowsFit job counts.old pending.offer.prop (span_is span) (flat_in rows.old) }
+    requires shallow { pending.depth < max_depth }
     ensures lent { SameRowsLent rows.old rows.new }
-    ensures split { RowsSplit scored job.entry counts.old depth offer.prop offer.val (span_is span)
+    ensures split { RowsSplit (ltb 0 left) job.entry counts.old (pending.depth + 1)
+        pending.offer.prop pending.offer.val (span_is span)
         (flat_in rows.old) (flat_in rows.new) result }
     ensures zeros { counts.new ≡ counts.old }
 {
     let first = span.first as usize;
     let end = span.end as usize;
+    let offer = pending.offer;
     let middle = rows.partition(first, end, offer.prop as usize, offer.val) as u32;
     let above = Span {
         first: span.first,
@@ -73,8 +77,9 @@ fn split_rows(
         first: middle,
         end: span.end,
     };
-    let gt = leaf::make_leaf(rows, counts, job, above, depth, scored);
-    let le = leaf::make_leaf(rows, counts, job, others, depth, scored);
+    let depth = pending.depth + 1;
+    let gt = leaf::make_leaf(rows, counts, job, above, depth, 0 < left);
+    let le = leaf::make_leaf(rows, counts, job, others, depth, 0 < left);
     Sides {
         gt: Side {
             span: above,
@@ -84,6 +89,7 @@ fn split_rows(
             span: others,
             leaf: le,
         },
+        depth,
     }
 }
 
@@ -100,21 +106,21 @@ fn split_nodes(at: &mut Nodes, i: usize, count: usize, offer: Offer, sides: Side
 }
 
 // The leaf at place k no longer waits, and the new leaves wait if they offer a split.
-fn requeue(queue: &mut Queue, k: usize, count: usize, depth: u32, sides: Sides)
+fn requeue(queue: &mut Queue, k: usize, count: usize, sides: Sides)
     requires { (k < queue.old.waiting) × (count + 2 ≤ max_nodes)
         × QueueRoom (queue.old.waiting + 1) (queue_in queue.old) }
     ensures lent { SameQueueLent queue.old queue.new }
     ensures queue { (leaves : List (Waiting singles))
         → Queued queue.old.waiting (queue_in queue.old) leaves
         → Queued queue.new.waiting (queue_in queue.new)
-        (without k leaves ++ waits count depth (offer_is sides.gt.leaf.offer)
-        ++ waits (count + 1) depth (offer_is sides.le.leaf.offer)) }
+        (without k leaves ++ waits count sides.depth (offer_is sides.gt.leaf.offer)
+        ++ waits (count + 1) sides.depth (offer_is sides.le.leaf.offer)) }
     ensures lengths { (queue.new.waiting ≤ queue.old.waiting + 1)
         × SameQueue (queue_in queue.old) (queue_in queue.new) }
 {
     queue.unqueue(k);
-    queue.enqueue(count, depth, sides.gt.leaf.offer);
-    queue.enqueue(count + 1, depth, sides.le.leaf.offer);
+    queue.enqueue(count, sides.depth, sides.gt.leaf.offer);
+    queue.enqueue(count + 1, sides.depth, sides.le.leaf.offer);
 }
 
 // Estimated bits gain gt + le - parent, formed in single, added in double.
@@ -129,37 +135,24 @@ fn grown_bits(bits: f64, gt: f32, le: f32, parent: f32) -> f64
 
 // Splits the leaf that waits at place k, after which `left` splits may follow. After the last split nothing reads what
 // the new leaves offer, so they are not scored.
-// Stays: what a function takes is lent on part by part, rows and counts to one call, nodes to the next, so one
-// struct of all would be taken apart at each.
-fn split_leaf(
-    rows: &mut Rows,
-    at: &mut Nodes,
-    queue: &mut Queue,
-    counts: &mut [u32],
-    job: Job,
-    tree: Tree,
-    left: usize,
-    k: usize,
-) -> Tree
-    requires { Splits job counts.old (flat_in rows.old) (lists_in at.old) queue.old tree left k }
-    ensures lent { SameLent rows.old rows.new at.old at.new queue.old queue.new }
+fn split_leaf(lists: &mut Lists, job: Job, tree: Tree, left: usize, k: usize) -> Tree
+    requires { Splits job (work_in lists.old) tree left k }
+    ensures lent { SameLent lists.old lists.new }
     ensures grown { (lent : NodeLists) (st : State singles) (seeds : ℕ → Bool) (given : List Row)
-        → Grows job.entry counts.old (flat_in rows.old) (lists_in at.old) queue.old tree (left + 1)
-        lent st seeds given
-        → Grows job.entry counts.old (flat_in rows.new) (lists_in at.new) queue.new result left
-        lent (step (job_in job.entry (flat_in rows.old)) st) seeds given }
-    ensures lengths { SameSize (flat_in rows.old) (flat_in rows.new)
-        × SameQueue (queue_in queue.old) (queue_in queue.new) }
-    ensures zeros { counts.new ≡ counts.old }
+        → Grows job.entry (work_in lists.old) tree (left + 1) lent st seeds given
+        → Grows job.entry (work_in lists.new) result left lent
+        (step (job_in job.entry (flat_in lists.old.rows.now)) st) seeds given }
+    ensures lengths { SameSize (flat_in lists.old.rows.now) (flat_in lists.new.rows.now)
+        × SameQueue (queue_in lists.old.queue.now) (queue_in lists.new.queue.now) }
+    ensures zeros { lists.new.counts.now ≡ lists.old.counts.now }
 {
-    let pending = queue.at(k);
+    let pending = lists.queue.at(k);
     let i = pending.node as usize;
-    let span = at.spans[i];
-    let parent = at.nodes[i].info.cost;
-    let depth = pending.depth + 1;
-    let sides = split_rows(rows, counts, job, span, pending.offer, depth, 0 < left);
-    split_nodes(at, i, tree.nodes, pending.offer, sides);
-    requeue(queue, k, tree.nodes, depth, sides);
+    let span = lists.at.spans[i];
+    let parent = lists.at.nodes[i].info.cost;
+    let sides = split_rows(lists.rows, lists.counts, job, span, pending, left);
+    split_nodes(lists.at, i, tree.nodes, pending.offer, sides);
+    requeue(lists.queue, k, tree.nodes, sides);
     Tree {
         nodes: tree.nodes + 2,
         bits: grown_bits(
@@ -174,34 +167,24 @@ fn split_leaf(
 // ---- growth
 
 // Makes `more` splits, or as many as there are.
-// Stays: what a function takes is lent on part by part, rows and counts to one call, nodes to the next, so one
-// struct of all would be taken apart at each.
-pub fn grow_tree(
-    rows: &mut Rows,
-    at: &mut Nodes,
-    queue: &mut Queue,
-    counts: &mut [u32],
-    job: Job,
-    tree: Tree,
-    more: usize,
-) -> Tree
-    requires { Growable job counts.old (flat_in rows.old) (lists_in at.old) queue.old tree more }
-    ensures lent { SameLent rows.old rows.new at.old at.new queue.old queue.new }
+pub fn grow_tree(lists: &mut Lists, job: Job, tree: Tree, more: usize) -> Tree
+    requires { Growable job (work_in lists.old) tree more }
+    ensures lent { SameLent lists.old lists.new }
     ensures grown { (lent : NodeLists) (st : State singles) (seeds : ℕ → Bool) (given : List Row)
-        → Grows job.entry counts.old (flat_in rows.old) (lists_in at.old) queue.old tree more
-        lent st seeds given
-        → GrownTo job.entry counts.old (flat_in rows.old) (flat_in rows.new) (lists_in at.new) result
-        lent (steps (job_in job.entry (flat_in rows.old)) more st) }
-    ensures zeros { counts.new ≡ counts.old }
-    ensures lengths { SameQueue (queue_in queue.old) (queue_in queue.new) }
+        → Grows job.entry (work_in lists.old) tree more lent st seeds given
+        → GrownTo job.entry lists.old.counts.now (flat_in lists.old.rows.now)
+        (flat_in lists.new.rows.now) (lists_in lists.new.at.now) result lent
+        (steps (job_in job.entry (flat_in lists.old.rows.now)) more st) }
+    ensures zeros { lists.new.counts.now ≡ lists.old.counts.now }
+    ensures lengths { SameQueue (queue_in lists.old.queue.now) (queue_in lists.new.queue.now) }
 {
     let mut tree = tree;
     for left in (0..more).rev() {
-        if queue.waiting == 0 {
+        if lists.queue.waiting == 0 {
             break;
         }
-        let k = queue.greatest();
-        tree = split_leaf(rows, at, queue, counts, job, tree, left, k);
+        let k = lists.queue.greatest();
+        tree = split_leaf(lists, job, tree, left, k);
     }
     tree
 }

@@ -29,10 +29,9 @@ use Rattle.rows.specs.Cells.{span}
 use Rattle.rows.specs.Flat.{Flat, flat, held_in, row_count, Spanned, SameSize, Changed}
 use Rattle.model.proofs.Settled.{put_same}
 use Rattle.rows.proofs.Cells.{length-held}
-use Rattle.rows.proofs.Shapes.{shaped_still, count_still, residuals_still}
+use Rattle.rows.proofs.Shapes.{size_same, shaped_still, count_still, residuals_still}
 use Rattle.evaluate.specs.Evaluated.{Evaluated, Evaluable}
 use Rattle.lent.specs.Fitting.{uses_of, Fitting}
-use Rattle.settle.specs.Leaves.{stepped as after}
 use Rattle.settle.proofs.Settling.{stepped-size}
 use Rattle.leaf.specs.Made.{settled_at, MadeLeaf}
 
@@ -92,8 +91,12 @@ module _ {job : Job} {counts : List ℕ} {x : Flat} {first end : ℕ} (f : Fitti
   wide : uses ≡ true → length x.props ≡ length x.res * props_per_row
   wide e = f.shaped.props ∙ ap (λ (n : ℕ). n * props_per_row) (sym (residuals e))
 
+  size : (b : Bool) → SameSize x (flat x.props (step_tokens b first end x.res x.toks) x.res)
+  size true = stepped-size x (record { first = first; end = end })
+  size false = size_same x
+
   pub stepped : Changed (settled_at uses (span first end)) x y
-  stepped = record { rows = step-rows x.props x.toks x.res first end uses sp.ordered inside wide; size = stepped-size uses x (record { first = first; end = end }) }
+  stepped = record { rows = step-rows x.props x.toks x.res first end uses sp.ordered inside wide; size = size uses }
 
   pub mode-stepped : step_mode uses first end x.res ≡ span_mode uses (within (span first end) (held_in x))
   mode-stepped = step-mode x.props x.toks x.res first end uses inside wide
@@ -114,7 +117,7 @@ module _ {job : Job} {counts : List ℕ} {x : Flat} {first end : ℕ} (f : Fitti
         let toks = f.shaped.toks in
         let long : (first + length vs) * 14 ≤ length x.toks = omega (arith, residuals e) in
         rezeroed-below m first vs x.toks job.settings.alphabet (f.modal e) long f.below
-        (rw last (l refl)) k (omega (arith, (stepped-size true x (record { first = first; end = end })).toks))
+        (rw last (l refl)) k (omega (arith, (stepped-size x (record { first = first; end = end })).toks))
 
 -- lists as long use modes alike
 pub uses_still : {x y : Flat} (s : Settings) → SameSize x y → uses_of s x ≡ uses_of s y
@@ -174,10 +177,10 @@ pub record Stepped (job : Job) (counts : List ℕ) (sp : Span) (x y : Flat) : Ty
   pub spanned : Spanned sp y
 
 pub after-step : {job : Job} {counts : List ℕ} {x : Flat} {first end : ℕ} → Fitting job counts x → Spanned (span first end) x
-    → (uses : Bool) (z : Flat) (counts' : List ℕ) → uses ≡ uses_of job.settings x → z ≡ after uses x (record { first = first; end = end }) → counts' ≡ counts
+    → (uses : Bool) (z : Flat) (counts' : List ℕ) → uses ≡ uses_of job.settings x → z ≡ flat x.props (step_tokens uses first end x.res x.toks) x.res → counts' ≡ counts
     → (uses ≡ true → LowTokens first end z.toks) → Stepped job counts' (span first end) x z
 after-step {job} {counts} {x} {first} {end} f sp uses z counts' is made same low =
-    let lists : z ≡ y f sp = made ∙ ap (λ (b : Bool). after b x (record { first = first; end = end })) is in
+    let lists : z ≡ y f sp = made ∙ ap (λ (b : Bool). flat x.props (step_tokens b first end x.res x.toks) x.res) is in
     subst (λ (l : Flat). Stepped job counts' (span first end) x l) (sym lists)
     (subst (λ (c : List ℕ). Stepped job c (span first end) x (y f sp)) (sym same)
     (step (λ e. subst (λ (l : Flat). LowTokens first end l.toks) lists (low (is ∙ e)))))

@@ -11,8 +11,9 @@ use layout::{Leaf, Span};
 use refuse::Job;
 use rows::Rows;
 
-// The mode step on the rows of the span, and then their evaluation at the depth. Splits are scored only if asked for:
-// after the last split nothing reads them.
+// The mode step on the rows of the span, if modes are in use, and then their evaluation at the depth. Splits are scored
+// only if asked for: after the last split nothing reads them.
+// Stays: the depth, and whether splits are scored, as `evaluate::evaluate_counts` says of them.
 pub fn make_leaf(
     rows: &mut Rows,
     counts: &mut [u32],
@@ -27,7 +28,10 @@ pub fn make_leaf(
         (flat_in rows.old) (flat_in rows.new) result }
     ensures zeros { counts.new ≡ counts.old }
 {
-    let uses = job.settings.modal_offsets & rows.has_residuals();
-    let mode = settle::step_span(rows, span, counts, uses);
+    let mode = if lent::uses_modes(rows, job) {
+        settle::step_span(rows, span, counts)
+    } else {
+        0
+    };
     evaluate::evaluate_rows(rows, counts, job, span, depth, mode, score_split)
 }

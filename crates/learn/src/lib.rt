@@ -10,28 +10,19 @@ ghost use Rattle.lent.specs.Lists.{lists_now, lists_after};
 ghost use Rattle.from_root.specs.Result.{result_in};
 ghost use Rattle.learn.specs.Learns.{Learnable};
 
-use layout::Nodes;
-use lent::Finished;
-use queue::Queue;
+use lent::{Finished, Lists};
 use refuse::Job;
-use rows::Rows;
 
 // Learns a tree from the rows.
-pub fn learn_ma_tree_in_place(
-    rows: &mut Rows,
-    at: &mut Nodes,
-    queue: &mut Queue,
-    counts: &mut [u32],
-    job: Job,
-) -> Finished
-    requires { Learnable job (lists_now rows.old at.old queue.old counts.old) }
-    ensures lent { SameLent rows.old rows.new at.old at.new queue.old queue.new }
-    ensures finished { LearnedAs (result_in job.entry (flat_in rows.old)) result }
-    ensures lists { lists_now rows.new at.new queue.new counts.new
-        ≡ lists_after (result_in job.entry (flat_in rows.old))
-        (lists_now rows.old at.old queue.old counts.old) }
+pub fn learn_ma_tree_in_place(lists: &mut Lists, job: Job) -> Finished
+    requires { Learnable job (lists_now lists.old) }
+    ensures lent { SameLent lists.old lists.new }
+    ensures finished { LearnedAs (result_in job.entry (flat_in lists.old.rows.now)) result }
+    ensures lists { lists_now lists.new
+        ≡ lists_after (result_in job.entry (flat_in lists.old.rows.now))
+        (lists_now lists.old) }
 {
-    counts.fill(0);
-    let flat_bits = lent::flat_bits(rows, counts, job);
-    from_root::grow_from_root(rows, at, queue, counts, job, flat_bits)
+    lists.counts.fill(0);
+    let flat_bits = lent::flat_bits(lists.rows, lists.counts, job);
+    from_root::grow_from_root(lists, job, flat_bits)
 }

@@ -23,7 +23,7 @@ use Rattle.layout.specs.Tree.{NodeLists, HasRoom}
 use Rattle.layout.specs.Waiting.{QueueLists}
 use Rattle.rows.specs.Flat.{Flat, flat, row_count}
 use Rattle.queue.specs.Room.{leaves_lent}
-use Rattle.lent.specs.Lists.{stored_queue, waiting_at}
+use Rattle.lent.specs.Lists.{stored_queue, waiting_at, lists}
 use Rattle.lent.specs.Fitting.{uses_of, Fitting}
 use Rattle.lent.specs.Starts.{Plantable}
 
@@ -62,7 +62,7 @@ module _ {job : Job} (x : Lent singles) {rows : ℕ} (a : Accepted job.settings 
 
   -- the queue that the model reads stands in these lists
   module _ (n : NodeLists) (q : QueueLists) (stands : x.queue ≡ stored_queue q) (room : HasRoom (2 * job.settings.max_leaves - 1) n) where
-    pub accepted-plantable : Plantable job (zeros x) (given x) n q
+    pub accepted-plantable : Plantable job (lists (given x) n q (zeros x))
     unfolding stored_queue
     accepted-plantable =
         let p = a.model in

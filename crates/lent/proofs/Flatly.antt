@@ -3,13 +3,14 @@ use mathlib.Core.Path.{◌≡◌, refl, sym, ap, ◌∙◌}
 use mathlib.Core.List.{List, ◌∷◌, ◌++◌}
 use Prim.Native.Nat.{ℕ, zero, suc, ◌*◌, ◌≤◌}
 use native.Mathlib.Omega.{arith}
+use lib.IntN.{ℤ}
 use lib.ListN.{length, take, drop, replicate, take-append-drop}
 use Rattle.model.specs.Lists.{is_empty}
 use Rattle.refuse.specs.Given.{settings_of}
 use Rattle.refuse.specs.declared.Job.{Job}
 use Rattle.cost.proofs.Bridge.{usable-is}
 use Rattle.flat.specs.Flat.{FlatFits}
-use Rattle.rows.specs.Flat.{Flat, row_count}
+use Rattle.rows.specs.Flat.{Flat, flat}
 use Rattle.lent.specs.Fitting.{Fitting}
 
 take-zeros : (n m : ℕ) → n ≤ m → take {A = ℕ} n (replicate m 0) ≡ replicate n 0
@@ -27,15 +28,12 @@ module _ {job : Job} {counts : List ℕ} {x : Flat} (f : Fitting job counts x) w
   pub front-empty : take wide counts ≡ replicate wide 0
   front-empty = ap (take wide) f.zeros ∙ take-zeros wide (length counts) enough
 
-  pub flat-asked : {rows : ℕ} → rows ≡ row_count x
-      → FlatFits x.props x.toks rows job.settings.alphabet job.settings.allow_wp job.settings.allowed_preds job.logs.now (take wide counts)
-  flat-asked {rows} count =
-      let long = f.shaped.props in
-      let toks = f.shaped.toks in
+  pub flat-asked : (res : List ℤ) → FlatFits (flat x.props x.toks res) job.settings.alphabet job.settings.allow_wp job.settings.allowed_preds job.logs.now (take wide counts)
+  flat-asked res =
       record {
-        rows_fit = record { few = omega (arith, f.few); props = omega arith; toks = omega arith; below = λ i h. f.below i (omega arith) };
+        rows_fit = record { few = f.few; toks = omega (arith, f.shaped.toks); below = λ i h. f.below i (omega (arith, f.shaped.toks)) };
         tokens = f.settings.alphabet.1;
-        reach = rw count f.logs_reach;
+        reach = f.logs_reach;
         some = ap is_empty (usable-is (settings_of job.settings)) ∙ f.some;
         empty = front-empty;
       }

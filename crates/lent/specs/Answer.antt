@@ -3,7 +3,7 @@ use Rattle.std.specs.Prelude.{◌+◌, ◌/◌, ◌≤◌, ◌≡◌, length, Re
 use Rattle.model.specs.Settings.{max_nodes}
 use Rattle.model.specs.Single.{singles}
 use Rattle.model.specs.Learn.{Result}
-use Rattle.model.specs.Operations.{Outcome, refused, accepted, After, Tree}
+use Rattle.model.specs.Operations.{Outcome, refused, accepted, Tree}
 use Rattle.model.specs.Answered.{refusal_of}
 use Rattle.model.specs.declared.Refusal.{Refusal}
 use Rattle.lent.specs.declared.Finished.{Finished}
@@ -21,10 +21,6 @@ tree_outcome (Err cause) = refused (refusal_of cause)
 -- a finished tree, which has one leaf more than splits
 abbrev pub answer_of : Finished → Tree singles
 answer_of r = record { nodes = r.nodes; leaves = (r.nodes + 1) / 2; bits = r.bits; flat = r.flat }
-
--- the answer, and what the lent lists hold at exit
-abbrev pub after : {L : Type 0} → Fallible Learned Refusal → L → After (Tree singles) L
-after r x = record { outcome = tree_outcome r; lent = x }
 
 -- the finished tree is the model's result: its nodes and leaves, how many entries were written, and its bits
 pub record LearnedAs (made : Result singles) (r : Finished) : Type 0 where

@@ -17,6 +17,7 @@ use Rattle.rows.specs.Flat.{Flat, Shaped, Spanned, row_count, has_residuals}
 abbrev pub uses_of : Settings → Flat → Bool
 uses_of s x = s.modal_offsets && has_residuals x
 
+-- the job passed its checks, and the lists fit it
 pub record Fitting (job : Job) (counts : List ℕ) (x : Flat) : Type 0 where
   pub settings : InRange single (settings_of job.settings)
   pub some : is_empty (usable (settings_of job.settings)) ≡ false

@@ -17,9 +17,9 @@ use Rattle.layout.specs.declared.Tree.{Tree}
 use Rattle.layout.specs.Tree.{NodeLists, holding, HasRoom}
 use Rattle.layout.specs.Waiting.{Queued, QueueRoom, queue_of}
 use Rattle.queue.specs.Lent.{queue_in}
-use Rattle.queue.specs.declared.Queue.{Queue}
 use Rattle.rows.specs.Flat.{Flat, held_in, row_count}
 use Rattle.lent.specs.Fitting.{uses_of, Fitting}
+use Rattle.lent.specs.Lists.{Work}
 
 -- the job over these rows, as the model has it
 abbrev pub job_in : Job → Flat → model.Job singles
@@ -30,28 +30,27 @@ abbrev pub Number : Float → Type 0
 Number c = T (not (is_nan c))
 
 -- The lists hold the state `st`, over what was `lent`, and there is room for `more` splits. What waits is looked at only if there are more splits to make
-pub record Grows (job : Job) (counts : List ℕ) (x : Flat) (lists : NodeLists) (q : Queue)
-    (tree : Tree) (more : ℕ) (lent : NodeLists) (st : State singles) (seeds : ℕ → Bool) (given : List Row) : Type 0 where
-  pub fitting : Fitting job counts x
-  pub rows : held_in x ≡ st.rows
-  pub nodes : lists ≡ holding st.tree lent
+pub record Grows (job : Job) (w : Work) (tree : Tree) (more : ℕ)
+    (lent : NodeLists) (st : State singles) (seeds : ℕ → Bool) (given : List Row) : Type 0 where
+  pub fitting : Fitting job w.counts w.rows
+  pub rows : held_in w.rows ≡ st.rows
+  pub nodes : w.nodes ≡ holding st.tree lent
   pub room : HasRoom (length st.tree + 2 * more) lent
   pub few : length st.tree + 2 * more ≤ max_nodes
-  pub queued : 0 < more → Queued q.waiting (queue_in q) (queue_of st.tree)
-  pub queue_room : QueueRoom (q.waiting + more) (queue_in q)
+  pub queued : 0 < more → Queued w.queue.waiting (queue_in w.queue) (queue_of st.tree)
+  pub queue_room : QueueRoom (w.queue.waiting + more) (queue_in w.queue)
   pub counted : tree.nodes ≡ length st.tree
   pub summed : tree.bits ≡ st.bits
-  pub inv : Invariant (uses_of job.settings x) seeds given st
+  pub inv : Invariant (uses_of job.settings w.rows) seeds given st
   pub healthy : Healthy SingleSmall seeds given st
-  pub sized : Sized Number (row_count x) st
+  pub sized : Sized Number (row_count w.rows) st
   pub shallow : (k : ℕ) → k < length st.tree → (o : Offer singles)
       → (get_or st.tree k no_entry).offer ≡ some o → (get_or st.tree k no_entry).depth < max_depth
 
 -- there is such a state
-pub record Growable (job : Job) (counts : List ℕ) (x : Flat) (lists : NodeLists) (q : Queue)
-    (tree : Tree) (more : ℕ) : Type 0 where
+pub record Growable (job : Job) (w : Work) (tree : Tree) (more : ℕ) : Type 0 where
   pub lent : NodeLists
   pub state : State singles
   pub seeds : ℕ → Bool
   pub given : List Row
-  pub grows : Grows job counts x lists q tree more lent state seeds given
+  pub grows : Grows job w tree more lent state seeds given

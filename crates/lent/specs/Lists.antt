@@ -13,14 +13,13 @@ use Rattle.layout.specs.Tree.{NodeLists, node_lists}
 use Rattle.layout.specs.Lent.{lists_in}
 use Rattle.layout.specs.Waiting.{QueueLists, words_per_leaf}
 use Rattle.layout.specs.declared.MaNode.{MaNode}
-use Rattle.layout.specs.declared.Nodes.{Nodes}
 use Rattle.layout.specs.declared.Span as layout
 use Rattle.queue.specs.Lent.{queue_in}
 use Rattle.queue.specs.Room.{leaves_lent, cleared}
 use Rattle.queue.specs.declared.Queue.{Queue}
 use Rattle.rows.specs.Flat.{Flat, flat_of, has_residuals}
 use Rattle.rows.specs.Lent.{flat_in}
-use Rattle.rows.specs.declared.Rows.{Rows}
+use Rattle.lent.specs.declared.Lists as lent
 
 -- rows; nodes with their spans; queue; count space
 pub record Lists : Type 0 where
@@ -33,8 +32,22 @@ abbrev pub lists : Flat → NodeLists → QueueLists → List ℕ → Lists
 lists rows nodes queue counts = record { rows = rows; nodes = nodes; queue = queue; counts = counts }
 
 -- what lent lists hold
-abbrev pub lists_now : Rows → Nodes → Queue → List ℕ → Lists
-lists_now rows at queue counts = lists (flat_in rows) (lists_in at) (queue_in queue) counts
+abbrev pub lists_now : lent.Lists → Lists
+lists_now x = lists (flat_in x.rows.now) (lists_in x.at.now) (queue_in x.queue.now) x.counts.now
+
+-- count space, rows, nodes and queue, with how many leaves wait
+pub record Work : Type 0 where
+  pub counts : List ℕ
+  pub rows : Flat
+  pub nodes : NodeLists
+  pub queue : Queue
+
+abbrev pub work : List ℕ → Flat → NodeLists → Queue → Work
+work counts rows nodes queue = record { counts = counts; rows = rows; nodes = nodes; queue = queue }
+
+-- the same of lent lists
+abbrev pub work_in : lent.Lists → Work
+work_in x = work x.counts.now (flat_in x.rows.now) (lists_in x.at.now) x.queue.now
 
 -- ---- what the model reads in the queue's lists
 abbrev pub waiting_at : QueueLists → ℕ → Waiting singles

@@ -9,14 +9,27 @@ ghost use Rattle.model.specs.Rows.{rows_held};
 ghost use Rattle.refuse.specs.Given.{settings_of};
 ghost use Rattle.rows.specs.Lent.{flat_in};
 ghost use Rattle.lent.specs.Answer.{tree_of, answer_of};
+ghost use Rattle.lent.specs.Fitting.{uses_of};
 ghost use Rattle.lent.specs.Starts.{Flattened};
 
-use cost::Allowed;
+use layout::Nodes;
+use queue::Queue;
 use refuse::Job;
 use rows::Rows;
 
+// What a caller lends for a job: rows, nodes with their spans, queue, count space.
+// Stays: references, each for a lifetime of its own. Where the parts are held by value, the prover loses what their
+// lists hold when the function ends that made the struct; where they share a lifetime, it does not cover that function.
+#[derive(Drop)]
+pub struct Lists<'r, 'p, 't, 'n, 'q, 'w, 'c> {
+    pub rows: &'r mut Rows<'p>,
+    pub at: &'t mut Nodes<'n>,
+    pub queue: &'q mut Queue<'w>,
+    pub counts: &'c mut [u32],
+}
+
 // The answer: how many nodes and leaves the tree has, its estimated bits and the flat bits.
-#[derive(Clone, Copy)]
+#[derive(Clone, Copy, PartialEq)]
 pub struct Learned {
     pub nodes: u32,
     pub leaves: u32,
@@ -34,6 +47,13 @@ pub struct Finished {
     pub flat: f64,
 }
 
+// Modes are in use: modal offsets are on, and residuals given.
+pub fn uses_modes(rows: &Rows, job: Job) -> bool
+    ensures { result ≡ uses_of job.entry.settings (flat_in rows.now) }
+{
+    job.settings.modal_offsets & rows.has_residuals()
+}
+
 // Flat bits of the rows as first given, whatever their residuals. The counts are zero, before and after.
 pub fn flat_bits(rows: &Rows, counts: &mut [u32], job: Job) -> f64
     requires { Flattened job counts.old (flat_in rows.now) }
@@ -42,25 +62,14 @@ pub fn flat_bits(rows: &Rows, counts: &mut [u32], job: Job) -> f64
         (rows_held rows.now.props.now rows.now.tok.now rs) }
     ensures zeros { counts.new ≡ counts.old }
 {
-    let s = job.settings;
-    let alphabet = s.alphabet as usize;
+    let alphabet = job.settings.alphabet as usize;
     let wide = refuse::FLAT_COUNTS * alphabet;
-    let allowed = Allowed {
-        weighted: s.allow_wp,
-        preds: u32::from(s.allowed_preds),
-    };
-    flat::flat_cost(
-        rows.props,
-        rows.tok,
-        &mut counts[..wide],
-        job.logs,
-        rows.count(),
-        alphabet,
-        allowed,
-    )
+    let allowed = job.settings.allowed();
+    flat::flat_cost(rows, &mut counts[..wide], alphabet, allowed, job.logs)
 }
 
 // The answer for a finished tree.
+// Stays: no `From`, since a caller has to show that the tree is no larger than the largest, and `from` may ask nothing.
 pub fn answer(tree: Finished) -> Learned
     requires { tree.nodes ≤ max_nodes }
     ensures { tree_of result ≡ answer_of tree }

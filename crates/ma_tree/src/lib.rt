@@ -16,6 +16,7 @@ ghost use Rattle.ma_tree.specs.Runs.{records_now, Learning, Deepening, Numbering
 
 use answers::{Count, FoundLeaf, LearnedTree, Read};
 use layout::{MaNode, Nodes, Span};
+use lent::Lists;
 use model::Encoded;
 use queue::Queue;
 use refuse::{Job, Settings};
@@ -50,7 +51,7 @@ pub fn ostrovuc_evenly_sampled_indices(rows: usize, target: usize, out: &mut [u3
 // ---- learning and deepening
 
 // Learns a tree from the rows into the node list.
-// Stays: the C interface lends its lists one by one.
+// Stays: the C interface lends its lists one by one, and the clause hands on what it lends, list for list.
 pub fn ostrovuc_learn<'n, 'a>(
     nodes: &'n mut [MaNode],
     spans: &'n mut [Span],
@@ -78,12 +79,19 @@ pub fn ostrovuc_learn<'n, 'a>(
         gains: queue_gains,
         waiting: 0,
     };
+    let mut lists = Lists {
+        rows: &mut rows,
+        at: &mut at,
+        queue: &mut queue,
+        counts,
+    };
     let job = Job { settings: s, logs };
-    LearnedTree::from(border::learn_on(&mut rows, &mut at, &mut queue, counts, job))
+    LearnedTree::from(border::learn_on(&mut lists, job))
 }
 
 // Deepens the tree of the first `count` nodes.
-// Stays: the C interface lends its lists one by one.
+// Stays: the C interface lends its lists one by one, and the clause hands on what it lends, list for list. They are
+// put together here as in learning, since a helper could not answer `lists`, which refers to locals of its function.
 pub fn ostrovuc_deepen<'n, 'a>(
     nodes: &'n mut [MaNode],
     spans: &'n mut [Span],
@@ -112,8 +120,14 @@ pub fn ostrovuc_deepen<'n, 'a>(
         gains: queue_gains,
         waiting: 0,
     };
+    let mut lists = Lists {
+        rows: &mut rows,
+        at: &mut at,
+        queue: &mut queue,
+        counts,
+    };
     let job = Job { settings: s, logs };
-    LearnedTree::from(border::deepen_on(&mut rows, &mut at, &mut queue, counts, job, count))
+    LearnedTree::from(border::deepen_on(&mut lists, job, count))
 }
 
 // ---- lookup and contexts

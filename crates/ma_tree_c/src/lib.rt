@@ -1,5 +1,7 @@
 // The exports of the public interface for C and Rust: each calls the operation of crate `ma_tree` by the same name and
 // states its clauses again. A slice crosses over to C as two arguments, pointer and length.
+// Stays: each operation twice, since a crate is a library for Rattle or a static library for C, and not both: the
+// demands (crate `promises`) cite the clauses of `ma_tree`, and the proof here holds the exports to them.
 #![tactic(auto)]
 
 ghost use Rattle.std.specs.Prelude.{◌≡◌, map};

@@ -39,6 +39,7 @@ use Rattle.rows.specs.Cells.{span}
 use Rattle.rows.specs.Flat.{Flat, held_in}
 use Rattle.rows.proofs.Shapes.{size_same}
 use Rattle.layout.specs.Kept.{info_at, kept_node}
+use Rattle.lent.specs.Lists.{work}
 use Rattle.lent.specs.Fitting.{uses_of, Fitting}
 use Rattle.leaf.specs.Made.{settled_at}
 use Rattle.seed_leaves.specs.Sown.{span_at, Sown, LeafPlanted, NextIs, NodePlanted}
@@ -79,9 +80,9 @@ with_node tree = record { nodes = tree.nodes + 1; bits = tree.bits }
 
 module _ {job : Job} {counts : List ℕ} {x : Flat} {n n' : NodeLists} {q : Queue} {tree : Tree} {scored uses : Bool}
     {lent : NodeLists} {st : State singles} {left : List Row}
-    (sown : Sown job counts x n q tree scored uses lent st left) (depth : ℕ) (info : Info singles) (room : HasRoom (length st.tree + 1) lent) where
+    (sown : Sown job (work counts x n q) tree scored uses lent st left) (depth : ℕ) (info : Info singles) (room : HasRoom (length st.tree + 1) lent) where
   kept_in : (m : Node) → n' ≡ put (length st.tree) (kept_node m info) n
-      → Sown job counts x n' q (with_node tree) scored uses lent (with_seed_node (job_of single (settings_of job.settings) job.logs.now uses) m info depth [] st) left
+      → Sown job (work counts x n' q) (with_node tree) scored uses lent (with_seed_node (job_of single (settings_of job.settings) job.logs.now uses) m info depth [] st) left
   kept_in (split prop val gt le) e =
       let entry : Entry singles = seed_split (split prop val gt le) depth in
       record {
@@ -113,23 +114,23 @@ module _ {job : Job} {counts : List ℕ} {x : Flat} {n n' : NodeLists} {q : Queu
 pub kept-planted : {job : Job} {counts : List ℕ} {x : Flat} {n n' : NodeLists} {q : Queue} {tree : Tree} (depth : ℕ) {scored : Bool}
     → (eqb (get_or n.nodes tree.nodes no_record).kind 1 || eqb (span_at n.spans tree.nodes).first (span_at n.spans tree.nodes).end) ≡ true
     → n' ≡ put tree.nodes (kept_node (node_at n.nodes tree.nodes) (info_at n tree.nodes)) n
-    → NodePlanted job counts counts x x n n' q q tree (with_node tree) depth scored
+    → NodePlanted job (work counts x n q) (work counts x n' q) tree (with_node tree) depth scored
 kept-planted {job} {counts} {x} {n} {n'} {q} {tree} depth {scored} test is =
     record { size = size_same x; queue = same-itself (queue_in q); zeros = refl; counted = refl; risen = omega arith; sown = gains }
   where
-    gains : (uses : Bool) (lent : NodeLists) (st : State singles) (mine left : List Row) → Sown job counts x n q tree scored uses lent st (mine ++ left)
+    gains : (uses : Bool) (lent : NodeLists) (st : State singles) (mine left : List Row) → Sown job (work counts x n q) tree scored uses lent st (mine ++ left)
         → NextIs n tree.nodes lent st mine
-        → Sown job counts x n' q (with_node tree) scored uses lent (with_seed_node (job_of single (settings_of job.settings) job.logs.now uses) (node_at n.nodes tree.nodes)
+        → Sown job (work counts x n' q) (with_node tree) scored uses lent (with_seed_node (job_of single (settings_of job.settings) job.logs.now uses) (node_at n.nodes tree.nodes)
         (info_at n tree.nodes) depth mine st) left
     gains uses lent st mine left w next =
         let m : Node = node_at n.nodes tree.nodes in
         let empty : mine ≡ [] = go (eqb (get_or n.nodes tree.nodes no_record).kind 1) refl in
         let here : length st.tree ≡ tree.nodes = sym w.counted in
-        let w' : Sown job counts x n q tree scored uses lent st left = subst
-        (λ (l : List Row). Sown job counts x n q tree scored uses lent st (l ++ left)) empty w in
+        let w' : Sown job (work counts x n q) tree scored uses lent st left = subst
+        (λ (l : List Row). Sown job (work counts x n q) tree scored uses lent st (l ++ left)) empty w in
         let room : HasRoom (length st.tree + 1) lent = subst (λ (k : ℕ). HasRoom (k + 1) lent) (sym here) next.room in
         let is' : n' ≡ put (length st.tree) (kept_node m (info_at n tree.nodes)) n = is ∙ ap (λ (k : ℕ). put k (kept_node m (info_at n tree.nodes)) n) (sym here) in
-        subst (λ (l : List Row). Sown job counts x n' q (with_node tree) scored uses lent
+        subst (λ (l : List Row). Sown job (work counts x n' q) (with_node tree) scored uses lent
         (with_seed_node (job_of single (settings_of job.settings) job.logs.now uses) m (info_at n tree.nodes) depth l st) left) (sym empty)
         (kept_in w' depth (info_at n tree.nodes) room m is')
       where
@@ -143,14 +144,14 @@ kept-planted {job} {counts} {x} {n} {n'} {q} {tree} depth {scored} test is =
 -- ---- a leaf with rows
 module _ {job : Job} {counts counts' : List ℕ} {x y : Flat} {n n' : NodeLists} {q q' : Queue} {tree tree' : Tree}
     {sp : Span} {depth : ℕ} {scored : Bool}
-    (p : LeafPlanted job counts counts' x y n n' q q' tree tree' sp depth scored) where
+    (p : LeafPlanted job (work counts x n q) (work counts' y n' q') tree tree' sp depth scored) where
   abbrev i : ℕ
   i = tree.nodes
 
   leaf_in_lem : {uses : Bool} {lent : NodeLists} {st : State singles} (mine left : List Row) (info : Info singles)
-      → Sown job counts x n q tree scored uses lent st (mine ++ left)
+      → Sown job (work counts x n q) tree scored uses lent st (mine ++ left)
       → sp.first ≡ length st.rows → sp.end ≡ length st.rows + length mine → HasRoom (i + 1) lent → (sp.first ≡ sp.end → ⊥)
-      → Sown job counts' y n' q' tree' scored uses lent (with_seed_node (job_of single (settings_of job.settings) job.logs.now uses) leaf info depth mine st) left
+      → Sown job (work counts' y n' q') tree' scored uses lent (with_seed_node (job_of single (settings_of job.settings) job.logs.now uses) leaf info depth mine st) left
   unfolding leaf_over
   leaf_in_lem [] left info w f e room busy = absurd (busy (omega arith))
   leaf_in_lem {uses} {lent} {st} (r ∷ rs) left info w f e room busy =
@@ -205,7 +206,7 @@ module _ {job : Job} {counts counts' : List ℕ} {x y : Flat} {n n' : NodeLists}
       no_offer t = p.made.leaf.offer ∙ rw t
 
   pub leaf-planted : (eqb (get_or n.nodes i no_record).kind 1 || eqb sp.first sp.end) ≡ false → sp ≡ span_at n.spans i
-      → NodePlanted job counts counts' x y n n' q q' tree tree' depth scored
+      → NodePlanted job (work counts x n q) (work counts' y n' q') tree tree' depth scored
   leaf-planted test is =
       let t = (neither (eqb (get_or n.nodes i no_record).kind 1) (eqb sp.first sp.end)).0 test in
       record {

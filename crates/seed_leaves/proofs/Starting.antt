@@ -57,6 +57,7 @@ use Rattle.rows.proofs.Cells.{length-held, tok_held}
 use Rattle.rows.proofs.Shapes.{size-then, count_still}
 use Rattle.lent.proofs.Numbers.{nought-number, evaluated_number, offered-shallow}
 use Rattle.lent.specs.Fitting.{uses_of, Fitting}
+use Rattle.lent.specs.Lists.{work, lists}
 use Rattle.lent.specs.Grows.{job_in, Number, Grows}
 use Rattle.seed_rows.specs.Ordered.{seed_in, numbers_in, Orderable, SpansOf, OrderedBy}
 use Rattle.seed_leaves.specs.Sown.{seeded_to, Plants, Sowable, PlantedTo}
@@ -174,7 +175,7 @@ unfolding is_nan
 number-endless = tt
 
 module _ {job : Job} {counts : List ℕ} {x : Flat} {n : NodeLists} {q : QueueLists} {count : ℕ}
-    (c : Seedable job counts x n q count) where
+    (c : Seedable job (lists x n q counts) count) where
   abbrev limit : ℕ
   limit = job.settings.max_leaves
 
@@ -187,14 +188,13 @@ module _ {job : Job} {counts : List ℕ} {x : Flat} {n : NodeLists} {q : QueueLi
   room-count : HasRoom count n
   room-count = room-fewer c.room (omega arith)
 
-  pub orderable : {rows : ℕ} → rows ≡ row_count x → Orderable x n counts rows count
-  orderable told = record {
+  pub orderable : Orderable x n counts count
+  orderable = record {
     shaped = c.fitting.shaped;
     few = c.fitting.few;
-    counted = told;
     sound = c.sound;
     room = room-count;
-    space = omega (arith, told, c.space);
+    space = omega (arith, c.space);
     zeros = c.fitting.zeros;
   }
 
@@ -227,7 +227,7 @@ module _ {job : Job} {counts : List ℕ} {x : Flat} {n : NodeLists} {q : QueueLi
     fits1 = subst (λ (l : List ℕ). Fitting job l y) (sym same)
         (ordered-fitting (numbers_in count n (held_in x)) count c.fitting by.size by.rows)
 
-    pub plants : Plants job counts1 y n1 q count scored (held_in x)
+    pub plants : Plants job (lists y n1 q counts1) count scored (held_in x)
     plants = record {
       fitting = fits1;
       logs_small = subst (λ (k : ℕ). LogsWithin k job.logs.now) (sym (count_still by.size)) c.logs_small;
@@ -242,12 +242,12 @@ module _ {job : Job} {counts : List ℕ} {x : Flat} {n : NodeLists} {q : QueueLi
           room-queue (omega (arith, leaves_are, told)) (same-itself q) c.queue_room;
     }
 
-    pub sowable : Sowable job counts1 y n1 q count scored
+    pub sowable : Sowable job (lists y n1 q counts1) count scored
     sowable = record { given = held_in x; plants = plants }
 
     -- ---- all nodes are planted
     module _ {counts2 : List ℕ} {z : Flat} {n2 : NodeLists} {q2 : Queue} {r : Tree}
-        (done : PlantedTo job counts1 counts2 y z n1 n2 q q2 r count count scored (held_in x)) where
+        (done : PlantedTo job (lists y n1 q counts1) (work counts2 z n2 q2) r count count scored (held_in x)) where
       abbrev st : State singles
       st = seed_state (job_in job x) seed (held_in x)
 
@@ -309,7 +309,7 @@ module _ {job : Job} {counts : List ℕ} {x : Flat} {n : NodeLists} {q : QueueLi
               let two = tree-count nodes (sounds.sound seed c.sound).rooted (omega (arith, seed-fits.0)) in
               omega (arith, leaves_are)
 
-      grows : Grows job counts2 z n2 q2 r (limit - (count + 1) / 2) n st (splits_of seed) (held_in x)
+      grows : Grows job (work counts2 z n2 q2) r (limit - (count + 1) / 2) n st (splits_of seed) (held_in x)
       grows = record {
         fitting = done.sown.fitting;
         rows = rows_are;
@@ -331,11 +331,11 @@ module _ {job : Job} {counts : List ℕ} {x : Flat} {n : NodeLists} {q : QueueLi
         shallow = λ k h. seed-shallow single (settings_of job.settings) job.logs.now (uses_of job.settings x) seed (held_in x) k;
       }
 
-      pub seeded : Seeded job counts2 x z n n2 q q2 count r
+      pub seeded : Seeded job (lists x n q counts) (work counts2 z n2 q2) count r
       seeded =
           let all : r.nodes ≡ count = counted ∙ tree-long in
           record {
-            grows = subst (λ (k : ℕ). Grows job counts2 z n2 q2 r (limit - (k + 1) / 2) n st (splits_of seed) (held_in x)) (sym all) grows;
+            grows = subst (λ (k : ℕ). Grows job (work counts2 z n2 q2) r (limit - (k + 1) / 2) n st (splits_of seed) (held_in x)) (sym all) grows;
             leaves = ap (λ (k : ℕ). (k + 1) / 2) all ∙ leaves_are;
             size = size;
             queue = done.queue;

@@ -40,6 +40,7 @@ use Rattle.rows.specs.Flat.{Flat, held_in, row_count}
 use Rattle.rows.proofs.Cells.{length-held}
 use Rattle.rows.proofs.Shapes.{size_same, size-then, count_still}
 use Rattle.layout.specs.Kept.{info_at}
+use Rattle.lent.specs.Lists.{Lists, Work, lists, work}
 use Rattle.lent.specs.Fitting.{uses_of}
 use Rattle.seed_rows.specs.Ordered.{seed_in}
 use Rattle.seed_leaves.specs.Sown.{span_at, seeded_to, Sown, NodeFits, NextIs, NodePlanted, Plants, PlantedTo}
@@ -67,7 +68,7 @@ room-queue h same room = record {
 }
 
 module _ {job : Job} {counts : List ℕ} {x : Flat} {n : NodeLists} {q : QueueLists} {count : ℕ} {scored : Bool} {given : List Row}
-    (given_to : Plants job counts x n q count scored given) where
+    (given_to : Plants job (lists x n q counts) count scored given) where
   abbrev seed : List (Record singles)
   seed = seed_in count n
 
@@ -101,14 +102,14 @@ module _ {job : Job} {counts : List ℕ} {x : Flat} {n : NodeLists} {q : QueueLi
 
   -- ---- before the first node
   pub planted-none : (p : Queue) → p.waiting ≡ 0 → SameQueue q (queue_in p) → (bits : Float) → bits ≡ singles.no_total
-      → PlantedTo job counts counts x x n n q p (record { nodes = 0; bits = bits }) count 0 scored given
+      → PlantedTo job (lists x n q counts) (work counts x n p) (record { nodes = 0; bits = bits }) count 0 scored given
   unfolding waiting_from
   planted-none p none same bits nothing = record {
     size = size_same x;
     queue = same;
     zeros = refl;
     few = omega (arith, none);
-    sown = subst (λ (st : State singles). Sown job counts x n p (record { nodes = 0; bits = bits }) scored (uses_of job.settings x) n st (drop (first_of ks 0) (held_in x)))
+    sown = subst (λ (st : State singles). Sown job (work counts x n p) (record { nodes = 0; bits = bits }) scored (uses_of job.settings x) n st (drop (first_of ks 0) (held_in x)))
         (sym (seeded-none j seed given))
         (record {
           fitting = given_to.fitting;
@@ -124,7 +125,7 @@ module _ {job : Job} {counts : List ℕ} {x : Flat} {n : NodeLists} {q : QueueLi
 
   -- ---- node i, the next
   module _ {counts' : List ℕ} {y : Flat} {n' : NodeLists} {q' : Queue} {tree : Tree} (inside : tree.nodes < count)
-      (done : PlantedTo job counts counts' x y n n' q q' tree count tree.nodes scored given) where
+      (done : PlantedTo job (lists x n q counts) (work counts' y n' q') tree count tree.nodes scored given) where
     abbrev i : ℕ
     i = tree.nodes
 
@@ -134,14 +135,14 @@ module _ {job : Job} {counts : List ℕ} {x : Flat} {n : NodeLists} {q : QueueLi
     gone : length (to i).rows ≡ first_of ks i
     gone = seeded-rows j seed given given_to.sound i (omega (arith, long))
 
-    lists : n' ≡ holding (to i).tree n
-    lists = done.sown.nodes
+    held : n' ≡ holding (to i).tree n
+    held = done.sown.nodes
 
     span-is : span_at n'.spans i ≡ span (first_of ks i) (first_of ks (suc i))
-    span-is = ap span_is (ap (λ (m : NodeLists). get_or m.spans i no_span_record) lists ∙ span_still (to i).tree n i here) ∙ given_to.spans i inside
+    span-is = ap span_is (ap (λ (m : NodeLists). get_or m.spans i no_span_record) held ∙ span_still (to i).tree n i here) ∙ given_to.spans i inside
 
     record-is : get_or n'.nodes i no_record ≡ get_or n.nodes i no_record
-    record-is = ap (λ (m : NodeLists). get_or m.nodes i no_record) lists ∙ record_still (to i).tree n i here
+    record-is = ap (λ (m : NodeLists). get_or m.nodes i no_record) held ∙ record_still (to i).tree n i here
 
     node-is : node_at n'.nodes i ≡ get_or nodes i leaf
     node-is = ap node_is record-is ∙ sym (node_in count n given_to.room i inside)
@@ -163,7 +164,7 @@ module _ {job : Job} {counts : List ℕ} {x : Flat} {n : NodeLists} {q : QueueLi
     size : row_count y ≡ row_count x
     size = count_still done.size
 
-    pub node_fits : NodeFits job counts' y n' q' tree scored
+    pub node_fits : NodeFits job (work counts' y n' q') tree scored
     node_fits = record {
       fitting = done.sown.fitting;
       logs_small = subst (λ (k : ℕ). LogsWithin k job.logs.now) (sym size) given_to.logs_small;
@@ -173,7 +174,7 @@ module _ {job : Job} {counts : List ℕ} {x : Flat} {n : NodeLists} {q : QueueLi
         inside = omega
             (arith, end-inside, size);
       });
-      room = subst (HasRoom (i + 1)) (sym lists) (holding-room (to i).tree n (room-fewer given_to.room (omega arith)));
+      room = subst (HasRoom (i + 1)) (sym held) (holding-room (to i).tree n (room-fewer given_to.room (omega arith)));
       few = omega (arith, walk-few.1);
       queue_room = λ t k.
           let more : leaf_count (take (suc i) nodes) ≡ leaf_count (take i nodes) + 1 = rw k at one_more in
@@ -196,17 +197,17 @@ module _ {job : Job} {counts : List ℕ} {x : Flat} {n : NodeLists} {q : QueueLi
         ∙ ap (λ (l : List Row). mine i ++ drop (first_of ks (suc i)) l) (sym given_to.rows)
 
     module _ {counts'' : List ℕ} {z : Flat} {n'' : NodeLists} {q'' : Queue} {tree' : Tree} {depth : ℕ} (deep : depth ≡ get_or (depths_of nodes) i 0)
-        (planted : NodePlanted job counts' counts'' y z n' n'' q' q'' tree tree' depth scored) where
+        (planted : NodePlanted job (work counts' y n' q') (work counts'' z n'' q'') tree tree' depth scored) where
       state-is : with_seed_node j (node_at n'.nodes i) (info_at n' i) depth (mine i) (to i) ≡ to (suc i)
       state-is = (λ t. with_seed_node j (node-is t) (info-is t) (deep t) (mine i) (to i)) ∙ sym (seeded-more j seed given i (omega (arith, long)))
 
-      gained : Sown job counts'' z n'' q'' tree' scored (uses_of job.settings x) n (to (suc i)) (drop (first_of ks (suc i)) (held_in x))
+      gained : Sown job (work counts'' z n'' q'') tree' scored (uses_of job.settings x) n (to (suc i)) (drop (first_of ks (suc i)) (held_in x))
       gained =
-          subst (λ (st : State singles). Sown job counts'' z n'' q'' tree' scored (uses_of job.settings x) n st (drop (first_of ks (suc i)) (held_in x))) state-is
+          subst (λ (st : State singles). Sown job (work counts'' z n'' q'') tree' scored (uses_of job.settings x) n st (drop (first_of ks (suc i)) (held_in x))) state-is
           (planted.sown (uses_of job.settings x) n (to i) (mine i) (drop (first_of ks (suc i)) (held_in x))
-          (subst (λ (l : List Row). Sown job counts' y n' q' tree scored (uses_of job.settings x) n (to i) l) left_is done.sown) next-is)
+          (subst (λ (l : List Row). Sown job (work counts' y n' q') tree scored (uses_of job.settings x) n (to i) l) left_is done.sown) next-is)
 
-      next : PlantedTo job counts counts'' x z n n'' q q'' tree' count (suc i) scored given
+      next : PlantedTo job (lists x n q counts) (work counts'' z n'' q'') tree' count (suc i) scored given
       next = record {
         size = size-then done.size planted.size;
         queue = same_queue done.queue planted.queue;
@@ -215,29 +216,28 @@ module _ {job : Job} {counts : List ℕ} {x : Flat} {n : NodeLists} {q : QueueLi
         sown = gained;
       }
 
-      pub planted-more : PlantedTo job counts counts'' x z n n'' q q'' tree' count tree'.nodes scored given
-      planted-more = subst (λ (k : ℕ). PlantedTo job counts counts'' x z n n'' q q'' tree' count k scored given) (sym (planted.counted ∙ add-one i)) next
+      pub planted-more : PlantedTo job (lists x n q counts) (work counts'' z n'' q'') tree' count tree'.nodes scored given
+      planted-more = subst (λ (k : ℕ). PlantedTo job (lists x n q counts) (work counts'' z n'' q'') tree' count k scored given) (sym (planted.counted ∙ add-one i)) next
 
 -- ---- what the walk keeps
-pub record Walked (job : Job) (counts counts' : List ℕ) (x y : Flat) (n n' : NodeLists) (q : QueueLists) (q' : Queue) (tree : Tree) (count : ℕ)
-    (scored : Bool) (i : ℕ) : Type 0 where
+pub record Walked (job : Job) (x : Lists) (w : Work) (tree : Tree) (count : ℕ) (scored : Bool) (i : ℕ) : Type 0 where
   pub passed : tree.nodes ≡ i
-  pub planted : (given : List Row) → Plants job counts x n q count scored given → PlantedTo job counts counts' x y n n' q q' tree count tree.nodes scored given
+  pub planted : (given : List Row) → Plants job x count scored given → PlantedTo job x w tree count tree.nodes scored given
 
 pub walked-none : {job : Job} {counts : List ℕ} {x : Flat} {n : NodeLists} {q : QueueLists} {count : ℕ} {scored : Bool} {bits : Float} (p : Queue) → p.waiting ≡ 0
-    → SameQueue q (queue_in p) → bits ≡ singles.no_total → Walked job counts counts x x n n q p (record { nodes = 0; bits = bits }) count scored 0
+    → SameQueue q (queue_in p) → bits ≡ singles.no_total → Walked job (lists x n q counts) (work counts x n p) (record { nodes = 0; bits = bits }) count scored 0
 walked-none p none same nothing = record { passed = refl; planted = λ given plants. planted-none plants p none same _ nothing }
 
 module _ {job : Job} {counts counts' : List ℕ} {x y : Flat} {n n' : NodeLists} {q : QueueLists} {q' : Queue} {tree : Tree} {count i : ℕ} {scored : Bool}
-    (w : Walked job counts counts' x y n n' q q' tree count scored i) where
+    (w : Walked job (lists x n q counts) (work counts' y n' q') tree count scored i) where
   pub walked-more : {counts'' : List ℕ} {z : Flat} {n'' : NodeLists} {q'' : Queue} {tree' : Tree} {depth : ℕ} → i < count
-      → depth ≡ get_or (depths_of (nodes_of (seed_in count n))) i 0 → NodePlanted job counts' counts'' y z n' n'' q' q'' tree tree' depth scored
-      → Walked job counts counts'' x z n n'' q q'' tree' count scored (i + 1)
+      → depth ≡ get_or (depths_of (nodes_of (seed_in count n))) i 0 → NodePlanted job (work counts' y n' q') (work counts'' z n'' q'') tree tree' depth scored
+      → Walked job (lists x n q counts) (work counts'' z n'' q'') tree' count scored (i + 1)
   walked-more inside deep more = record {
     passed = omega (arith, w.passed, more.counted);
     planted = λ given p. planted-more p (omega (arith, w.passed)) (w.planted given p)
         (deep ∙ ap (λ (k : ℕ). get_or (depths_of (nodes_of (seed_in count n))) k 0) (sym w.passed)) more;
   }
 
-  pub walked-all : i ≡ count → (given : List Row) → Plants job counts x n q count scored given → PlantedTo job counts counts' x y n n' q q' tree count count scored given
-  walked-all all given p = subst (λ (k : ℕ). PlantedTo job counts counts' x y n n' q q' tree count k scored given) (w.passed ∙ all) (w.planted given p)
+  pub walked-all : i ≡ count → (given : List Row) → Plants job (lists x n q counts) count scored given → PlantedTo job (lists x n q counts) (work counts' y n' q') tree count count scored given
+  walked-all all given p = subst (λ (k : ℕ). PlantedTo job (lists x n q counts) (work counts' y n' q') tree count k scored given) (w.passed ∙ all) (w.planted given p)

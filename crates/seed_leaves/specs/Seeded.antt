@@ -8,34 +8,33 @@ use Rattle.model.specs.Deepen.{seed_state}
 use Rattle.model.specs.Accepting.{LogsWithin, SingleSmall, JobFits}
 use Rattle.refuse.specs.declared.Job.{Job}
 use Rattle.layout.specs.declared.Tree.{Tree}
-use Rattle.layout.specs.Tree.{NodeLists, HasRoom}
-use Rattle.layout.specs.Waiting.{QueueLists, QueueRoom, SameQueue}
-use Rattle.queue.specs.declared.Queue.{Queue}
+use Rattle.layout.specs.Tree.{HasRoom}
+use Rattle.layout.specs.Waiting.{QueueRoom, SameQueue}
 use Rattle.queue.specs.Lent.{queue_in}
-use Rattle.rows.specs.Flat.{Flat, held_in, row_count, SameSize}
+use Rattle.rows.specs.Flat.{held_in, row_count, SameSize}
 use Rattle.lent.specs.Fitting.{Fitting}
+use Rattle.lent.specs.Lists.{Lists, Work}
 use Rattle.lent.specs.Grows.{job_in, Grows}
 use Rattle.seed_rows.specs.Ordered.{seed_in}
 
 -- what the checks of deepening ensure: 1 to 7, the rooms of a seed of `count` nodes, and a sound seed
-pub record Seedable (job : Job) (counts : List ℕ) (x : Flat) (n : NodeLists) (q : QueueLists) (count : ℕ) : Type 0 where
-  pub fitting : Fitting job counts x
-  pub lawful : JobFits SingleSmall (job_in job x) (length (held_in x))
-  pub logs_small : LogsWithin (row_count x) job.logs.now
-  pub room : HasRoom (max (2 * job.settings.max_leaves - 1) count) n
-  pub queue_room : QueueRoom job.settings.max_leaves q
-  pub space : row_count x + 2 * count ≤ length counts
-  pub sound : fault_of (seed_in count n) ≡ none
+pub record Seedable (job : Job) (x : Lists) (count : ℕ) : Type 0 where
+  pub fitting : Fitting job x.counts x.rows
+  pub lawful : JobFits SingleSmall (job_in job x.rows) (length (held_in x.rows))
+  pub logs_small : LogsWithin (row_count x.rows) job.logs.now
+  pub room : HasRoom (max (2 * job.settings.max_leaves - 1) count) x.nodes
+  pub queue_room : QueueRoom job.settings.max_leaves x.queue
+  pub space : row_count x.rows + 2 * count ≤ length x.counts
+  pub sound : fault_of (seed_in count x.nodes) ≡ none
 
 -- which nodes are the seed's splits
 abbrev pub splits_of : List (Record singles) → ℕ → Bool
 splits_of seed k = not (is_leaf (get_or (nodes_of seed) k leaf))
 
 -- The lists hold the model's state of the seed, and there is room for as many splits as the limit allows. Rows and queue have as many entries as they had
-pub record Seeded (job : Job) (counts : List ℕ) (x y : Flat) (n n' : NodeLists) (q : QueueLists) (q' : Queue) (count : ℕ)
-    (r : Tree) : Type 0 where
-  pub grows : Grows job counts y n' q' r (job.settings.max_leaves - (r.nodes + 1) / 2) n (seed_state (job_in job x) (seed_in count n) (held_in x))
-      (splits_of (seed_in count n)) (held_in x)
-  pub leaves : (r.nodes + 1) / 2 ≡ leaf_count (nodes_of (seed_in count n))
-  pub size : SameSize x y
-  pub queue : SameQueue q (queue_in q')
+pub record Seeded (job : Job) (x : Lists) (w : Work) (count : ℕ) (r : Tree) : Type 0 where
+  pub grows : Grows job w r (job.settings.max_leaves - (r.nodes + 1) / 2) x.nodes
+      (seed_state (job_in job x.rows) (seed_in count x.nodes) (held_in x.rows)) (splits_of (seed_in count x.nodes)) (held_in x.rows)
+  pub leaves : (r.nodes + 1) / 2 ≡ leaf_count (nodes_of (seed_in count x.nodes))
+  pub size : SameSize x.rows w.rows
+  pub queue : SameQueue x.queue (queue_in w.queue)

@@ -9,61 +9,53 @@ ghost use Rattle.layout.specs.Tree.{NodeLists};
 ghost use Rattle.layout.specs.Lent.{lists_in};
 ghost use Rattle.rows.specs.Flat.{Changed};
 ghost use Rattle.rows.specs.Lent.{flat_in, SameRowsLent};
-ghost use Rattle.mode.specs.Column.{step_mode};
-ghost use Rattle.mode.specs.Lent.{Steppable, LowTokens};
+ghost use Rattle.mode.specs.Column.{mode_at};
+ghost use Rattle.mode.specs.Lent.{Rebasable, LowTokens};
 ghost use Rattle.settle.specs.Leaves.{stepped, leaf_settled, LeafSettles, Settleable, HoldsLeaves};
 
 use layout::{MaNode, Nodes, Span};
 use rows::Rows;
 
 // The mode step on the rows of a span; their mode.
-// Stays: whether modes are in use is a fact of the job that the contract reasons by.
-pub fn step_span(rows: &mut Rows, span: Span, counts: &mut [u32], uses: bool) -> i32
-    requires { Steppable uses rows.old.tok.now rows.old.res.now span.first span.end counts.old }
+pub fn step_span(rows: &mut Rows, span: Span, counts: &mut [u32]) -> i32
+    requires { Rebasable rows.old.tok.now rows.old.res.now span.first span.end counts.old }
     ensures lent { SameRowsLent rows.old rows.new }
-    ensures answer { result ≡ step_mode uses span.first span.end rows.old.res.now }
-    ensures rows { flat_in rows.new ≡ stepped uses (flat_in rows.old) span }
+    ensures answer { result ≡ mode_at span.first span.end rows.old.res.now }
+    ensures rows { flat_in rows.new ≡ stepped (flat_in rows.old) span }
     ensures zeros { counts.new ≡ counts.old }
-    ensures low { uses ≡ true → LowTokens span.first span.end rows.new.tok.now }
+    ensures low { LowTokens span.first span.end rows.new.tok.now }
 {
     let tok = &mut *rows.tok;
     let res = &mut *rows.res;
-    mode::mode_step(
-        tok,
-        res,
-        counts,
-        span.first as usize,
-        span.end as usize,
-        uses,
-    )
+    let end = span.end as usize;
+    mode::rebase_zero(tok, res, counts, span.first as usize, end)
 }
 
 // The mode step on the span of a node, if it is a leaf.
-// Stays: whether modes are in use is a fact of the job that the contract reasons by.
-fn settle_leaf(rows: &mut Rows, node: MaNode, span: Span, counts: &mut [u32], uses: bool)
-    requires { LeafSettles node span uses (flat_in rows.old) counts.old }
+fn settle_leaf(rows: &mut Rows, node: MaNode, span: Span, counts: &mut [u32])
+    requires { LeafSettles node span (flat_in rows.old) counts.old }
     ensures lent { SameRowsLent rows.old rows.new }
-    ensures rows { flat_in rows.new ≡ leaf_settled uses (flat_in rows.old) node span }
+    ensures rows { flat_in rows.new ≡ leaf_settled (flat_in rows.old) node span }
     ensures zeros { counts.new ≡ counts.old }
 {
     if !node.is_split() {
-        step_span(rows, span, counts, uses);
+        step_span(rows, span, counts);
     }
 }
 
 // Makes the zero predictor's tokens anew on each leaf's span, in ascending order of the nodes' numbers.
 // The first 4,096 counts are 0, before and after.
-// Stays: the caller's lists have room for the largest tree, so how many nodes are the tree's goes beside them.
-// Whether modes are in use is a fact of the job.
-pub fn settle_leaves(rows: &mut Rows, at: &Nodes, counts: &mut [u32], count: usize, uses: bool)
-    requires { Settleable (lists_in at.now) count uses (flat_in rows.old) counts.old }
+// Stays: growth appended to the lists and pruning left the tree at their front, so `count` says where it ends: no
+// plainer otherwise, since the caller would cut two slices for that one number.
+pub fn settle_leaves(rows: &mut Rows, at: &Nodes, counts: &mut [u32], count: usize)
+    requires { Settleable (lists_in at.now) count (flat_in rows.old) counts.old }
     ensures lent { SameRowsLent rows.old rows.new }
     ensures rows { (tree : List (Entry singles)) (lent : NodeLists)
-        → HoldsLeaves (lists_in at.now) count uses (flat_in rows.old) tree lent
-        → Changed (settled uses tree) (flat_in rows.old) (flat_in rows.new) }
+        → HoldsLeaves (lists_in at.now) count (flat_in rows.old) tree lent
+        → Changed (settled true tree) (flat_in rows.old) (flat_in rows.new) }
     ensures zeros { counts.new ≡ counts.old }
 {
     for (node, span) in at.nodes[..count].iter().zip(&at.spans[..count]) {
-        settle_leaf(rows, *node, *span, counts, uses);
+        settle_leaf(rows, *node, *span, counts);
     }
 }

@@ -11,7 +11,7 @@ finish_tree-made-requires c =
       state = grown_state asked.grows;
       seeds = asked.seeds;
       given = asked.given;
-      grew = grew_so asked.grows (grown.ensures.grown asked.lent asked.state asked.seeds asked.given asked.grows) grown.new.counts grown.ensures.zeros;
+      grew = grew_so asked.grows (grown.ensures.grown asked.lent asked.state asked.seeds asked.given asked.grows) grown.new.lists.counts.now grown.ensures.zeros;
     }
 
 pub returns-clause-finished : goal.returns-clause-finished
@@ -19,5 +19,5 @@ returns-clause-finished c lent st seeds given g =
     let grown = c.grow_tree-grown in
     let to = grown.ensures.grown lent st seeds given g in
     let zeros = grown.ensures.zeros in
-    finished_so g to grown.new.counts zeros c.args.flat_bits
-    (c.finish_tree-made.ensures.finished lent (grown_state g) seeds given (grew_so g to grown.new.counts zeros))
+    finished_so g to grown.new.lists.counts.now zeros c.args.flat_bits
+    (c.finish_tree-made.ensures.finished lent (grown_state g) seeds given (grew_so g to grown.new.lists.counts.now zeros))

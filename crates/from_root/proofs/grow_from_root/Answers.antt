@@ -15,9 +15,9 @@ pub returns-clause-finished : goal.returns-clause-finished
 unfolding learned
 returns-clause-finished c =
     let job = c.args.job in
-    let x = flat_in c.args.rows.now in
+    let x = flat_in c.args.lists.now.rows.now in
     let root = c.plant_root-root in
     let st = root_state (job_in job x) (held_in x) in
     flat-is (job_in job x) (steps (job_in job x) (job.settings.max_leaves - 1) st) c.requires.flat_bits_value
     (finished_there job (job.settings.max_leaves - 1) st c.args.flat_bits root.ensures.lengths.0
-    (c.grow_and_finish.ensures.finished (lists_in c.args.at.now) st no_seeds (held_in x) root.ensures.planted))
+    (c.grow_and_finish.ensures.finished (lists_in c.args.lists.now.at.now) st no_seeds (held_in x) root.ensures.planted))

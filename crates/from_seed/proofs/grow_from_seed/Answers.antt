@@ -12,8 +12,8 @@ use Rattle.from_seed.proofs.grow_from_seed.Goals as goal
 pub returns-clause-finished : goal.returns-clause-finished
 returns-clause-finished c =
     let left = c.leaves_left-more.ensures in
-    let x = flat_in c.args.rows.now in
-    let n = lists_in c.args.at.now in
+    let x = flat_in c.args.lists.now.rows.now in
+    let n = lists_in c.args.lists.now.at.now in
     let seed = seed_in c.args.count n in
     let sown = c.plant_seed-planted.ensures.planted in
     seed-finished sown left c.requires.flat_bits_value

@@ -19,10 +19,10 @@ loop-left-preserved c =
       going = turn c.requires h.going c.loop-left-test.true split.grown split.zeros split.lengths.0 split.lengths.1;
     }
 
-pub returns-then-queue-eq0 : goal.returns-then-queue-eq0
-returns-then-queue-eq0 c =
+pub returns-then-lists-eq0 : goal.returns-then-lists-eq0
+returns-then-lists-eq0 c =
     let h = c.loop-left.invariant in
-    record { lent = h.lent; grown = λ lent st seeds given g. none_waits c.requires h.going lent st seeds given g c.loop-left-test.true c.if-queue-eq0.true; zeros = h.going.space; lengths = h.going.queue }
+    record { lent = h.lent; grown = λ lent st seeds given g. none_waits c.requires h.going lent st seeds given g c.loop-left-test.true c.if-lists-eq0.true; zeros = h.going.space; lengths = h.going.queue }
 
 pub returns-after-loop-left : goal.returns-after-loop-left
 returns-after-loop-left c =

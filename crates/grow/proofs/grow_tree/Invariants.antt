@@ -7,6 +7,7 @@ use Rattle.grow.proofs.grow_tree.Given as goal
 
 abbrev pub invariant-loop-left : goal.invariant-loop-left
 invariant-loop-left l = record {
-  lent : SameLent l.initial.rows l.rows l.initial.at l.at l.initial.queue l.queue;
-  going : Going l.job l.initial.counts l.counts (flat_in l.initial.rows) (flat_in l.rows) (lists_in l.initial.at) (lists_in l.at) l.initial.queue l.queue l.initial.tree l.tree l.more l.left;
+  lent : SameLent l.initial.lists l.lists;
+  going : Going l.job l.initial.lists.counts.now l.lists.counts.now (flat_in l.initial.lists.rows.now) (flat_in l.lists.rows.now)
+      (lists_in l.initial.lists.at.now) (lists_in l.lists.at.now) l.initial.lists.queue.now l.lists.queue.now l.initial.tree l.tree l.more l.left;
 }

@@ -14,27 +14,25 @@ at-pending-requires c =
     let g = asked.growable.grows in
     fewer-room g.queue_room (omega (arith, choosing.inside c.args.left g c.args.k asked.some_wait asked.best))
 
-pub bounds-at-i : goal.bounds-at-i
-bounds-at-i c =
+pub bounds-lists-i : goal.bounds-lists-i
+bounds-lists-i c =
     let asked = c.requires in
     choosing.spans-room c.args.left asked.growable.grows c.args.k asked.some_wait asked.best c.at-pending.result c.at-pending.ensures
 
-pub bounds-at-i-2 : goal.bounds-at-i-2
-bounds-at-i-2 c =
+pub bounds-lists-i-2 : goal.bounds-lists-i-2
+bounds-lists-i-2 c =
     let asked = c.requires in
     choosing.nodes-room c.args.left asked.growable.grows c.args.k asked.some_wait asked.best c.at-pending.result c.at-pending.ensures
-
-pub overflow_add-depth : goal.overflow_add-depth
-overflow_add-depth c =
-    let asked = c.requires in
-    let g = asked.growable.grows in
-    let same = choosing.depth_is c.args.left g c.args.k asked.some_wait asked.best c.at-pending.result c.at-pending.ensures in
-    record { fits = omega (arith, same, choosing.shallow-leaf c.args.left g c.args.k asked.some_wait asked.best) }
 
 pub split_rows-sides-requires : goal.split_rows-sides-requires
 split_rows-sides-requires c =
     let asked = c.requires in
-    choosing.rows_fit c.args.left asked.growable.grows c.args.k asked.some_wait asked.best c.at-pending.result c.at-pending.ensures _ refl
+    let g = asked.growable.grows in
+    let same = choosing.depth_is c.args.left g c.args.k asked.some_wait asked.best c.at-pending.result c.at-pending.ensures in
+    record {
+      fits = choosing.rows_fit c.args.left g c.args.k asked.some_wait asked.best c.at-pending.result c.at-pending.ensures _ refl;
+      shallow = omega (arith, same, choosing.shallow-leaf c.args.left g c.args.k asked.some_wait asked.best);
+    }
 
 pub split_nodes-requires : goal.split_nodes-requires
 split_nodes-requires c =
@@ -59,5 +57,5 @@ pub returns-clause-grown : goal.returns-clause-grown
 returns-clause-grown c lent st seeds given g =
     let asked = c.requires in
     coding.grows-on c.args.left g c.args.k asked.some_wait asked.best c.at-pending.result c.at-pending.ensures _ refl c.split_rows-sides.ensures.split
-    {lists' = lists_in c.split_nodes.new.at} {q' = c.requeue.new.queue} {tree' = record { nodes = c.args.tree.nodes + 2; bits = c.grown_bits.result }} refl
-    c.split_nodes.ensures.nodes c.requeue.ensures.queue c.requeue.ensures.lengths.0 c.requeue.ensures.lengths.1 c.grown_bits.ensures
+    {lists' = lists_in c.split_nodes.new.at} {q' = c.requeue.new.queue} {tree' = record { nodes = c.args.tree.nodes + 2; bits = c.grown_bits.result }} c.split_rows-sides.ensures.zeros refl
+    c.split_nodes.ensures.nodes (rw c.split_rows-sides.ensures.split.depth_is at c.requeue.ensures.queue) c.requeue.ensures.lengths.0 c.requeue.ensures.lengths.1 c.grown_bits.ensures

@@ -22,18 +22,18 @@ given_val val fits done = rw (to_z-of_z w32 val fits) at done
 
 pub overflow_cast-middle : goal.overflow_cast-middle
 overflow_cast-middle c =
-    let fits = gt-fits c.requires c.partition-middle.ensures.rows in
+    let fits = gt-fits c.requires.fits c.partition-middle.ensures.rows in
     record { fits = omega (arith, fits.fitting.few, fits.spanned.inside) }
 
 pub make_leaf-gt-requires : goal.make_leaf-gt-requires
-make_leaf-gt-requires c = gt-fits c.requires c.partition-middle.ensures.rows
+make_leaf-gt-requires c = gt-fits c.requires.fits c.partition-middle.ensures.rows
 
 pub make_leaf-le-requires : goal.make_leaf-le-requires
 make_leaf-le-requires c =
     subst (λ (l : List ℕ). LeafFits (flat_in c.make_leaf-gt.new.rows) c.partition-middle.result c.args.span.end c.args.job l) (sym c.make_leaf-gt.ensures.zeros)
-    (le-fits c.requires c.partition-middle.ensures.rows c.make_leaf-gt.ensures.answer)
+    (le-fits c.requires.fits c.partition-middle.ensures.rows c.make_leaf-gt.ensures.answer)
 
 pub returns-clause-split : goal.returns-clause-split
 returns-clause-split c =
-    let fits : SFits w32 c.args.offer.val = search rules in
-    rows_split c.requires (given_val c.args.offer.val fits c.partition-middle.ensures.rows) c.make_leaf-gt.ensures.answer c.make_leaf-le.ensures.answer _ _ refl refl
+    let fits : SFits w32 c.args.pending.offer.val = search rules in
+    rows_split c.requires.fits (given_val c.args.pending.offer.val fits c.partition-middle.ensures.rows) c.make_leaf-gt.ensures.answer c.make_leaf-le.ensures.answer _ _ refl refl

@@ -12,6 +12,6 @@ pub returns-clause-lists : goal.returns-clause-lists
 returns-clause-lists c =
     let given = c.args in
     let end = c.grow_from_root in
-    made-lists (lists_now given.rows.now given.at.now given.queue.now given.counts.now) (result_in given.job (flat_in given.rows.now)) (flat_in end.new.rows)
-    (lists_in end.new.at) (queue_in end.new.queue) end.new.counts end.result c.requires.plantable.fitting.shaped end.ensures.finished end.ensures.queue
+    made-lists (lists_now given.lists.now) (result_in given.job (flat_in given.lists.now.rows.now)) (flat_in end.new.lists.rows.now)
+    (lists_in end.new.lists.at.now) (queue_in end.new.lists.queue.now) end.new.lists.counts.now end.result c.requires.plantable.fitting.shaped end.ensures.finished end.ensures.queue
     (end.ensures.zeros ∙ c.flat_bits-flat_bits.ensures.zeros ∙ c.fill.ensures.after (λ y e. e))

@@ -8,7 +8,7 @@ pub leaves_of-leaves-requires : goal.leaves_of-leaves-requires
 leaves_of-leaves-requires c = (seed-fits c.requires).1
 
 pub order_by_leaf-requires : goal.order_by_leaf-requires
-order_by_leaf-requires c = orderable c.requires c.count-row_count.ensures
+order_by_leaf-requires c = orderable c.requires
 
 pub plant_nodes-requires : goal.plant_nodes-requires
 plant_nodes-requires c = sowable c.requires c.order_by_leaf.ensures.zeros c.order_by_leaf.ensures.rows c.leaves_of-leaves.ensures
@@ -18,11 +18,11 @@ returns-clause-planted c =
     let ordered = c.order_by_leaf.ensures in
     let told = c.leaves_of-leaves.ensures in
     seeded c.requires ordered.zeros ordered.rows told
-    (c.plant_nodes.ensures.planted (held_in (flat_in c.args.rows.now)) (plants c.requires ordered.zeros ordered.rows told))
+    (c.plant_nodes.ensures.planted (held_in (flat_in c.args.lists.now.rows.now)) (plants c.requires ordered.zeros ordered.rows told))
 
 pub returns-clause-zeros : goal.returns-clause-zeros
 returns-clause-zeros c =
     let ordered = c.order_by_leaf.ensures in
     let told = c.leaves_of-leaves.ensures in
     seeded-zeros c.requires ordered.zeros ordered.rows told
-    (c.plant_nodes.ensures.planted (held_in (flat_in c.args.rows.now)) (plants c.requires ordered.zeros ordered.rows told))
+    (c.plant_nodes.ensures.planted (held_in (flat_in c.args.lists.now.rows.now)) (plants c.requires ordered.zeros ordered.rows told))

@@ -13,5 +13,5 @@ invariant-loop-node l =
     (goal.iterator-loop-node).is_finite l.node-iterator ×
     SameRowsLent l.initial.rows l.rows ×
     (l.counts ≡ l.initial.counts) ×
-    Left l.uses (take l.count l.at.nodes.now) (take l.count l.at.spans.now) (flat_in l.initial.rows)
+    Left (take l.count l.at.nodes.now) (take l.count l.at.spans.now) (flat_in l.initial.rows)
     (iter_rest (zip_first l.node-iterator)) (iter_rest (zip_second l.node-iterator)) (flat_in l.rows) l.counts
