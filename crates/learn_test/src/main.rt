@@ -5,8 +5,10 @@
 
 mod rooms;
 
+ghost use Rattle.std.specs.Prelude.{◌≤◌};
+
 use layout::{MaNode, NodeInfo, Nodes, Span};
-use lent::Learned;
+use lent::{Learned, Lists};
 use model::Refusal;
 use queue::Queue;
 use refuse::{Job, Settings};
@@ -34,55 +36,61 @@ fn settings(alphabet: u32, max_leaves: u32, allowed_preds: u16, modal_offsets: b
 }
 
 fn is_refused(r: Result<Learned, Refusal>, with: Refusal) -> bool {
-    match r {
-        Ok(_) => false,
-        Err(cause) => cause == with,
-    }
+    r.err() == Some(with)
 }
 
-fn is_grown(
-    r: Result<Learned, Refusal>,
-    nodes: u32,
-    leaves: u32,
-    to_bits: f64,
-    from_bits: f64,
-) -> bool {
-    match r {
-        Ok(tree) => {
-            let counted = (tree.nodes == nodes) & (tree.leaves == leaves);
-            counted & (tree.bits == to_bits) & (tree.flat == from_bits)
-        }
-        Err(_) => false,
-    }
+fn is_grown(r: Result<Learned, Refusal>, nodes: u32, leaves: u32, bits: f64, flat: f64) -> bool {
+    let tree = Learned {
+        nodes,
+        leaves,
+        bits,
+        flat,
+    };
+    r == Ok(tree)
 }
 
 // A node before anything is learned.
 fn blank() -> MaNode {
-    MaNode::leaf(NodeInfo {
-        cost: 0.0,
-        pred: 0,
-        offset: 0,
-    })
+    MaNode::leaf(NodeInfo::default())
 }
 
-// One leaf over the rows: the caller's lists have room for a limit of 1.
-fn learn_one_leaf(rows: &mut Rows, counts: &mut [u32], job: Job) -> Result<Learned, Refusal> {
-    let mut nodes = filled::<MaNode, 1>(blank());
-    let mut spans = filled::<Span, 1>(Span { first: 0, end: 0 });
-    let mut at = Nodes {
-        nodes: &mut nodes,
-        spans: &mut spans,
-    };
-    let mut queue_words = [0u32; 3];
-    let mut queue_values = [0i32; 1];
-    let mut queue_gains = [0.0f32; 1];
+// Learns into these nodes, with a queue for so many leaves: each has three words in it. No list is longer than the
+// largest tree asks.
+fn learn_in<const LEAVES: usize, const WORDS: usize>(
+    rows: &mut Rows,
+    at: &mut Nodes,
+    counts: &mut [u32],
+    job: Job,
+) -> Result<Learned, Refusal>
+    requires { (LEAVES ≤ 8191) × (WORDS ≤ 24573) }
+{
+    let mut queue_words = [0u32; WORDS];
+    let mut queue_values = [0i32; LEAVES];
+    let mut queue_gains = [0.0f32; LEAVES];
     let mut queue = Queue {
         words: &mut queue_words,
         values: &mut queue_values,
         gains: &mut queue_gains,
         waiting: 0,
     };
-    border::learn_on(rows, &mut at, &mut queue, counts, job)
+    let mut lists = Lists {
+        rows,
+        at,
+        queue: &mut queue,
+        counts,
+    };
+    border::learn_on(&mut lists, job)
+}
+
+// One leaf over the rows: the caller's lists have room for a limit of 1.
+fn learn_one_leaf(rows: &mut Rows, counts: &mut [u32], job: Job) -> Result<Learned, Refusal> {
+    let mut nodes = filled::<MaNode, 1>(blank());
+    let mut spans = filled::<Span, 1>(Span::default());
+    let mut at = Nodes {
+        nodes: &mut nodes,
+        spans: &mut spans,
+    };
+    learn_in::<1, 3>(rows, &mut at, counts, job)
 }
 
 // So many properties and tokens, all 0.
@@ -133,7 +141,11 @@ fn six_rows(max_leaves: u32, nodes: u32, bits: f64) -> bool {
     let mut res = [0i32; 0];
     let mut counts = filled::<u32, 5504>(0);
     let mut made = filled::<MaNode, 9>(blank());
-    let mut spans = filled::<Span, 9>(Span { first: 0, end: 0 });
+    let mut spans = filled::<Span, 9>(Span::default());
+    let job = Job {
+        settings: settings(17, max_leaves, 3, false),
+        logs: &rooms::TRUE_LOGS,
+    };
     let mut rows = Rows {
         props: &mut props,
         tok: &mut tok,
@@ -143,20 +155,7 @@ fn six_rows(max_leaves: u32, nodes: u32, bits: f64) -> bool {
         nodes: &mut made,
         spans: &mut spans,
     };
-    let job = Job {
-        settings: settings(17, max_leaves, 3, false),
-        logs: &rooms::TRUE_LOGS,
-    };
-    let mut queue_words = [0u32; 15];
-    let mut queue_values = [0i32; 5];
-    let mut queue_gains = [0.0f32; 5];
-    let mut queue = Queue {
-        words: &mut queue_words,
-        values: &mut queue_values,
-        gains: &mut queue_gains,
-        waiting: 0,
-    };
-    let tree = border::learn_on(&mut rows, &mut at, &mut queue, &mut counts, job);
+    let tree = learn_in::<5, 15>(&mut rows, &mut at, &mut counts, job);
     let tied = (max_leaves < 5) | lower_is_split(&made, &spans);
     tied & is_grown(tree, nodes, max_leaves, bits, 6.754887580871582)
 }

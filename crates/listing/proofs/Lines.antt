@@ -39,6 +39,16 @@ residual_is (a ∷ b ∷ c ∷ d ∷ rest) (suc i) lt =
     let place : 4 * suc i ≡ suc (suc (suc (suc (4 * i)))) = omega arith in
     rw (residual_is rest i (omega arith), place) (simp suc-add)
 
+-- that of four bytes is the one at their place
+pub residual-in : (xs bytes : List ℕ) (i : ℕ) → ((p : ℕ) → p < 4 → get_or bytes p 0 ≡ get_or xs (i * 4 + p) 0) → residual_at bytes 0 ≡ residual_at xs (4 * i)
+unfolding residual_at
+residual-in xs bytes i at =
+    let z : i * 4 + 0 ≡ 4 * i = omega arith in
+    let o : i * 4 + 1 ≡ 4 * i + 1 = omega arith in
+    let t : i * 4 + 2 ≡ 4 * i + 2 = omega arith in
+    let h : i * 4 + 3 ≡ 4 * i + 3 = omega arith in
+    rw (at 0 (omega arith), at 1 (omega arith), at 2 (omega arith), at 3 (omega arith), z, o, t, h) refl
+
 -- ---- lines
 
 field-length : (d n : ℕ) → n < 10 ^ suc d → length (field n) ≤ suc (suc d)

@@ -9,7 +9,7 @@ ghost use Rattle.listing.specs.Text.{over, Counts};
 ghost use Rattle.listing.specs.Listing.{part_of, part_text, header_in, rest_in};
 
 use put::{line, short, text};
-use signed::residual_at;
+use signed::residual_of;
 
 // What became of a part: how many residuals were listed, and how many bytes their lines take.
 #[derive(Clone, Copy, PartialEq, Eq, Debug)]
@@ -40,9 +40,8 @@ pub fn list_part(input: &[u8], out: &mut [u8]) -> Listed
 {
     let taken = (input.len() / 4).min(out.len() / 40);
     let mut at: usize = 0;
-    // Stays: by number, since the text so far is that of the first i residuals, which the bytes' chunks say no plainer.
-    for i in 0..taken {
-        at = line(out, at, residual_at(input, 4 * i));
+    for bytes in input[..taken * 4].chunks_exact(4) {
+        at = line(out, at, residual_of(bytes));
     }
     Listed { taken, written: at }
 }

@@ -1,5 +1,7 @@
 // Text into a lent slice, from a place on. Each function answers the place after what it wrote.
-// Stays: a slice and a place in it, since listing can't fail, and a String can run out of memory.
+// Stays: a slice and a place in it, the room that the caller gives. A `write!` into a String or an ArrayString can
+// fail, for want of memory or of room, and its answer would be tested where listing can't fail; an ArrayString would
+// be copied out once more.
 ghost use Rattle.std.specs.Prelude.{◌<◌, [], ◌∷◌};
 ghost use Rattle.listing.specs.Text.{Room, Wrote, joined, signed_decimal};
 ghost use Rattle.listing.specs.Text.{decimal as Text·decimal};

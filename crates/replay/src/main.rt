@@ -12,6 +12,9 @@ mod small;
 mod stored;
 mod trees;
 
+ghost use Rattle.std.specs.Iterator.{at_most};
+ghost use Rattle.std.specs.Prelude.{length};
+
 use kinds::{KINDS, Kind};
 use std::alloc::Global;
 use std::io::{self, Read};
@@ -40,17 +43,29 @@ struct Case<'a> {
     answer: Stored<'a>,
 }
 
-// The next case, and what is left to read after it.
-fn next_case(mut stored: Stored) -> Result<(Case, Stored), Fault> {
-    let (asked, job) = stored.message()?;
-    let (answered, answer) = stored.message()?;
-    let case = Case {
-        asked,
-        job,
-        answered,
-        answer,
-    };
-    Ok((case, stored))
+// The cases in the bytes that are left to read. Where no whole one follows, none is read.
+#[derive(Drop)]
+struct Cases<'a> {
+    stored: Stored<'a>,
+}
+
+impl<'a> Iterator for Cases<'a> {
+    type Item = Case<'a>;
+
+    ghost remaining = { λ s. at_most (length s.stored.rest.now) };
+
+    fn next(&mut self) -> Option<Case<'a>> {
+        let mut stored = self.stored;
+        let (asked, job) = stored.message().ok()?;
+        let (answered, answer) = stored.message().ok()?;
+        self.stored = stored;
+        Some(Case {
+            asked,
+            job,
+            answered,
+            answer,
+        })
+    }
 }
 
 // Whether a case of a kind comes out as stored: the answer is of its kind, alike, and ends where it should.
@@ -64,15 +79,14 @@ fn hold(alloc: Global, kind: Kind, case: Case) -> Result<(), Fault> {
 }
 
 // Replays all cases; what is left to read is nothing unless the input is damaged.
-fn replay(alloc: Global, stored: &mut Stored) -> [Tally; 8] {
+fn replay(alloc: Global, cases: &mut Cases) -> [Tally; 8] {
     let mut tallies = [Tally::none(); 8];
-    for number in 0..u32::MAX {
-        let Ok((case, rest)) = next_case(*stored) else {
-            return tallies;
-        };
-        *stored = rest;
+    for (number, case) in (0..u32::MAX).zip(cases) {
         if let Ok(kind) = Kind::try_from(case.asked) {
             let right = hold(alloc, kind, case).is_ok();
+            // Stays: a kind's place is looked for, since `kind as usize` names a place in the tallies only as long as
+            // `KINDS` is in the order of the enum, which nothing would say; a list of kinds with their tallies would be
+            // searched the same.
             if let Some(place) = KINDS.iter().position(|k| *k == kind) {
                 tallies[place] = tallies[place].with(right, number);
             }
@@ -85,12 +99,14 @@ fn main(rt: HostRuntime) -> io::Result<()> {
     let alloc = rt.alloc();
     let mut bytes = vec![in alloc]?;
     rt.reader().read_to_end(&mut bytes)?;
-    let mut stored = Stored { rest: &bytes };
-    let tallies = replay(alloc, &mut stored);
+    let mut cases = Cases {
+        stored: Stored { rest: &bytes },
+    };
+    let tallies = replay(alloc, &mut cases);
     for (kind, tally) in KINDS.iter().zip(&tallies) {
         println!(rt; "{kind}: {tally}")?;
     }
-    if !stored.rest.is_empty() {
+    if !cases.stored.rest.is_empty() {
         println!(rt; "damaged input")?;
     }
     Ok(())

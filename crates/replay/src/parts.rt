@@ -50,17 +50,15 @@ pub fn pick_candidates(alloc: Global, mut job: Stored, answer: &mut Stored) -> R
     let props = column(alloc, &mut job, n, 7)?;
     let limit = job.word()? as usize;
     let mut flags = rooms::counts();
-    let mut cands = rooms::candidates();
     let probe = Probe {
         props: &props,
         first: 0,
         end: n,
         prop: 7,
     };
-    let picked = candidates::pick_candidates(probe, &mut flags, &mut cands, limit);
-    let m = picked.unwrap_or(0);
-    answer.expect_count(m)?;
-    for candidate in cands.iter().take(m) {
+    let picked = candidates::pick_candidates(probe, &mut flags, limit);
+    answer.expect_count(picked.len())?;
+    for candidate in picked.iter() {
         answer.expect(candidate.cast_unsigned())?;
     }
     Ok(())

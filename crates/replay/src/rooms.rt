@@ -1,4 +1,4 @@
-// The arrays. Functions make them, so that a proof sees their length and not their elements.
+// The count space. A function makes it, so that a proof sees its length and not its elements.
 ghost use Rattle.std.specs.Prelude.{◌≡◌, length};
 ghost use Rattle.mode.specs.Lent.{Clear};
 ghost use Rattle.distinct.specs.Marks.{Blank};
@@ -10,11 +10,4 @@ pub fn counts() -> [u32; 4096]
     ensures blank { Blank result }
 {
     [0; 4096]
-}
-
-// Room for the most candidates of a property.
-pub fn candidates() -> [i32; 32]
-    ensures { 32 ≡ length result }
-{
-    [0; 32]
 }

@@ -1,4 +1,6 @@
 // What is left to read of the stored bytes: little-endian words. An answer is held to a computed one while it is read.
+ghost use Rattle.std.specs.Prelude.{◌≡◌, ◌+◌, ◌<◌, IfOk, length};
+
 use std::alloc::{AllocError, AllocFailed, Global};
 
 // Why a case is wrong.
@@ -24,22 +26,39 @@ impl<T: Drop> From<AllocFailed<T>> for Fault {
     }
 }
 
+// A stored value is the computed one.
+fn alike<T: PartialEq + Copy>(stored: T, computed: T) -> Result<(), Fault> {
+    if stored == computed {
+        Ok(())
+    } else {
+        Err(Fault::Differs)
+    }
+}
+
 #[derive(Clone, Copy)]
 pub struct Stored<'a> {
     pub rest: &'a [u8],
 }
 
 impl<'a> Stored<'a> {
-    pub fn byte(&mut self) -> Result<u8, Fault> {
-        let (&byte, rest) = self.rest.split_first().ok_or(Fault::EndsEarly)?;
+    // So many bytes.
+    fn bytes<const N: usize>(&mut self) -> Result<[u8; N], Fault>
+        ensures { IfOk result (λ _. length self.new.rest.now + N ≡ length self.old.rest.now) }
+    {
+        let (&bytes, rest) = self.rest.split_first_chunk::<N>().ok_or(Fault::EndsEarly)?;
         self.rest = rest;
+        Ok(bytes)
+    }
+
+    pub fn byte(&mut self) -> Result<u8, Fault> {
+        let [byte] = self.bytes::<1>()?;
         Ok(byte)
     }
 
-    pub fn word(&mut self) -> Result<u32, Fault> {
-        let (&bytes, rest) = self.rest.split_first_chunk::<4>().ok_or(Fault::EndsEarly)?;
-        self.rest = rest;
-        Ok(u32::from_le_bytes(bytes))
+    pub fn word(&mut self) -> Result<u32, Fault>
+        ensures { IfOk result (λ _. length self.new.rest.now < length self.old.rest.now) }
+    {
+        Ok(u32::from_le_bytes(self.bytes()?))
     }
 
     pub fn signed(&mut self) -> Result<i32, Fault> {
@@ -47,9 +66,7 @@ impl<'a> Stored<'a> {
     }
 
     pub fn long(&mut self) -> Result<u64, Fault> {
-        let low = u64::from(self.word()?);
-        let high = u64::from(self.word()?);
-        Ok(low + 4294967296 * high)
+        Ok(u64::from_le_bytes(self.bytes()?))
     }
 
     // So many words, as signed numbers.
@@ -62,7 +79,9 @@ impl<'a> Stored<'a> {
     }
 
     // The kind of a message, and its body.
-    pub fn message(&mut self) -> Result<(u32, Stored<'a>), Fault> {
+    pub fn message(&mut self) -> Result<(u32, Stored<'a>), Fault>
+        ensures { IfOk result (λ _. length self.new.rest.now < length self.old.rest.now) }
+    {
         let kind = self.word()?;
         let size = self.word()? as usize;
         let (body, rest) = self.rest.split_at_checked(size).ok_or(Fault::EndsEarly)?;
@@ -71,19 +90,11 @@ impl<'a> Stored<'a> {
     }
 
     pub fn expect_byte(&mut self, value: u8) -> Result<(), Fault> {
-        if self.byte()? == value {
-            Ok(())
-        } else {
-            Err(Fault::Differs)
-        }
+        alike(self.byte()?, value)
     }
 
     pub fn expect(&mut self, value: u32) -> Result<(), Fault> {
-        if self.word()? == value {
-            Ok(())
-        } else {
-            Err(Fault::Differs)
-        }
+        alike(self.word()?, value)
     }
 
     // A list: how many, and each.

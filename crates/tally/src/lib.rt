@@ -14,6 +14,7 @@ pub struct Tally {
 }
 
 impl Tally {
+    // Stays: by a name of its own and no `Default`, whose name would not say that nothing was tried yet.
     pub fn none() -> Self
         ensures { result ≡ nothing }
     {

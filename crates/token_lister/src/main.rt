@@ -20,7 +20,7 @@ fn write_rest(rt: &impl Print, input: &[u8]) -> io::Result<()> {
     rt.write_all(&out[..n])
 }
 
-// Writes the lines of a part, which has at most 1,638 residuals.
+// Writes the lines of a part: there is room for 1,638 residuals, and a part has 1,024.
 fn write_lines(rt: &impl Print, input: &[u8]) -> io::Result<()> {
     let mut out = [0u8; 65536];
     let n = listing::list_part(input, &mut out).written;
@@ -34,8 +34,10 @@ fn next_part<R: Read>(alloc: Global, from: &mut R) -> io::Result<Vec<u8>> {
     Ok(part)
 }
 
-// Counts its turns, since a proved loop has to end, up to a number that no input uses up.
+// Lists part after part.
 fn list_all<R: Read>(rt: &impl Print, alloc: Global, from: &mut R) -> io::Result<()> {
+    // Stays: a proved loop has to end, and nothing says how often a reader gives a part: so it counts its turns, up to
+    // a number that no input uses up. One list of all bytes would take as much memory as the input.
     for _ in 0..u64::MAX {
         let part = next_part(alloc, from)?;
         write_lines(rt, &part)?;

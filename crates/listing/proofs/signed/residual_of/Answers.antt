@@ -1,4 +1,4 @@
--- `listing::signed::residual_at` meets its contract. Assumes nothing.
+-- `listing::signed::residual_of` meets its contract. Assumes nothing.
 use mathlib.Core.Path.{◌≡◌, ap, ◌∙◌}
 use Prim.Native.Nat.{◌+◌, ◌*◌}
 use native.Mathlib.Omega.{arith}
@@ -7,12 +7,11 @@ use mir.Syntax.{w32}
 use mir.ValLaws.{to_z-of_z}
 use Rattle.listing.specs.Listing.{signed, residual_at}
 use Rattle.listing.proofs.Words.{signed-is}
-use Rattle.listing.proofs.signed.residual_at.Goals as goal
+use Rattle.listing.proofs.signed.residual_of.Goals as goal
 
 pub returns : goal.returns
 unfolding residual_at
-returns c = let xs = c.args.input.now in
-    let at = c.args.at in
-    let sum : get_or xs at 0 + get_or xs (at + 1) 0 * 256 + get_or xs (at + 2) 0 * 65536 + get_or xs (at + 3) 0 * 16777216 ≡ get_or xs at 0 + 256 * get_or xs (at + 1) 0 + 65536 * get_or xs (at + 2) 0 + 16777216 * get_or xs (at + 3) 0 =
+returns c = let xs = c.args.bytes.now in
+    let sum : get_or xs 0 0 + get_or xs 1 0 * 256 + get_or xs 2 0 * 65536 + get_or xs 3 0 * 16777216 ≡ get_or xs 0 0 + 256 * get_or xs (0 + 1) 0 + 65536 * get_or xs (0 + 2) 0 + 16777216 * get_or xs (0 + 3) 0 =
     omega arith in
     to_z-of_z w32 c.from_le_bytes.result (record { sfits = c.from_le_bytes.type_inv }) ∙ c.from_le_bytes.ensures ∙ signed-is _ ∙ ap signed sum
