@@ -4,20 +4,19 @@ use mathlib.Core.Bool.{Bool, true, false, cond}
 use mathlib.Core.List.Memᴰ
 use mathlib.Core.List.{List, [], ◌∷◌, ◌++◌, map, map-append, append_assoc, append-nil, Memᴰ}
 use mathlib.Core.Logic.{◌⊎◌, inl, inr}
-use Prim.Native.Nat.{ℕ, zero, suc, ◌+◌, ◌-◌, ◌*◌, ◌/◌, ◌%◌, ◌≤◌, ◌<◌, max, min}
+use Prim.Native.Nat.{ℕ, zero, suc, ◌+◌, ◌-◌, ◌*◌, ◌/◌, ◌%◌, ◌≤◌, ◌<◌, max}
 use native.Mathlib.Nat.{mul-le-mul_right}
 use native.Mathlib.Numerals.{add-one}
 use native.Mathlib.Decide.{dec_lt}
 use native.Mathlib.Omega.{arith}
 use lib.Dec.{eqb}
 use lib.IntN.{ℤ, pos}
-use lib.ListN.{length, get_or, set, take, drop, length-map, length-append, length-take, length-drop, drop_of_length-le, get_or-append}
-use lib.Seq.{take-suc-set, length-take-le, get_or-take, get_or-drop, drop-drop, drop_at}
-use Rattle.std.proofs.lemmas.List.{nil_from_length}
+use lib.ListN.{length, get_or, set, take, drop, length-map, length-append}
+use lib.Seq.{take-suc-set, length-take-le, get_or-take}
 use Rattle.model.specs.Candidates.{stride, every}
 use Rattle.model.proofs.Places.{length-each}
 use Rattle.distinct.specs.Keys.{value_of, values}
-use Rattle.candidates.specs.Column.{column, probe_of, Held}
+use Rattle.candidates.specs.Column.{column, probe_of}
 
 -- ---- the column
 module _ (ps : List ℤ) (prop : ℕ) where
@@ -87,13 +86,6 @@ pub stride-some : (n : ℕ) → 0 < stride n
 unfolding stride
 stride-some n = go (eqb (max (n / 1024) 1 % 2) 0) where
   go : (t : Bool) → 0 < cond t (max (n / 1024) 1 + 1) (max (n / 1024) 1)
-  go true = omega arith
-  go false = omega arith
-
-pub stride_most : (n : ℕ) → stride n ≤ n / 1024 + 2
-unfolding stride
-stride_most n = go (eqb (max (n / 1024) 1 % 2) 0) where
-  go : (t : Bool) → cond t (max (n / 1024) 1 + 1) (max (n / 1024) 1) ≤ n / 1024 + 2
   go true = omega arith
   go false = omega arith
 
@@ -179,54 +171,3 @@ module _ (ps : List ℤ) (prop first row end step n : ℕ) (keys : List ℕ) (st
 pub probe_start : (ps : List ℤ) (prop first end step : ℕ) (keys : List ℕ) → step ≡ stride (end - first) → values 0 keys ++ every step 0 (column ps prop first end) ≡ probe_of ps prop first end
 unfolding values probe_of
 probe_start ps prop first end step keys e = rw e
-
--- ---- the chunks of a stride's rows
-
--- the cells from a row on, of the rows before `end`
-abbrev pub cells_from : List ℤ → ℕ → ℕ → List ℤ
-cells_from ps end row = drop (row * 24) (take (end * 24) ps)
-
-module _ (ps : List ℤ) (prop first end : ℕ) (held : Held ps prop first end) where
-  abbrev step : ℕ
-  step = stride (end - first)
-
-  left : (row : ℕ) → length (cells_from ps end row) ≡ end * 24 - row * 24
-  left row = simp (length-drop, length-take) (omega (arith, held.inside))
-
-  -- a chunk begins with the row that is probed, and the next row to be probed is a stride on
-  pub record Chunk (row : ℕ) (rows rest : List ℤ) : Type 0 where
-    pub below : row < end
-    pub there : prop < length rows
-    pub cell : get_or rows prop (pos 0) ≡ get_or ps (row * 24 + prop) (pos 0)
-    pub more : rest ≡ cells_from ps end (row + step)
-
-  pub chunk_at : (row width : ℕ) (before rows rest : List ℤ) → width ≡ step * 24 → before ≡ cells_from ps end row → before ≡ rows ++ rest → length rows ≡ min width (length before) → 0 < length before
-      → Chunk row rows rest
-  chunk_at row width before rows rest wide at is few some =
-      record {
-        below = below;
-        there = there;
-        cell = sym (get_or-append rows rest (pos 0) prop there) ∙ ap (λ (x : List ℤ). get_or x prop (pos 0)) (sym is ∙ at)
-            ∙ get_or-drop (row * 24) (take (end * 24) ps) prop (pos 0) ∙ get_or-take (end * 24) ps (row * 24 + prop) (pos 0) (omega (arith, below, held.known));
-        more = elim (dec_lt (length before) (step * 24)) [
-          | yes h ↦ (let none : rest ≡ [] = nil_from_length rest (omega (arith, whole, few, wide)) in
-              none ∙ sym (drop_of_length-le (take (end * 24) ps) {i = (row + step) * 24} (omega (arith, length-take (end * 24) ps, long))))
-          | no h ↦ sym (drop_at rows rest (step * 24) (omega (arith, few, wide))) ∙ ap (drop (step * 24)) (sym is ∙ at) ∙ drop-drop (step * 24) (row * 24) (take (end * 24) ps)
-              ∙ (let e : row * 24 + step * 24 ≡ (row + step) * 24 = omega arith in ap (λ (k : ℕ). drop k (take (end * 24) ps)) e)
-        ];
-      }
-    where
-      long : length before ≡ end * 24 - row * 24
-      long = ap length at ∙ left row
-
-      whole : length before ≡ length rows + length rest
-      whole = ap length is ∙ length-append rows rest
-
-      below : row < end
-      below = omega (arith, long)
-
-      there : prop < length rows
-      there = omega (arith, few, wide, long, below, held.known, stride-some (end - first))
-
-  pub past_all : (row : ℕ) (before : List ℤ) → before ≡ cells_from ps end row → length before ≡ 0 → end ≤ row
-  past_all row before at none = omega (arith, ap length at, left row)
