@@ -12,7 +12,7 @@ use lib.Seq.{get_or-take}
 use lib.IntN.{ℤ}
 use lib.Dec.{eqb, ltb, eqb→eq}
 use borrow.Author.Tests.{ltb-true, le-ltb, ne_eqb}
-use Rattle.model.specs.Settings.{props_per_row}
+use Rattle.model.specs.Settings.{props_per_row, toks_per_row}
 use Rattle.model.specs.Single.{singles}
 use Rattle.model.specs.Tree.{leaf, Record, blank_record, nodes_of, no_info, towards, reach, leaf_reached, is_orderly, fault_on_way}
 use Rattle.model.specs.Lent.{Stored, record_in, stored_node, tree_in}
@@ -184,9 +184,9 @@ module _ (ns : List MaNode) (count : ℕ) (ps : List ℤ) where
         go (k, h) true o = rw o (k, going_on i k h o s)
         go (k, h) false o = rw o (sym (going-fault i k h o))
 
-    pub ended-answers : is_split m ≡ false → found_outcome (ended m i count) ≡ lookup (map stored_of ns) count ps
-    ended-answers s = go (going-more i g) (in_order m i count) refl
+    pub ended-answers : is_split m ≡ false → found_outcome (ended m i) ≡ lookup (map stored_of ns) count ps
+    ended-answers s = go (going-more i g) (ltb m.info.pred toks_per_row) refl
       where
-        go : (k : ℕ) × Going (suc k) i → (o : Bool) → in_order m i count ≡ o → found_outcome (ended m i count) ≡ lookup (map stored_of ns) count ps
-        go (k, h) true o = rw o (sym (going_end i k h o s))
-        go (k, h) false o = rw o (sym (going-fault i k h o))
+        go : (k : ℕ) × Going (suc k) i → (o : Bool) → ltb m.info.pred toks_per_row ≡ o → found_outcome (ended m i) ≡ lookup (map stored_of ns) count ps
+        go (k, h) true o = rw o (sym (going_end i k h (rw (s, o)) s))
+        go (k, h) false o = rw o (sym (going-fault i k h (rw (s, o))))

@@ -1,6 +1,6 @@
 -- A lookup on records, one node at a time (document 01, "Lookup"): where it begins, a step, and where it ends. Assumes nothing.
 use Rattle.std.specs.Prelude.{◌≡◌, ℕ, Bool, cond, not, ◌||◌, List, length, ℤ, eqb, ltb, Result, Ok, Err}
-use Rattle.model.specs.Settings.{props_per_row}
+use Rattle.model.specs.Settings.{props_per_row, toks_per_row}
 use Rattle.model.specs.Tree.{towards, is_orderly}
 use Rattle.model.specs.Operations.{Outcome, refused, accepted, Found as ModelFound}
 use Rattle.model.specs.Answered.{refusal_of}
@@ -23,9 +23,9 @@ begun room count ps = cond (not (eqb (length ps) props_per_row)) (Err UnevenProp
 abbrev pub followed : MaNode → ℕ → ℕ → List ℤ → Result NodeNumber Refusal
 followed m i count ps = cond (is_orderly count i m.info.pred (node_is m)) (Ok (record { 0 = towards ps m.prop m.val m.gt m.le })) (Err (UnsoundTree i))
 
--- from a leaf with record m: 8 if it is not in order, else the answer
-abbrev pub ended : MaNode → ℕ → ℕ → Result Found Refusal
-ended m i count = cond (is_orderly count i m.info.pred (node_is m)) (Ok (record { leaf = i; pred = m.info.pred })) (Err (UnsoundTree i))
+-- from a leaf: 8 if its predictor is none, else the answer
+abbrev pub ended : MaNode → ℕ → Result Found Refusal
+ended m i = cond (ltb m.info.pred toks_per_row) (Ok (record { leaf = i; pred = m.info.pred })) (Err (UnsoundTree i))
 
 -- the answer in document 01's numbers and values
 abbrev pub found_outcome : Result Found Refusal → Outcome ModelFound
