@@ -26,36 +26,37 @@ fn head(tree: &Tree<'_>) -> String {
     )
 }
 
-/// A node, and the edges down from it.
+/// A node, and the edges down from it, each with the rows that go its way.
 fn node(place: &Place<'_>) -> String {
-    let rows = place.rows.map_or(String::new(), |rows| {
-        format!(r"\n{}", counted(rows as usize, "row", "rows"))
-    });
     if place.node.is_split() {
-        split(place, &rows)
+        split(place)
     } else {
-        leaf(place, &rows)
+        leaf(place)
     }
 }
 
-fn split(place: &Place<'_>, rows: &str) -> String {
+fn split(place: &Place<'_>) -> String {
     let (number, node) = (place.number, place.node);
     let (name, value) = (names::property(node.prop), node.val);
     format!(
-        r#"    n{number} [label="{name} > {value}{rows}"];
-    n{number} -> n{gt} [label="yes"];
-    n{number} -> n{le} [label="no"];
+        r#"    n{number} [label="{name} > {value}\n{rows}"];
+    n{number} -> n{gt} [label="yes, {yes}"];
+    n{number} -> n{le} [label="no, {no}"];
 "#,
+        rows = counted(place.rows, "row", "rows"),
         gt = node.gt,
+        yes = counted(place.yes, "row", "rows"),
         le = node.le,
+        no = counted(place.no, "row", "rows"),
     )
 }
 
-fn leaf(place: &Place<'_>, rows: &str) -> String {
+fn leaf(place: &Place<'_>) -> String {
     let (number, info) = (place.number, &place.node.info);
     let (name, offset, bits) = (names::predictor(info.pred), info.offset, info.cost);
+    let rows = counted(place.rows, "row", "rows");
     format!(
-        r##"    n{number} [label="{name}, offset {offset}\n{bits:.1} bits{rows}", style=filled, fillcolor="#e8eef7"];
+        r##"    n{number} [label="{name}, offset {offset}\n{bits:.1} bits\n{rows}", style=filled, fillcolor="#e8eef7"];
 "##
     )
 }

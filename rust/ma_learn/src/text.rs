@@ -38,25 +38,25 @@ fn line(place: &Place<'_>, width: usize) -> String {
         Side::Yes => "yes: ",
         Side::No => "no: ",
     };
-    let rows = place.rows.map_or(String::new(), |rows| {
-        format!(", {}", counted(rows as usize, "row", "rows"))
-    });
-    format!(
-        "{:>width$} {indent}{side}{}{rows}\n",
-        place.number,
-        what(place)
-    )
+    format!("{:>width$} {indent}{side}{}\n", place.number, what(place))
 }
 
-/// What a split asks, or what a leaf predicts.
+/// What a split asks and which way its rows go, or what a leaf predicts for its own.
 fn what(place: &Place<'_>) -> String {
     let node = place.node;
+    let rows = counted(place.rows, "row", "rows");
     if node.is_split() {
-        format!("property {} > {}", names::property(node.prop), node.val)
+        format!(
+            "property {} > {}, {rows}: {} yes, {} no",
+            names::property(node.prop),
+            node.val,
+            place.yes,
+            place.no
+        )
     } else {
         let info = &node.info;
         format!(
-            "{}, offset {}, {:.1} bits",
+            "{}, offset {}, {:.1} bits, {rows}",
             names::predictor(info.pred),
             info.offset,
             info.cost

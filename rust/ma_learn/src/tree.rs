@@ -3,12 +3,12 @@
 use jobs::Run;
 use ostrovuc::{Learned, MaNode, Span};
 
-/// A tree with the rows of its nodes.
+/// A tree, and how many rows come to each of its nodes.
 pub struct Tree<'a> {
     pub learned: Learned,
     pub rows: usize,
     nodes: &'a [MaNode],
-    spans: &'a [Span],
+    rows_at: Vec<usize>,
 }
 
 /// How a node hangs from the one above it.
@@ -28,19 +28,25 @@ pub struct Place<'a> {
     pub node: &'a MaNode,
     pub depth: usize,
     pub side: Side,
-    /// How many rows its span has; none if it has no span.
-    pub rows: Option<u32>,
+    /// How many rows come to it.
+    pub rows: usize,
+    /// How many of them a split sends to its yes side; 0 at a leaf.
+    pub yes: usize,
+    /// How many to its no side; 0 at a leaf.
+    pub no: usize,
 }
 
 impl<'a> Tree<'a> {
     /// The tree that a run answered, if it was not refused.
     pub fn of(run: &'a Run) -> Option<Self> {
         let learned = run.result.ok()?;
+        let count = learned.nodes as usize;
+        let nodes = &run.room.nodes[..count];
         Some(Self {
             learned,
             rows: run.rows(),
-            nodes: &run.room.nodes,
-            spans: &run.room.spans,
+            nodes,
+            rows_at: rows_at(nodes, &run.room.spans[..count]),
         })
     }
 
@@ -52,23 +58,40 @@ impl<'a> Tree<'a> {
     /// Every node, each before those below it, and the yes side before the no side.
     pub fn walk(&self) -> impl Iterator<Item = Place<'a>> {
         let mut waiting = vec![(0, 0, Side::Root)];
-        let (nodes, spans) = (self.nodes, self.spans);
+        let rows = |number: u32| self.rows_at[number as usize];
         std::iter::from_fn(move || {
             let (number, depth, side) = waiting.pop()?;
-            let node = &nodes[number as usize];
+            let node = &self.nodes[number as usize];
+            let (mut yes, mut no) = (0, 0);
             if node.is_split() {
                 waiting.push((node.le, depth + 1, Side::No));
                 waiting.push((node.gt, depth + 1, Side::Yes));
+                (yes, no) = (rows(node.gt), rows(node.le));
             }
-            let Span { first, end } = spans[number as usize];
-            let rows = (first < end).then(|| end - first);
             Some(Place {
                 number,
                 node,
                 depth,
                 side,
-                rows,
+                rows: rows(number),
+                yes,
+                no,
             })
         })
     }
+}
+
+/// How many rows come to each node: to a leaf those of its span, to a split those of its two children. A split that
+/// growth made has a span too, of as many rows; a seed's has none. Children stand behind their parents, so the last
+/// node is counted first.
+fn rows_at(nodes: &[MaNode], spans: &[Span]) -> Vec<usize> {
+    let mut rows = vec![0; nodes.len()];
+    for (n, (node, span)) in nodes.iter().zip(spans).enumerate().rev() {
+        rows[n] = if node.is_split() {
+            rows[node.gt as usize] + rows[node.le as usize]
+        } else {
+            (span.end - span.first) as usize
+        };
+    }
+    rows
 }

@@ -89,7 +89,7 @@ estimated bits  3.2
 flat bits       23.2
 bits saved      20.0 (86.0 %)
 
-0 property y > 0, 8 rows
+0 property y > 0, 8 rows: 4 yes, 4 no
 1   yes: Zero, offset 20, 0.0 bits, 4 rows
 2   no: Zero, offset 5, 3.2 bits, 4 rows
 ";
@@ -114,8 +114,8 @@ fn dot() {
     node [shape=box, fontname="sans-serif", fontsize=11];
     edge [fontname="sans-serif", fontsize=10];
     n0 [label="y > 0\n8 rows"];
-    n0 -> n1 [label="yes"];
-    n0 -> n2 [label="no"];
+    n0 -> n1 [label="yes, 4 rows"];
+    n0 -> n2 [label="no, 4 rows"];
     n1 [label="Zero, offset 20\n0.0 bits\n4 rows", style=filled, fillcolor="#e8eef7"];
     n2 [label="Zero, offset 5\n3.2 bits\n4 rows", style=filled, fillcolor="#e8eef7"];
 }
@@ -201,14 +201,45 @@ estimated bits  3.2
 flat bits       23.2
 bits saved      20.0 (86.0 %)
 
-0 property x > 9
-1   yes: Gradient, offset 0, 0.0 bits
-2   no: property y > 0, 8 rows
+0 property x > 9, 8 rows: 0 yes, 8 no
+1   yes: Gradient, offset 0, 0.0 bits, 0 rows
+2   no: property y > 0, 8 rows: 4 yes, 4 no
 3     yes: Zero, offset 20, 0.0 bits, 4 rows
 4     no: Zero, offset 5, 3.2 bits, 4 rows
 ";
     let ran = run(MA_LEARN, &[], &bytes(Job::Deepen(job)));
     assert_eq!(text(ran), expected);
+}
+
+/// A seed's splits have no spans: their rows are those of the leaves below. Here the first row alone has an x above 9.
+#[test]
+fn rows_of_a_seeds_splits() {
+    let mut job = small_job();
+    job.properties[3] = 10;
+    let (root, below) = (Record::split(2, 0, 1, 2), Record::split(3, 9, 3, 4));
+    job.seed_count = 5;
+    job.nodes = NodeList {
+        entries: 5,
+        given: vec![root, NEITHER, below, NEITHER, NEITHER],
+    };
+    (job.span_entries, job.queue_entries, job.settings.limit) = (5, 3, 3);
+    let expected = "\
+0 property y > 0, 8 rows: 4 yes, 4 no
+1   yes: Zero, offset 20, 0.0 bits, 4 rows
+2   no: property x > 9, 4 rows: 1 yes, 3 no
+3     yes: Zero, offset 5, 0.0 bits, 1 row
+4     no: Zero, offset 5, 2.8 bits, 3 rows
+";
+    let bytes = bytes(Job::Deepen(job));
+    let shown = text(run(MA_LEARN, &[], &bytes));
+    assert_eq!(shown.split_once("\n\n").expect("a head").1, expected);
+    let drawn = text(run(MA_LEARN, &["--dot"], &bytes));
+    let expected = r#"
+    n2 [label="x > 9\n4 rows"];
+    n2 -> n3 [label="yes, 1 row"];
+    n2 -> n4 [label="no, 3 rows"];
+"#;
+    assert!(drawn.contains(expected), "{drawn}");
 }
 
 #[test]
@@ -227,7 +258,7 @@ estimated bits  0.0
 flat bits       0.0
 bits saved      0.0
 
-0 Zero, offset 0, 0.0 bits
+0 Zero, offset 0, 0.0 bits, 0 rows
 ";
     assert_eq!(text(learn(&[], job)), expected);
 }
