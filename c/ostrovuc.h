@@ -169,7 +169,7 @@ static inline size_t ostrovuc_spans_length(uint32_t leaves, uint32_t seed) {
 }
 
 /* The queue of waiting leaves: so many words, one value and one gain each. */
-enum { OSTROVUC_QUEUE_WORDS = 3 };
+enum { OSTROVUC_QUEUE_WORDS = 4 };
 
 static inline size_t ostrovuc_queue_words_length(uint32_t leaves) {
     return OSTROVUC_QUEUE_WORDS * (size_t)leaves;

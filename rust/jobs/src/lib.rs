@@ -41,12 +41,12 @@ mod tests {
 
     #[test]
     fn a_queue_entry_is_zero_or_untouched_in_all_its_parts() {
-        assert_eq!(queue_entry([0; 5], 7), 0);
-        assert_eq!(queue_entry([7; 5], 7), 7);
-        assert_eq!(queue_entry([0, 0, 0, 0, 7], 7), OTHER);
-        assert_eq!(queue_entry([7, 7, 0, 7, 7], 7), OTHER);
-        assert_eq!(queue_entry([3; 5], 7), OTHER);
-        assert_eq!(queue_entry([0; 5], 0), 0);
+        assert_eq!(queue_entry([0; 6], 7), 0);
+        assert_eq!(queue_entry([7; 6], 7), 7);
+        assert_eq!(queue_entry([0, 0, 0, 0, 0, 7], 7), OTHER);
+        assert_eq!(queue_entry([7, 7, 7, 0, 7, 7], 7), OTHER);
+        assert_eq!(queue_entry([3; 6], 7), OTHER);
+        assert_eq!(queue_entry([0; 6], 0), 0);
     }
 
     #[test]

@@ -17,7 +17,7 @@ pub struct Lists<'a> {
     pub tok: &'a mut [u8],
     /// One a row, moved with it; or none at all.
     pub res: &'a mut [i32],
-    /// Three a waiting leaf.
+    /// Four a waiting leaf.
     pub queue_words: &'a mut [u32],
     /// One a waiting leaf.
     pub queue_values: &'a mut [i32],

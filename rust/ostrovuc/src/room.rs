@@ -4,7 +4,7 @@ use crate::operations::Lists;
 use crate::records::{MaNode, Settings, Span};
 
 /// Numbers of a waiting leaf in `queue_words`; `queue_values` and `queue_gains` have one more each.
-const QUEUE_WORDS: usize = 3;
+const QUEUE_WORDS: usize = 4;
 
 /// Everything that is lent besides the rows.
 #[derive(Clone, Debug, Default, PartialEq)]
@@ -76,7 +76,7 @@ impl Room {
         let rest = self.queue_values.iter().zip(&self.queue_gains);
         words
             .zip(rest)
-            .map(|(&[a, b, c], (&value, gain))| [a, b, c, value as u32, gain.to_bits()])
+            .map(|(&[a, b, c, d], (&value, gain))| [a, b, c, d, value as u32, gain.to_bits()])
     }
 
     /// The lists with the rows of a job.

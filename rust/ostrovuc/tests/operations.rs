@@ -313,11 +313,12 @@ fn room_of_any_size_has_as_many_entries() {
     };
     let mut room = Room::of_entries(entries);
     assert_eq!(room.entries(), entries);
-    room.queue_words = vec![1, 2, 3, 4, 5, 6];
+    room.queue_words = vec![1, 2, 3, 4, 5, 6, 7, 8];
     room.queue_values[1] = -1;
     room.queue_gains[0] = 1.0;
     let bits: Vec<_> = room.queue_bits().collect();
-    assert_eq!(bits, [[1, 2, 3, 0, 0x3f80_0000], [4, 5, 6, u32::MAX, 0]]);
+    let (first, second) = ([1, 2, 3, 4, 0, 0x3f80_0000], [5, 6, 7, 8, u32::MAX, 0]);
+    assert_eq!(bits, [first, second]);
 }
 
 #[test]
