@@ -71,13 +71,13 @@ module _ (t : Settings singles) (cost : Float) where
     abbrev gain : Float
     gain = sub binary32 (sub binary32 cost s.bits) t.split_cost
 
-    pub offered-some : lt singles.nought gain ≡ true → (w : ℤ) → w ≡ s.val → some (record { prop = s.prop; val = w; gain = gain }) ≡ offer_of t cost (best_is b)
+    pub offered-some : lt singles.nought gain ≡ true → (w : ℤ) → w ≡ s.val → some (record { prop = s.prop; val = w; gain = gain; below = s.below }) ≡ offer_of t cost (best_is b)
     unfolding offer_of
     offered-some h w f =
-        ap (λ (z : ℤ). some (record { prop = s.prop; val = z; gain = gain })) f ∙ ap (λ (x : Bool). cond x (some (record { prop = s.prop; val = s.val; gain = gain })) none) (sym h)
+        ap (λ (z : ℤ). some (record { prop = s.prop; val = z; gain = gain; below = s.below })) f ∙ ap (λ (x : Bool). cond x (some (record { prop = s.prop; val = s.val; gain = gain; below = s.below })) none) (sym h)
         ∙ ap (λ (d : std.Option Split). offer_of t cost (best_is d)) (sym e)
 
     pub offered-low : lt singles.nought gain ≡ false → none ≡ offer_of t cost (best_is b)
     unfolding offer_of
-    offered-low h = ap (λ (x : Bool). cond x (some (record { prop = s.prop; val = s.val; gain = gain })) none) (sym h)
+    offered-low h = ap (λ (x : Bool). cond x (some (record { prop = s.prop; val = s.val; gain = gain; below = s.below })) none) (sym h)
         ∙ ap (λ (d : std.Option Split). offer_of t cost (best_is d)) (sym e)

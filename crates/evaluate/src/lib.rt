@@ -34,12 +34,13 @@ const PROPERTY_ORDER: [usize; model::NUM_MA_PROPS] = [
     0, 1, 2, 3, 4, 5, 6, 7, 8, 9, 10, 11, 12, 13, 14, 16, 17, 18, 19, 20, 21, 22, 23, 15,
 ];
 
-// A split at a threshold of a property, and its cost in bits.
+// A split at a threshold of a property, its cost in bits, and how many rows go below.
 #[derive(Clone, Copy)]
 struct Split {
     prop: u32,
     val: i32,
     bits: f32,
+    below: u32,
 }
 
 // How many properties are scored: 15, the last, only with the weighted predictor.
@@ -95,12 +96,17 @@ fn is_repeated(span: SpanRows, prop: usize, planned: &[bool]) -> bool
 fn better_of(best: Option<Split>, prop: u32, score: Option<Threshold>) -> Option<Split>
     ensures { best_is result ≡ better (best_is best) prop (score_is score) }
 {
-    let Some(Threshold { val, bits }) = score else {
+    let Some(Threshold { val, bits, below }) = score else {
         return best;
     };
     match best {
         Some(lowest) if !(bits < lowest.bits) => best,
-        _ => Some(Split { prop, val, bits }),
+        _ => Some(Split {
+            prop,
+            val,
+            bits,
+            below,
+        }),
     }
 }
 
@@ -189,6 +195,7 @@ fn offer_of(best: Option<Split>, cost: f32, s: Settings) -> Option<Offer>
             prop: split.prop,
             val: split.val,
             gain,
+            below: split.below,
         });
     }
     None

@@ -24,6 +24,7 @@ use Rattle.model.specs.Learn.{root_state, finished}
 use Rattle.model.specs.Accepting.{SingleSmall, JobFits}
 use Rattle.model.specs.Kept.{no_seeds, Invariant}
 use Rattle.model.proofs.Root.{root_keeps}
+use Rattle.model.proofs.Below.{root-weighed}
 use Rattle.model.proofs.Health.{root-healthy}
 use Rattle.model.proofs.Growing.{root-sized}
 use Rattle.model.proofs.SingleLawful.{single-lawful}
@@ -115,6 +116,7 @@ module _ {job : Job} {counts : List ℕ} {x : Flat} {n : NodeLists} {q : QueueLi
           counted = refl;
           summed = cost ∙ ap (λ (i : Info singles). i.cost) info-is;
           inv = subst (λ (u : Bool). Invariant u no_seeds given root) (uses_still job.settings m.changed.size) (root_keeps j given);
+          weighed = root-weighed j p.lawful.offer_fits given;
           healthy = root-healthy single-lawful.bounds j given (subst (JobFits SingleSmall j) (sym (length-held x.props x.toks x.res)) p.lawful) no_seeds;
           sized = root-sized Number (row_count y) j nought-number (λ mode l h. evaluated_number p.fitting mode l (omega arith)) given (omega (arith, length-held x.props x.toks x.res));
           shallow = λ k h o e. elim k as (λ i. (get_or root.tree i no_entry).depth < max_depth) [ zero ↦ omega arith | suc i ↦ omega arith ];

@@ -9,11 +9,12 @@ use lib.Dec.{T, ltb→lt}
 use lib.Ieee.{is_nan}
 use Rattle.model.specs.Settings.{props_per_row, max_nodes, max_depth}
 use Rattle.model.specs.Rows as model
-use Rattle.model.specs.Rows.{Row}
+use Rattle.model.specs.Rows.{Row, within}
 use Rattle.model.specs.Single.{singles}
 use Rattle.model.specs.Tree.{is_leaf}
 use Rattle.model.specs.Lent.{Waiting, no_waiting}
 use Rattle.model.specs.Grow.{Entry, State, no_entry, split_at, step_to, step}
+use Rattle.model.specs.Accepting.{rows_below}
 use Rattle.model.specs.Kept.{Fine}
 use Rattle.model.proofs.Each.{each_get_d}
 use Rattle.refuse.specs.declared.Job.{Job}
@@ -28,8 +29,8 @@ use Rattle.queue.specs.declared.Queue.{Queue}
 use Rattle.queue.specs.Lent.{queue_in, PendingAt}
 use Rattle.layout.proofs.Held.{room-fewer, holding-room, held_info, held_span}
 use Rattle.layout.proofs.Queue.{choice_is, choice_some, best_of, chosen_at, best-below, StandsIn, stands, fewer-room}
-use Rattle.layout.proofs.Queue.{best-queued, queued-node, queued-prop, queued-depth, queued-val}
-use Rattle.rows.specs.Flat.{Flat, row_count}
+use Rattle.layout.proofs.Queue.{best-queued, queued-node, queued-prop, queued-depth, queued-val, queued-below}
+use Rattle.rows.specs.Flat.{Flat, held_in, row_count}
 use Rattle.rows.proofs.Cells.{length-held}
 use Rattle.grow.specs.Parts.{RowsFit}
 use Rattle.lent.specs.Lists.{work}
@@ -139,6 +140,12 @@ module _ {job : Job} {counts : List ℕ} {x : Flat} {lists : NodeLists} {q : Que
     module _ (sp : Span) (read : sp ≡ get_or lists.spans p.node no_span_record) where
       pub span-here : span_is sp ≡ e.span
       span-here = ap span_is (read ∙ span-at)
+
+      -- how many rows go below, as scoring counted them
+      pub below-is : p.offer.below ≡ rows_below p.offer.prop p.offer.val (within (span_is sp) (held_in x))
+      below-is =
+          is.below ∙ queued-below queued k inside ∙ (g.weighed.offers w.node standing.within w.offer standing.offer).is
+          ∙ sym (λ i. rows_below (prop-is i) (val_is i) (within (span-here i) (g.rows i)))
 
       pub rows_fit : RowsFit job counts p.offer.prop (span_is sp) x
       rows_fit =

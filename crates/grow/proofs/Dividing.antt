@@ -2,7 +2,7 @@
 use mathlib.Core.Path.{◌≡◌, refl, sym, ap, ◌∙◌, subst}
 use mathlib.Core.Bool.{Bool}
 use mathlib.Core.List.{List, ◌++◌, append_assoc}
-use Prim.Native.Nat.{ℕ, ◌+◌}
+use Prim.Native.Nat.{ℕ, ◌+◌, ◌-◌, ◌≤◌}
 use native.Mathlib.Omega.{arith}
 use lib.ListN.{length, take, drop, length-append}
 use lib.Seq.{slice, take_at, drop_at, length-take-le}
@@ -10,6 +10,7 @@ use lib.IntN.{ℤ}
 use Rattle.model.specs.Rows.{Row, is_above, within}
 use Rattle.model.specs.Mode.{span_mode, fresh}
 use Rattle.model.specs.Partition.{above_rows, other_rows}
+use Rattle.model.specs.Accepting.{rows_below}
 use Rattle.model.proofs.Fresh.{span_mode-fresh, length-fresh}
 use Rattle.refuse.specs.Given.{settings_of}
 use Rattle.refuse.specs.declared.Job.{Job}
@@ -21,7 +22,7 @@ use Rattle.rows.specs.Flat.{Flat, held_in}
 use Rattle.rows.specs.Parted.{Partitioned, parted}
 use Rattle.rows.proofs.Cells.{length-held}
 use Rattle.rows.proofs.Shapes.{size-then, count_still, shaped_still}
-use Rattle.rows.proofs.Sides.{sides-fill, gt-spanned, le-spanned}
+use Rattle.rows.proofs.Sides.{sides-fill, place-is, below_few, gt-spanned, le-spanned}
 use Rattle.evaluate.specs.Evaluated.{Evaluated}
 use Rattle.lent.specs.Fitting.{uses_of, LeafFits}
 use Rattle.leaf.specs.Made.{settled_at, MadeLeaf}
@@ -59,6 +60,18 @@ module _ {A : Type 0} (f : List A → List A) (p a b d : List A) (first at end :
 -- ---- the parts of a split, one after the other: x is partitioned into y, gt made in y leaves `mid`, le made in `mid` leaves z
 module _ {job : Job} {counts : List ℕ} {prop at : ℕ} {val : ℤ} {first end : ℕ} {x y : Flat}
     (fits : RowsFit job counts prop (span first end) x) (done : Partitioned prop val (span first end) x y at) where
+  -- where le's rows begin, from how many they are
+  module _ {below : ℕ} (is : below ≡ rows_below prop val (within (span first end) (held_in x))) where
+    pub below_inside : below ≤ end
+    below_inside = omega (arith, below_few fits.divisible done)
+
+    pub placed : Partitioned prop val (span first end) x y (end - below)
+    placed =
+        let ordered = fits.divisible.spanned.ordered in
+        let from = done.at in
+        let middle : at ≡ end - below = omega (arith, place-is fits.divisible done, below_few fits.divisible done) in
+        subst (Partitioned prop val (span first end) x y) middle done
+
   pub gt-fits : LeafFits y first at job counts
   gt-fits = record { fitting = parted-fitting fits.fitting done; spanned = gt-spanned fits.divisible done }
 

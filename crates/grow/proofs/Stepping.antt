@@ -22,7 +22,8 @@ use Rattle.model.specs.Job.{Offer}
 use Rattle.model.specs.Lent.{Waiting, no_waiting}
 use Rattle.model.specs.Grow.{Entry, State, no_entry, grown_bits, leaf_over, gt_rows, le_rows, gt_span, le_span, gt_leaf, le_leaf, split_rows, become_split, split_at, step, steps}
 use Rattle.model.specs.Accepting.{SingleSmall, JobFits}
-use Rattle.model.specs.Kept.{Invariant, Healthy, Sized}
+use Rattle.model.specs.Kept.{Invariant, Weighed, Healthy, Sized}
+use Rattle.model.proofs.Below.{step-weighed}
 use Rattle.model.proofs.Extended.{new-cases}
 use Rattle.model.proofs.Growing.{steps-sized}
 use Rattle.model.proofs.Health.{steps-healthy}
@@ -101,6 +102,9 @@ module _ {job : Job} {counts : List ℕ} {x : Flat} {lists : NodeLists} {q : Que
   one-step : steps j 1 st ≡ next
   unfolding steps
   one-step = choosing.step-splits left g k wait best
+
+  next-weighed : Weighed next
+  next-weighed = subst Weighed (choosing.step-splits left g k wait best) (step-weighed j fits-given.offer_fits seeds given st g.inv g.weighed)
 
   next-healthy : Healthy SingleSmall seeds given next
   next-healthy =
@@ -315,6 +319,7 @@ module _ {job : Job} {counts : List ℕ} {x : Flat} {lists : NodeLists} {q : Que
             counted = let l = longer in let c = g.counted in omega arith;
             summed = next-bits summed;
             inv = subst (λ (u : Bool). Invariant u seeds given next) (sym uses-y) next-inv;
+            weighed = next-weighed;
             healthy = next-healthy;
             sized = subst (λ (m : ℕ). Sized Number m next) (sym count-y) next-sized;
             shallow = next-shallow;

@@ -6,8 +6,9 @@ ghost use Rattle.std.specs.Prelude.{◌≡◌, Bool, List, ◌++◌, ℕ, ◌+�
 ghost use Rattle.std.specs.Float.{binary32};
 ghost use Rattle.std.specs.Float.Ieee.{add, sub};
 ghost use Rattle.model.specs.Settings.{max_nodes, max_depth};
-ghost use Rattle.model.specs.Rows.{Row};
+ghost use Rattle.model.specs.Rows.{Row, within};
 ghost use Rattle.model.specs.Single.{singles};
+ghost use Rattle.model.specs.Accepting.{rows_below};
 ghost use Rattle.model.specs.Lent.{Waiting};
 ghost use Rattle.model.specs.Grow.{State, grown_bits, step, steps};
 ghost use Rattle.layout.specs.Lent.{lists_in, SameNodesLent};
@@ -16,7 +17,7 @@ ghost use Rattle.layout.specs.Tree.{NodeLists, HasRoom};
 ghost use Rattle.layout.specs.Values.{offer_is};
 ghost use Rattle.layout.specs.Waiting.{Queued, QueueRoom, SameQueue, without, waits};
 ghost use Rattle.queue.specs.Lent.{queue_in, SameQueueLent};
-ghost use Rattle.rows.specs.Flat.{SameSize};
+ghost use Rattle.rows.specs.Flat.{held_in, SameSize};
 ghost use Rattle.rows.specs.Lent.{flat_in, SameRowsLent};
 ghost use Rattle.grow.specs.Parts.{RowsFit, RowsSplit, split_nodes};
 ghost use Rattle.lent.specs.Lent.{SameLent};
@@ -47,8 +48,8 @@ struct Sides {
     depth: u32,
 }
 
-// Rows above the threshold go first, and both parts take their own mode. Splits of the new leaves are scored only if
-// some are left.
+// Rows above the threshold go first, and both parts take their own mode. Where le's rows begin follows from how many
+// they are, which scoring counted. Splits of the new leaves are scored only if some are left.
 fn split_rows(
     rows: &mut Rows,
     counts: &mut [u32],
@@ -58,6 +59,8 @@ fn split_rows(
     left: usize,
 ) -> Sides
     requires fits { RowsFit job counts.old pending.offer.prop (span_is span) (flat_in rows.old) }
+    requires below { pending.offer.below ≡ rows_below pending.offer.prop pending.offer.val
+        (within (span_is span) (held_in (flat_in rows.old))) }
     requires shallow { pending.depth < max_depth }
     ensures lent { SameRowsLent rows.old rows.new }
     ensures split { RowsSplit (ltb 0 left) job.entry counts.old (pending.depth + 1)
@@ -68,7 +71,8 @@ fn split_rows(
     let first = span.first as usize;
     let end = span.end as usize;
     let offer = pending.offer;
-    let middle = rows.partition(first, end, offer.prop as usize, offer.val) as u32;
+    rows.partition(first, end, offer.prop as usize, offer.val);
+    let middle = span.end - offer.below;
     let above = Span {
         first: span.first,
         end: middle,

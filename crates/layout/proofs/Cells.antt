@@ -3,7 +3,7 @@ use mathlib.Core.Path.{◌≡◌, refl, sym, ap, ◌∙◌}
 use mathlib.Core.List.{List, [], ◌∷◌, ◌++◌, append_assoc, append-nil}
 use Prim.Native.Nat.{ℕ, suc, ◌+◌, ◌*◌, ◌≤◌, ◌<◌}
 use native.Mathlib.Nat.{zero-mul, suc-mul}
-use native.Mathlib.Numerals.{add-one, add-two}
+use native.Mathlib.Numerals.{add-one, add-two, add-three}
 use native.Mathlib.Omega.{arith}
 use lib.ListN.{length, get_or, set, take, drop, length-append, take-append-drop, get_or-append}
 use lib.Seq.{sets-eq, paste, take_at, get_or-append-add, length-take-le, split_at, set_split}
@@ -16,8 +16,8 @@ module _ {A : Type 0} where
 
 -- neighbouring cells stored one by one
 module _ {A : Type 0} (l : List A) (at : ℕ) where
-  pub stores_three : (a b c : A) → at + 3 ≤ length l → set (set (set l at a) (at + 1) b) (at + 2) c ≡ paste l at (a ∷ b ∷ c ∷ []) 3
-  stores_three a b c h = rw (add-one, add-two) (sets-eq (a ∷ b ∷ c ∷ []) l at h)
+  pub stores_four : (a b c d : A) → at + 4 ≤ length l → set (set (set (set l at a) (at + 1) b) (at + 2) c) (at + 3) d ≡ paste l at (a ∷ b ∷ c ∷ d ∷ []) 4
+  stores_four a b c d h = rw (add-one, add-two, add-three) (sets-eq (a ∷ b ∷ c ∷ d ∷ []) l at h)
 
 module _ {E A : Type 0} (f : E → List A) where
   pub laid_append : (s t : List E) → laid f (s ++ t) ≡ laid f s ++ laid f t

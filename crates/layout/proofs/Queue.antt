@@ -256,6 +256,9 @@ module _ {M : Meter} where
       pub queued-depth : get_or q.words (k * words_per_leaf + 2) 0 ≡ (get_or leaves k no_waiting).depth
       queued-depth = queued-cell 2 (omega arith)
 
+      pub queued-below : get_or q.words (k * words_per_leaf + 3) 0 ≡ (get_or leaves k no_waiting).offer.below
+      queued-below = queued-cell 3 (omega arith)
+
       pub queued-val : get_or q.values k (pos 0) ≡ (get_or leaves k no_waiting).offer.val
       queued-val =
           let at : k ≡ k * 1 + 0 = omega arith in

@@ -13,7 +13,7 @@ info_is i = record { cost = i.cost; pred = i.pred; offset = i.offset }
 
 -- a split that is offered
 abbrev pub split_offered : Offer → model.Offer singles
-split_offered o = record { prop = o.prop; val = o.val; gain = o.gain }
+split_offered o = record { prop = o.prop; val = o.val; gain = o.gain; below = o.below }
 
 -- a split that is offered, or none
 abbrev pub offer_is : Maybe Offer → Option (model.Offer singles)

@@ -1,4 +1,5 @@
--- How three flat lists hold the queue of waiting leaves: three words (node, property, depth), a threshold and a gain a leaf, in the order of the nodes' numbers.
+-- How three flat lists hold the queue of waiting leaves: four words (node, property, depth, how many rows go below), a threshold and a gain a leaf, in the order
+-- of the nodes' numbers.
 -- The queue is a function of the tree: each leaf that offers a split waits (document 01, "Growth"). Assumes nothing.
 use Rattle.std.specs.Prelude.{ℕ, suc, ◌+◌, ◌*◌, ◌≤◌, ◌≡◌, List, [], ◌∷◌, ◌++◌, length, set, take, drop, ℤ, Float}
 use Rattle.std.proofs.Math.Option.{Option, none, some}
@@ -15,7 +16,7 @@ laid part [] = []
 laid part (e ∷ es) = part e ++ laid part es
 
 abbrev pub words_per_leaf : ℕ
-words_per_leaf = 3
+words_per_leaf = 4
 
 -- the leaf's place in the queue, if it offers a split
 abbrev pub waits : {M : Meter} → ℕ → ℕ → Option (Offer M) → List (Waiting M)
@@ -36,7 +37,7 @@ abbrev pub without : {A : Type 0} → ℕ → List A → List A
 without k l = take k l ++ drop (suc k) l
 
 abbrev pub wait_words : {M : Meter} → Waiting M → List ℕ
-wait_words w = w.node ∷ w.offer.prop ∷ w.depth ∷ []
+wait_words w = w.node ∷ w.offer.prop ∷ w.depth ∷ w.offer.below ∷ []
 
 abbrev pub wait_values : {M : Meter} → Waiting M → List ℤ
 wait_values w = w.offer.val ∷ []
@@ -76,10 +77,10 @@ pub record SameQueue {M : Meter} (q p : QueueListsOf M) : Type 0 where
   pub gains : length p.gains ≡ length q.gains
 
 -- the words with those of the leaf at place k written
-abbrev pub put_wait_words : ℕ → ℕ → ℕ → ℕ → List ℕ → List ℕ
-put_wait_words k node prop depth words =
+abbrev pub put_wait_words : {M : Meter} → ℕ → Waiting M → List ℕ → List ℕ
+put_wait_words k w words =
     let at = k * words_per_leaf in
-    set (set (set words at node) (at + 1) prop) (at + 2) depth
+    set (set (set (set words at w.node) (at + 1) w.offer.prop) (at + 2) w.depth) (at + 3) w.offer.below
 
 -- the first of the first n places with the greatest gain: at a tie the lower node number is taken
 abbrev pub first_best_of : (M : Meter) → List M.Cost → ℕ → ℕ

@@ -96,12 +96,13 @@ pub struct Span {
     pub end: u32,
 }
 
-// The split that a leaf offers, with its gain in bits.
+// The split that a leaf offers, with its gain in bits, and how many rows then go below, to le.
 #[derive(Clone, Copy)]
 pub struct Offer {
     pub prop: u32,
     pub val: i32,
     pub gain: f32,
+    pub below: u32,
 }
 
 // A leaf that was evaluated, with the split that it offers, if there is one.

@@ -54,7 +54,7 @@ fn blank() -> MaNode {
     MaNode::leaf(NodeInfo::default())
 }
 
-// Learns into these nodes, with a queue for so many leaves: each has three words in it. No list is longer than the
+// Learns into these nodes, with a queue for so many leaves: each has four words in it. No list is longer than the
 // largest tree asks.
 fn learn_in<const LEAVES: usize, const WORDS: usize>(
     rows: &mut Rows,
@@ -62,7 +62,7 @@ fn learn_in<const LEAVES: usize, const WORDS: usize>(
     counts: &mut [u32],
     job: Job,
 ) -> Result<Learned, Refusal>
-    requires { (LEAVES ≤ 8191) × (WORDS ≤ 24573) }
+    requires { (LEAVES ≤ 8191) × (WORDS ≤ 32764) }
 {
     let mut queue_words = [0u32; WORDS];
     let mut queue_values = [0i32; LEAVES];
@@ -90,7 +90,7 @@ fn learn_one_leaf(rows: &mut Rows, counts: &mut [u32], job: Job) -> Result<Learn
         nodes: &mut nodes,
         spans: &mut spans,
     };
-    learn_in::<1, 3>(rows, &mut at, counts, job)
+    learn_in::<1, 4>(rows, &mut at, counts, job)
 }
 
 // So many properties and tokens, all 0.
@@ -155,7 +155,7 @@ fn six_rows(max_leaves: u32, nodes: u32, bits: f64) -> bool {
         nodes: &mut made,
         spans: &mut spans,
     };
-    let tree = learn_in::<5, 15>(&mut rows, &mut at, &mut counts, job);
+    let tree = learn_in::<5, 20>(&mut rows, &mut at, &mut counts, job);
     let tied = (max_leaves < 5) | lower_is_split(&made, &spans);
     tied & is_grown(tree, nodes, max_leaves, bits, 6.754887580871582)
 }

@@ -52,6 +52,7 @@ queue-read q =
       get_d_blank {A = ℕ} (length q.words) (i * words_per_leaf) 0,
       get_d_blank {A = ℕ} (length q.words) (i * words_per_leaf + 2) 0,
       get_d_blank {A = ℕ} (length q.words) (i * words_per_leaf + 1) 0,
+      get_d_blank {A = ℕ} (length q.words) (i * words_per_leaf + 3) 0,
       get_or-replicate (length q.values) i (pos 0) (pos 0) (omega arith),
       get_or-replicate (length q.gains) i singles.nought nan (omega arith),
     )

@@ -10,7 +10,7 @@ use Rattle.model.specs.Job as model
 use Rattle.model.specs.Job.{Offer}
 use Rattle.model.specs.Grow.{State, no_entry}
 use Rattle.model.specs.Accepting.{SingleSmall}
-use Rattle.model.specs.Kept.{Invariant, Healthy, Sized}
+use Rattle.model.specs.Kept.{Invariant, Weighed, Healthy, Sized}
 use Rattle.refuse.specs.Given.{settings_of}
 use Rattle.refuse.specs.declared.Job.{Job}
 use Rattle.layout.specs.declared.Tree.{Tree}
@@ -42,6 +42,7 @@ pub record Grows (job : Job) (w : Work) (tree : Tree) (more : ℕ)
   pub counted : tree.nodes ≡ length st.tree
   pub summed : tree.bits ≡ st.bits
   pub inv : Invariant (uses_of job.settings w.rows) seeds given st
+  pub weighed : Weighed st
   pub healthy : Healthy SingleSmall seeds given st
   pub sized : Sized Number (row_count w.rows) st
   pub shallow : (k : ℕ) → k < length st.tree → (o : Offer singles)

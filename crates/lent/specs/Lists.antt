@@ -55,7 +55,12 @@ waiting_at q i =
     record {
       node = get_or q.words (i * words_per_leaf) 0;
       depth = get_or q.words (i * words_per_leaf + 2) 0;
-      offer = record { prop = get_or q.words (i * words_per_leaf + 1) 0; val = get_or q.values i (pos 0); gain = get_or q.gains i nan };
+      offer = record {
+        prop = get_or q.words (i * words_per_leaf + 1) 0;
+        val = get_or q.values i (pos 0);
+        gain = get_or q.gains i nan;
+        below = get_or q.words (i * words_per_leaf + 3) 0;
+      };
     }
 
 unfoldable pub stored_queue : QueueLists → List (Waiting singles)

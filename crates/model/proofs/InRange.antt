@@ -1,6 +1,6 @@
 -- Evaluation stays in range, whatever the meter: a leaf's predictor is below 14, and usable if any is; an offered threshold is a candidate of a
--- property below 24, and both its sides have rows. Assumes nothing.
-use mathlib.Core.Path.{◌≡◌, refl, sym, ap}
+-- property below 24, with the number of rows at or under it, which is neither 0 nor all. Assumes nothing.
+use mathlib.Core.Path.{◌≡◌, refl, sym, ap, ◌∙◌}
 use Prim.Native.Nat.{ℕ, ◌<◌}
 use native.Mathlib.Omega.{arith}
 use mathlib.Core.Bool.{Bool, true, false, cond, not, true≢false}
@@ -10,7 +10,7 @@ use lib.ListN.{length}
 use lib.IntN.{ℤ}
 use lib.Dec.{T, ltb}
 use lib.Ieee.Fits.{and_i, and_l, and_r}
-use Rattle.model.specs.Lists.{range, count_if, keep, all, is_empty}
+use Rattle.model.specs.Lists.{range, keep, all, is_empty}
 use Rattle.model.specs.Meter.{Meter}
 use Rattle.model.specs.Settings.{Settings, props_per_row, toks_per_row}
 use Rattle.model.specs.Rows.{Row, is_above}
@@ -18,7 +18,7 @@ use Rattle.model.specs.Cost.{cheapest, first_cheapest, cost_of, is_usable, usabl
 use Rattle.model.specs.Score.{Score, nothing, threshold, lower, side_cost, score_sides, score_at, score_from, score_of}
 use Rattle.model.specs.Evaluate.{Best, nowhere, at, better, property_order, plan_of, is_repeated, best_from, best_split, offer_of, info_of, offered}
 use Rattle.model.specs.Job.{Offer}
-use Rattle.model.specs.Accepting.{OfferFits}
+use Rattle.model.specs.Accepting.{rows_below, OfferFits}
 use Rattle.model.proofs.Counting.{length-keep}
 use Rattle.model.proofs.Keeping.{count-not, all_keep, all-kept}
 
@@ -75,16 +75,17 @@ module _ {M : Meter} (t : Settings M) (logs : List M.Cost) (rows : List Row) whe
       let cost = side_cost t logs (side_predictors t logs rows) in
       M.plus (cost (keep (λ (r : Row). not (is_above q v r)) rows)) (cost (keep (is_above q v) rows))
 
-  -- v is a candidate of property q, both its sides have rows, and c is its cost
-  pub record Scored (q : ℕ) (v : ℤ) (c : M.Cost) : Type 0 where
+  -- v is a candidate of property q, c is its cost, and n rows are at or under it, neither none nor all
+  pub record Scored (q : ℕ) (v : ℤ) (c : M.Cost) (n : ℕ) : Type 0 where
     pub candidate : Memᴰ v (plan_of t rows q)
-    pub some_above : 0 < count_if (is_above q v) rows
-    pub not_all_above : count_if (is_above q v) rows < length rows
     pub cost : c ≡ cost_at q v
+    pub below : n ≡ rows_below q v rows
+    pub some_below : 0 < n
+    pub not_all : n < length rows
 
   abbrev IsScore : ℕ → Score M → Type 0
   IsScore q nothing = Unit {0}
-  IsScore q (threshold v c) = Scored q v c
+  IsScore q (threshold v c n) = Scored q v c n
 
   score_at_is : (q : ℕ) (v : ℤ) → Memᴰ v (plan_of t rows q) → IsScore q (score_at t logs (side_predictors t logs rows) q rows v)
   unfolding score_at score_sides
@@ -99,12 +100,18 @@ module _ {M : Meter} (t : Settings M) (logs : List M.Cost) (rows : List Row) whe
           let b = ap length l in
           let ka = length-keep (is_above q v) rows in
           let kb = length-keep (λ (r : Row). not (is_above q v r)) rows in
-          record { candidate = m; some_above = omega arith; not_all_above = omega arith; cost = λ i. M.plus (side_cost t logs (side_predictors t logs rows) (sym l i)) (side_cost t logs (side_predictors t logs rows) (sym g i)) }
+          record {
+            candidate = m;
+            cost = λ i. M.plus (side_cost t logs (side_predictors t logs rows) (sym l i)) (side_cost t logs (side_predictors t logs rows) (sym g i));
+            below = sym b ∙ kb;
+            some_below = omega arith;
+            not_all = omega arith;
+          }
 
   lower-is : (q : ℕ) (s u : Score M) → IsScore q s → IsScore q u → IsScore q (lower s u)
   lower-is q nothing u f g = g
-  lower-is q (threshold v c) nothing f g = f
-  lower-is q (threshold v c) (threshold w d) f g = grind arith
+  lower-is q (threshold v c m) nothing f g = f
+  lower-is q (threshold v c m) (threshold w d n) f g = grind arith
 
   score_from_is : (q : ℕ) (score : ℤ → Score M) (best : Score M) (cs : List ℤ) → ((v : ℤ) → Memᴰ v cs → IsScore q (score v)) → IsScore q best → IsScore q (score_from score best cs)
   unfolding score_from
@@ -117,12 +124,12 @@ module _ {M : Meter} (t : Settings M) (logs : List M.Cost) (rows : List Row) whe
 
   abbrev IsBest : Best M → Type 0
   IsBest nowhere = Unit {0}
-  IsBest (at q v c) = T (is_property q) × Scored q v c
+  IsBest (at q v c n) = T (is_property q) × Scored q v c n
 
   better-is : (b : Best M) (q : ℕ) (s : Score M) → T (is_property q) → IsScore q s → IsBest b → IsBest (better b q s)
   better-is b q nothing i f g = g
-  better-is nowhere q (threshold v c) i f g = (i, f)
-  better-is (at p w d) q (threshold v c) i f g = grind arith
+  better-is nowhere q (threshold v c n) i f g = (i, f)
+  better-is (at p w d m) q (threshold v c n) i f g = grind arith
 
   best_from_is : (best : Best M) (qs : List ℕ) → T (all is_property qs) → IsBest best → IsBest (best_from t logs (side_predictors t logs rows) rows best qs)
   unfolding best_from
@@ -142,7 +149,7 @@ module _ {M : Meter} (t : Settings M) (logs : List M.Cost) (rows : List Row) whe
   pub record Offers (cost : M.Cost) (o : Offer M) : Type 0 where
     pub property : T (is_property o.prop)
     pub bits : M.Cost
-    pub scored : Scored o.prop o.val bits
+    pub scored : Scored o.prop o.val bits o.below
     pub gain : o.gain ≡ M.minus (M.minus cost bits) t.split_cost
     pub gains : T (M.less M.nought o.gain)
 
@@ -153,7 +160,7 @@ module _ {M : Meter} (t : Settings M) (logs : List M.Cost) (rows : List Row) whe
   offer_of_is : (cost : M.Cost) (b : Best M) → IsBest b → IsOffer cost (offer_of t cost b)
   unfolding offer_of
   offer_of_is cost nowhere f = tt
-  offer_of_is cost (at q v c) f = grind arith
+  offer_of_is cost (at q v c n) f = grind arith
 
   pub offered-is : (depth : ℕ) (cost : M.Cost) → IsOffer cost (offered t logs depth cost rows)
   unfolding offered

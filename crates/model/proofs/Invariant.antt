@@ -6,7 +6,7 @@ use native.Mathlib.Omega.{arith}
 use native.Mathlib.Decide.{ℕ_discrete, dec_lt}
 use mathlib.Core.Bool.{Bool, true, false, cond, not, ◌&&◌, and_assoc}
 use mathlib.Core.List.{List, map}
-use mathlib.Core.Option.{none, some}
+use mathlib.Core.Option.{Option, none, some}
 use lib.ListN.{length, get_or, length-map, get_or-map, get_or-eq_default}
 use lib.Seq.{slice, length-slice}
 use lib.Dec.{T, eqb}
@@ -20,6 +20,7 @@ use Rattle.model.specs.Tree.{Node, split, leaf, is_leaf}
 use Rattle.model.specs.Grow.{Entry, State, no_entry, tree_nodes, leaf_over, gt_rows, le_rows, gt_span, le_span, gt_leaf, le_leaf, split_rows, become_split, split_at}
 use Rattle.model.specs.Promise.{Same, SameRows, key, no_row}
 use Rattle.model.specs.Family.{Child, Family, Anc, parent, under, passes}
+use Rattle.model.specs.Accepting.{Below, OfferFits}
 use Rattle.model.specs.Kept.{HoldsPassing, Laid, entry_at, Invariant}
 use Rattle.model.proofs.Counting.{count_ext, count_map, count-keep, count-split}
 use Rattle.model.proofs.Parts.{count-above, count-others, length-parts}
@@ -226,7 +227,7 @@ module _ {M : Meter} where
     untouched t lf tn (inr (inl c)) = slice-before s.rows a b ab bn gt le fits no_row t.span.first t.span.end c
     untouched t lf tn (inr (inr c)) = absurd (T-not-both (is_leaf t.node) lf c.0)
 
-    span_kept : (t : Entry M) → t.span.end ≤ length s.rows → Clear e.span t → Same (map (key j.uses) (within t.span rows')) (map (key j.uses) (within t.span s.rows))
+    pub span_kept : (t : Entry M) → t.span.end ≤ length s.rows → Clear e.span t → Same (map (key j.uses) (within t.span rows')) (map (key j.uses) (within t.span s.rows))
     unfolding split_rows
     span_kept t tn (inl c) p = ap (λ (l : List Row). count_if p (map (key j.uses) l)) (slice-after s.rows a b ab bn gt le fits no_row t.span.first t.span.end c tn)
     span_kept t tn (inr (inl c)) p = ap (λ (l : List Row). count_if p (map (key j.uses) l)) (slice-before s.rows a b ab bn gt le fits no_row t.span.first t.span.end c)
@@ -348,6 +349,30 @@ module _ {M : Meter} where
         (rw tree_at (λ lf. absurd (not_leaf lf)))
         (λ lf. subst IsFresh (sym (ap (λ (x : Entry M). x.span) tree_gt ∙ gt_e_span)) fresh_gt)
         (λ lf. subst IsFresh (sym (ap (λ (x : Entry M). x.span) tree_le ∙ le_e_span)) fresh_le)
+
+    -- what an old leaf offers is still said of its rows, and what a new one offers is said of its own
+    gt_e_offer : gt_e.offer ≡ j.offered (suc e.depth) gt_e.info.cost gt
+    unfolding gt_leaf leaf_over
+    gt_e_offer = refl
+
+    le_e_offer : le_e.offer ≡ j.offered (suc e.depth) le_e.info.cost le
+    unfolding le_leaf leaf_over
+    le_e_offer = refl
+
+    abbrev Weighs : Span → Option (Offer M) → Type 0
+    Weighs t x = (p : Offer M) → x ≡ some p → Below p (within t rows')
+
+    new_weighs : (x : Entry M) (mine : List Row) → OfferFits mine x.offer → within x.span rows' ≡ mine → Weighs x.span x.offer
+    new_weighs x mine f q p z = rw q (subst (OfferFits mine) z f).1
+
+    pub split_weighs : ((depth : ℕ) (cost : M.Cost) (rows : List Row) → OfferFits rows (j.offered depth cost rows))
+        → ((k : ℕ) → k < n → (p : Offer M) → (entry_at s.tree k).offer ≡ some p → Below p (within (entry_at s.tree k).span s.rows))
+        → (k : ℕ) → k < suc (suc n) → Weighs (entry_at tree' k).span (entry_at tree' k).offer
+    split_weighs fit w = new-cases {P = λ (k : ℕ). Weighs (entry_at tree' k).span (entry_at tree' k).offer} n i
+        (λ k h ne. rw (tree_old k h ne) (λ p q. rw (untouched (entry_at s.tree k) (inv.offers k h p q) (inv.bounds k h).1 (clear_of s inv i k inside h (λ (z : i ≡ k). ne (sym z)) was)) (w k h p q)))
+        (rw tree_at (λ p q. absurd (no_offer p q)))
+        (rw tree_gt (new_weighs gt_e gt (rw gt_e_offer (fit (suc e.depth) gt_e.info.cost gt)) (ap (λ (t : Span). within t rows') gt_e_span ∙ gt_within)))
+        (rw tree_le (new_weighs le_e le (rw le_e_offer (fit (suc e.depth) le_e.info.cost le)) (ap (λ (t : Span). within t rows') le_e_span ∙ le_within)))
 
     split_offers : (k : ℕ) → k < suc (suc n) → (p : Offer M) → (entry_at tree' k).offer ≡ some p → T (is_leaf (entry_at tree' k).node)
     split_offers = search (arith, tree_old, tree_at, no_offer, tree_gt, gt_e_leaf, tree_le, le_e_leaf)

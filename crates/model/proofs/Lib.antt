@@ -16,6 +16,7 @@ pub mod Fresh
 pub mod Invariant
 pub mod Steps
 pub mod Root
+pub mod Below
 pub mod Sound
 pub mod Tally
 pub mod Health

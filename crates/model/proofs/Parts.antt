@@ -1,14 +1,17 @@
 -- What the partition's two parts hold. Assumes nothing.
-use mathlib.Core.Path.{◌≡◌, refl}
+use mathlib.Core.Path.{◌≡◌, refl, sym, ◌∙◌}
 use Prim.Native.Nat.{ℕ, zero, suc, ◌+◌, ◌≤◌}
 use native.Mathlib.Nat.{le_of_suc-le-suc, le_refl, not-suc-le-zero}
 use native.Mathlib.Omega.{arith}
-use mathlib.Core.Bool.{Bool, not, ◌&&◌}
+use mathlib.Core.Bool.{Bool, true, not, ◌&&◌}
 use mathlib.Core.List.{List, [], ◌∷◌}
 use lib.ListN.{length, length-append}
 use Rattle.model.specs.Lists.{count_if}
 use Rattle.model.specs.Partition.{last_first, parts, above_rows, other_rows}
-use Rattle.model.proofs.Counting.{count_append, count-last_first, length-last_first}
+use Rattle.model.proofs.Counting.{count_ext, count_append, count-last_first, length-last_first, count-all}
+
+and_true : (b : Bool) → (b && true) ≡ b
+and_true b = grind arith
 
 module _ {ℓ} {A : Type ℓ} (above : A → Bool) where
   parts-above : (p : A → Bool) (fuel : ℕ) (xs : List A) → length xs ≤ fuel → count_if p (parts above fuel xs).0 ≡ count_if (λ (x : A). above x && p x) xs
@@ -42,3 +45,7 @@ module _ {ℓ} {A : Type ℓ} (above : A → Bool) where
   pub length-parts : (xs : List A) → length (above_rows above xs) + length (other_rows above xs) ≡ length xs
   unfolding above_rows other_rows
   length-parts xs = parts-length (length xs) xs
+
+  -- the others are those that fail the test
+  pub length-others : (xs : List A) → length (other_rows above xs) ≡ count_if (λ (x : A). not (above x)) xs
+  length-others xs = sym (count-all (λ (x : A). true) (other_rows above xs) (λ x. refl)) ∙ count-others (λ (x : A). true) xs ∙ count_ext xs (λ x. and_true (not (above x)))

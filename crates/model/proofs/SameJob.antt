@@ -49,7 +49,7 @@ module _ {M : Meter} (t : Settings M) (k : ℕ) (b : Bool) (logs : List M.Cost) 
   same-offer : (cost : M.Cost) (best : Best M) → offer_of other cost best ≡ offer_of t cost best
   unfolding offer_of
   same-offer cost nowhere = refl
-  same-offer cost (at q v c) = refl
+  same-offer cost (at q v c n) = refl
 
   same-group : (bits : M.Total) (rows : List Row) → with_group other logs bits rows ≡ with_group t logs bits rows
   unfolding best_predictor usable cost_of

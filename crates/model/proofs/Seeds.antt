@@ -21,9 +21,9 @@ use Rattle.model.specs.Job.{Offer, Job}
 use Rattle.model.specs.Grow.{Entry, State, no_entry, tree_nodes, leaf_over}
 use Rattle.model.specs.Deepen.{rows_at, seed_split, empty_leaf, with_leaf_cost, with_seed_node, seed_from, seed_state, depths_of}
 use Rattle.model.specs.Promise.{key}
-use Rattle.model.specs.Accepting.{JobFits}
+use Rattle.model.specs.Accepting.{Below, OfferFits, JobFits}
 use Rattle.model.specs.Family.{Child, passes}
-use Rattle.model.specs.Kept.{FieldsFit, entry_at, Invariant, EntryFits, Covered, Healthy}
+use Rattle.model.specs.Kept.{FieldsFit, entry_at, Invariant, Weighed, EntryFits, Covered, Healthy}
 use Rattle.model.proofs.Lawful.{Bounds}
 use Rattle.model.proofs.Counting.{count_map, count-keep, count_ext, count_none, count-all, count-below, length-keep, count_at_most}
 use Rattle.model.proofs.Paths.{T→true, meets-leaf, reached-leaf}
@@ -37,7 +37,7 @@ T→not-false : (b : Bool) → T b → not b ≡ false
 T→not-false true t = refl
 T→not-false false t = absurd t
 
-not_false→t : (b : Bool) → not b ≡ false → T b
+pub not_false→t : (b : Bool) → not b ≡ false → T b
 not_false→t true e = tt
 not_false→t false e = absurd (true≢false e)
 
@@ -74,6 +74,7 @@ module _ {M : Meter} (B : Bounds M) (j : Job M) (seed : List (Record M)) (rows :
     apart : (x k : ℕ) → x < i → k < i → x ≢ k → ((entry_at s.tree x).span.end ≤ (entry_at s.tree k).span.first) ⊎ ((entry_at s.tree k).span.end ≤ (entry_at s.tree x).span.first)
     beside : (k : ℕ) → k < i → seed_splits k ≡ true → BesideSplit (entry_at s.tree k)
     offers : (k : ℕ) → k < i → (o : Offer M) → (entry_at s.tree k).offer ≡ some o → T (is_leaf (entry_at s.tree k).node)
+    weighed : (k : ℕ) → k < i → (o : Offer M) → (entry_at s.tree k).offer ≡ some o → Below o (within (entry_at s.tree k).span s.rows)
     fits : (k : ℕ) → k < i → EntryFits (entry_at s.tree k)
     small : (k : ℕ) → k < i → seed_splits k ≡ false → B.Small 1 (M.total (entry_at s.tree k).info.cost)
     covered : (p : ℕ) → p < length s.rows → Covered s.tree p
@@ -86,6 +87,7 @@ module _ {M : Meter} (B : Bounds M) (j : Job M) (seed : List (Record M)) (rows :
     mine : T (is_leaf (get_or nodes i leaf)) → within x.span (s.rows ++ more) ≡ fresh j.uses (rows_at nodes i rows)
     beside : seed_splits i ≡ true → BesideSplit x
     offer : (o : Offer M) → x.offer ≡ some o → T (is_leaf x.node)
+    weighs : (o : Offer M) → x.offer ≡ some o → Below o (within x.span (s.rows ++ more))
     fits : EntryFits x
     small : seed_splits i ≡ false → B.Small 1 (M.total x.info.cost)
     enough : length more ≡ count_if (λ (r : Row). eqb (reached r) i) rows
@@ -136,6 +138,9 @@ module _ {M : Meter} (B : Bounds M) (j : Job M) (seed : List (Record M)) (rows :
         new q (inl e) = absurd (lt_irrefl p (omega (arith, e.1, longer)))
         new q (inr e) = (i, omega (arith, one_more), rw at_new e.0, rw at_new (omega (arith, e.1)), rw at_new (omega (arith, e.2, longer)))
 
+    within_old : (k : ℕ) → k < i → within (entry_at s.tree k).span rows' ≡ within (entry_at s.tree k).span s.rows
+    within_old k h = ap (drop (entry_at s.tree k).span.first) (take-append-le (entry_at s.tree k).span.end s.rows more (sg.bounds k h).1)
+
     next : Seeding (suc i) (record { rows = rows'; tree = tree'; bits = bits })
     next = record {
       counted = one_more;
@@ -143,12 +148,14 @@ module _ {M : Meter} (B : Bounds M) (j : Job M) (seed : List (Record M)) (rows :
       bounds = all {P = λ (k : ℕ). ((entry_at tree' k).span.first ≤ (entry_at tree' k).span.end) × ((entry_at tree' k).span.end ≤ length rows')}
           (λ k h. rw (at_old k h) ((sg.bounds k h).0, omega (arith, longer, (sg.bounds k h).1))) (rw at_new new_bounds);
       leaf_rows = all {P = λ (k : ℕ). T (is_leaf (get_or nodes k leaf)) → within (entry_at tree' k).span rows' ≡ fresh j.uses (rows_at nodes k rows)}
-          (λ k h t. rw (at_old k h) (ap (drop (entry_at s.tree k).span.first) (take-append-le (entry_at s.tree k).span.end s.rows more (sg.bounds k h).1) ∙ sg.leaf_rows k h t)) (λ t. rw at_new (add.mine t));
+          (λ k h t. rw (at_old k h) (within_old k h ∙ sg.leaf_rows k h t)) (λ t. rw at_new (add.mine t));
       apart = λ y k hy hk. all {P = λ (y : ℕ). Apart y k}
           (λ y hy. all {P = λ (k : ℕ). Apart y k} (λ k hk ne. rw (at_old y hy, at_old k hk) (sg.apart y k hy hk ne)) (λ ne. rw (at_old y hy, at_new) (new_apart y hy)) k hk)
           (all {P = λ (k : ℕ). Apart i k} (λ k hk ne. rw (at_new, at_old k hk) (flip (new_apart k hk))) (λ ne. absurd (ne refl)) k hk) y hy;
       beside = all {P = λ (k : ℕ). seed_splits k ≡ true → BesideSplit (entry_at tree' k)} (λ k h. rw (at_old k h) (sg.beside k h)) (rw at_new add.beside);
       offers = all {P = λ (k : ℕ). (o : Offer M) → (entry_at tree' k).offer ≡ some o → T (is_leaf (entry_at tree' k).node)} (λ k h. rw (at_old k h) (sg.offers k h)) (rw at_new add.offer);
+      weighed = all {P = λ (k : ℕ). (o : Offer M) → (entry_at tree' k).offer ≡ some o → Below o (within (entry_at tree' k).span rows')}
+          (λ k h. rw (at_old k h) (λ o q. rw (within_old k h) (sg.weighed k h o q))) (rw at_new add.weighs);
       fits = all {P = λ (k : ℕ). EntryFits (entry_at tree' k)} (λ k h. rw (at_old k h) (sg.fits k h)) (rw at_new add.fits);
       small = all {P = λ (k : ℕ). seed_splits k ≡ false → B.Small 1 (M.total (entry_at tree' k).info.cost)} (λ k h. rw (at_old k h) (sg.small k h)) (rw at_new add.small);
       covered = new_covered;
@@ -178,6 +185,7 @@ module _ {M : Meter} (B : Bounds M) (j : Job M) (seed : List (Record M)) (rows :
         mine = rw e (λ t. absurd t);
         beside = λ q. (refl, refl);
         offer = λ o q. absurd (none_is_no_some o q);
+        weighs = λ o q. absurd (none_is_no_some o q);
         fits = record { node_fits = f; pred_fits = tt; offer_fits = tt };
         small = λ q. absurd (true≢false (sym is-split ∙ q));
         enough = sym (count_none (λ (r : Row). eqb (reached r) i) rows (none-reach i is-split));
@@ -200,6 +208,7 @@ module _ {M : Meter} (B : Bounds M) (j : Job M) (seed : List (Record M)) (rows :
         mine = λ t. sym (ap (fresh j.uses) q ∙ fresh-none j.uses);
         beside = λ z. absurd (true≢false (sym z ∙ is_no_split));
         offer = λ o z. absurd (none_is_no_some o z);
+        weighs = λ o z. absurd (none_is_no_some o z);
         fits = record { node_fits = f; pred_fits = f; offer_fits = tt };
         small = λ z. B.small_nought;
         enough = ap length (fresh-none j.uses) ∙ counted [] q;
@@ -207,10 +216,10 @@ module _ {M : Meter} (B : Bounds M) (j : Job M) (seed : List (Record M)) (rows :
       with_rows (r ∷ rs) q = next i s sg x fr (with_leaf_cost s.bits x (r ∷ rs)) (record {
         same = sym e;
         span = inr (tt, refl, rw (length-fresh j.uses (r ∷ rs)));
-        mine = λ t. ap (drop (length s.rows)) (take_all (length s.rows + length (r ∷ rs)) (s.rows ++ fr) (omega (arith, length-append s.rows fr, length-fresh j.uses (r ∷ rs))))
-            ∙ drop_at s.rows fr (length s.rows) refl ∙ ap (fresh j.uses) (sym q);
+        mine = λ t. added ∙ ap (fresh j.uses) (sym q);
         beside = λ z. absurd (true≢false (sym z ∙ is_no_split));
         offer = λ o z. tt;
+        weighs = λ o z. rw added (subst (OfferFits fr) z (fit.offer_fits depth x.info.cost fr)).1;
         fits = leaf_over-fits B j (length rows) fit fr md sp depth;
         small = λ z. leaf_over-small B j (length rows) fit fr md sp depth few;
         enough = length-fresh j.uses (r ∷ rs) ∙ counted (r ∷ rs) q;
@@ -227,6 +236,10 @@ module _ {M : Meter} (B : Bounds M) (j : Job M) (seed : List (Record M)) (rows :
 
           x : Entry M
           x = leaf_over j fr md sp depth
+
+          added : within sp (s.rows ++ fr) ≡ fr
+          added = ap (drop (length s.rows)) (take_all (length s.rows + length (r ∷ rs)) (s.rows ++ fr) (omega (arith, length-append s.rows fr, length-fresh j.uses (r ∷ rs))))
+              ∙ drop_at s.rows fr (length s.rows) refl
 
           few : length fr ≤ length rows
           few = omega (arith, length-fresh j.uses (r ∷ rs), counted (r ∷ rs) q, count_at_most (λ (r : Row). eqb (reached r) i) rows)
@@ -300,6 +313,9 @@ module _ {M : Meter} (B : Bounds M) (j : Job M) (seed : List (Record M)) (rows :
     fresh_tokens = λ k h t. let q = seeding.leaf_rows k (inside h) (leaf_too k t) in ap (fresh j.uses) q ∙ fresh-twice j.uses (rows_at nodes k rows) ∙ sym q;
     offers = λ k h. seeding.offers k (inside h);
   }
+
+  pub seed-weighed : Weighed s₀
+  seed-weighed = record { offers = λ k h. seeding.weighed k (inside h) }
 
   pub seed-healthy : Healthy B.Small seed_splits rows s₀
   seed-healthy = record {

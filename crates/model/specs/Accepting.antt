@@ -1,6 +1,6 @@
 -- What acceptance ensures: settings, lists and rooms of which none of conditions 1 to 7 holds, logarithms in range, and evaluation that stays in range.
 -- Assumes nothing.
-use Rattle.std.specs.Prelude.{◌≡◌, ◌⊎◌, ℕ, ◌+◌, ◌-◌, ◌*◌, ◌^◌, ◌≤◌, ◌<◌, false, List, length, take, drop, ℤ, T, ltb, Float}
+use Rattle.std.specs.Prelude.{◌≡◌, ◌⊎◌, ℕ, ◌+◌, ◌-◌, ◌*◌, ◌^◌, ◌≤◌, ◌<◌, false, not, List, length, take, drop, ℤ, T, ltb, Float}
 use Rattle.std.proofs.Math.Option.{Option, none, some}
 use Rattle.ieee.specs.Within.{Within}
 use Rattle.model.specs.Lists.{count_if, all, is_empty}
@@ -70,12 +70,20 @@ abbrev pub SingleSmall : ℕ → Float → Type 0
 SingleSmall n x = Within (n * 2 ^ 31) x
 
 -- ---- evaluation
--- an offer's property is in range, and both sides of its threshold have rows
+-- how many of the rows are at or under the value
+abbrev pub rows_below : ℕ → ℤ → List Row → ℕ
+rows_below prop val rows = count_if (λ (r : Row). not (is_above prop val r)) rows
+
+-- "the count of rows at or under the threshold, neither 0 nor all" (02, a)
+pub record Below {M : Meter} (o : Offer M) (rows : List Row) : Type 0 where
+  pub is : o.below ≡ rows_below o.prop o.val rows
+  pub some_below : 0 < o.below
+  pub not_all : o.below < length rows
+
+-- an offer's property is in range, and it says how many rows go below
 abbrev pub OfferFits : {M : Meter} → List Row → Option (Offer M) → Type 0
 OfferFits rows none = Unit {0}
-OfferFits rows (some o) =
-    T (ltb o.prop props_per_row) × (0 < count_if (is_above o.prop o.val) rows)
-    × (count_if (is_above o.prop o.val) rows < length rows)
+OfferFits rows (some o) = T (ltb o.prop props_per_row) × Below o rows
 
 -- evaluation of at most so many rows stays in range; `Small n t` says that the total t is at most n units in size
 pub record JobFits {M : Meter} (Small : ℕ → M.Total → Type 0) (j : Job M) (most : ℕ) : Type 0 where

@@ -26,10 +26,10 @@ twin q =
     (cond (eqb q 21) (some 20)
     (cond (eqb q 23) (some 22) none)))))
 
--- the best split so far: a property, a threshold and its cost
+-- the best split so far: a property, a threshold, its cost, and the number of rows on the le side
 pub data Best (M : Meter) : Type 0 where
   nowhere : Best M
-  at : ℕ → ℤ → M.Cost → Best M
+  at : ℕ → ℤ → M.Cost → ℕ → Best M
 
 module _ {M : Meter} where
   -- the candidates of property q
@@ -47,8 +47,8 @@ module _ {M : Meter} where
   -- the first of the lowest over the properties
   abbrev pub better : Best M → ℕ → Score M → Best M
   better b q nothing = b
-  better nowhere q (threshold v c) = at q v c
-  better (at p w d) q (threshold v c) = cond (M.less c d) (at q v c) (at p w d)
+  better nowhere q (threshold v c n) = at q v c n
+  better (at p w d m) q (threshold v c n) = cond (M.less c d) (at q v c n) (at p w d m)
 
   unfoldable pub best_from : Settings M → List M.Cost → List ℕ → List Row → Best M → List ℕ → Best M
   best_from t logs ps rows best [] = best
@@ -62,9 +62,9 @@ module _ {M : Meter} where
   -- gain = (cost - first lowest score) - split cost, offered if above 0
   unfoldable pub offer_of : Settings M → M.Cost → Best M → Option (Offer M)
   offer_of t cost nowhere = none
-  offer_of t cost (at q v c) =
+  offer_of t cost (at q v c n) =
       let g = M.minus (M.minus cost c) t.split_cost in
-      cond (M.less M.nought g) (some (record { prop = q; val = v; gain = g })) none
+      cond (M.less M.nought g) (some (record { prop = q; val = v; gain = g; below = n })) none
 
   -- scored if rows ≥ smallest node, depth < 26, cost > split cost
   unfoldable pub is_scored : Settings M → ℕ → M.Cost → List Row → Bool

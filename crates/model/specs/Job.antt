@@ -10,6 +10,8 @@ pub record Offer (M : Meter) : Type 0 where
   pub prop : ℕ
   pub val : ℤ
   pub gain : M.Cost
+  -- the number of rows that go to le (02, a)
+  pub below : ℕ
 
 pub record Job (M : Meter) : Type 0 where
   -- residuals are given and modal offsets on

@@ -1,4 +1,5 @@
--- What growth keeps of a state: where the nodes' spans lie and which rows they hold, fields in range, small costs, and no more rows than were handed in.
+-- What growth keeps of a state: where the nodes' spans lie and which rows they hold, fields in range, small costs, no more rows than were handed in, and
+-- offers that say how many rows go below.
 -- Assumes nothing.
 use Rattle.std.specs.Prelude.{◌≡◌, ◌≢◌, ◌⊎◌, ℕ, ◌≤◌, ◌<◌, Bool, true, false, List, length, get_or, T, ltb}
 use Rattle.std.proofs.Math.Option.{Option, none, some}
@@ -11,6 +12,7 @@ use Rattle.model.specs.Tree.{Node, split, leaf, is_leaf}
 use Rattle.model.specs.Job.{Offer}
 use Rattle.model.specs.Grow.{Entry, State, no_entry, tree_nodes}
 use Rattle.model.specs.Promise.{SameRows}
+use Rattle.model.specs.Accepting.{Below}
 use Rattle.model.specs.Family.{Child, Family, Anc, passes}
 
 -- the span holds exactly the rows handed in whose way meets node k, each as often
@@ -53,6 +55,11 @@ module _ {M : Meter} where
         → fresh uses (within (entry_at s.tree k).span s.rows) ≡ within (entry_at s.tree k).span s.rows
     pub offers : (k : ℕ) → k < length s.tree → (o : Offer M) → (entry_at s.tree k).offer ≡ some o
         → T (is_leaf (entry_at s.tree k).node)
+
+  -- What each waiting leaf offers says how many rows of its span go below, as they stand: they stay so from its evaluation to its split
+  pub record Weighed (s : State M) : Type 0 where
+    pub offers : (k : ℕ) → k < length s.tree → (o : Offer M) → (entry_at s.tree k).offer ≡ some o
+        → Below o (within (entry_at s.tree k).span s.rows)
 
   -- the property of what an entry offers is in range
   abbrev pub OfferInRange : Option (Offer M) → Type 0

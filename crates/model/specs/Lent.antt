@@ -39,7 +39,7 @@ pub record Waiting (M : Meter) : Type 0 where
 
 -- all its fields are 0
 abbrev pub no_waiting : {M : Meter} → Waiting M
-no_waiting {M} = record { node = 0; depth = 0; offer = record { prop = 0; val = pos 0; gain = M.nought } }
+no_waiting {M} = record { node = 0; depth = 0; offer = record { prop = 0; val = pos 0; gain = M.nought; below = 0 } }
 
 -- 24 properties and 14 tokens a row, none or one residual a row, nodes with what stands beside them, spans, queue and count space
 pub record Lent (M : Meter) : Type 0 where

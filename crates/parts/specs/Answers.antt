@@ -6,4 +6,4 @@ use Rattle.parts.specs.declared.answers.Scored.{Scored}
 
 -- the score that an answer stands for
 abbrev pub score_out : Scored → Score singles
-score_out a = cond (eqb a.found 1) (threshold a.threshold a.cost) nothing
+score_out a = cond (eqb a.found 1) (threshold a.threshold a.cost a.below) nothing

@@ -5,7 +5,7 @@ ghost use Rattle.parts.specs.Answers.{score_out};
 
 use score::Threshold;
 
-// The best threshold of a property and its cost; found is 0 where there is none.
+// The best threshold of a property, its cost, and how many rows are at or under it; found is 0 where there is none.
 // Stays: a number beside the threshold, since an Option does not cross over to C.
 #[repr(C)]
 #[derive(Clone, Copy)]
@@ -13,6 +13,7 @@ pub struct Scored {
     pub found: u32,
     pub threshold: i32,
     pub cost: f32,
+    pub below: u32,
 }
 
 // What scoring found, as numbers.
@@ -25,11 +26,13 @@ impl From<Option<Threshold>> for Scored {
                 found: 0,
                 threshold: 0,
                 cost: 0.0,
+                below: 0,
             },
-            Some(Threshold { val, bits }) => Scored {
+            Some(Threshold { val, bits, below }) => Scored {
                 found: 1,
                 threshold: val,
                 cost: bits,
+                below,
             },
         }
     }

@@ -11,7 +11,7 @@ use Rattle.model.specs.Single.{singles}
 use Rattle.model.specs.Lent.{Waiting}
 use Rattle.std.specs.List.{copy_within}
 use Rattle.layout.specs.Waiting.{laid, words_per_leaf, QueueLists, queue_lists, Queued, QueueRoom, without, wait_words, wait_values, wait_gains}
-use Rattle.layout.proofs.Cells.{laid_append, laid_one, laid-length, laid-take, set-paste, stores_three}
+use Rattle.layout.proofs.Cells.{laid_append, laid_one, laid-length, laid-take, set-paste, stores_four}
 use Rattle.layout.proofs.Queue.{length_without}
 use Rattle.queue.specs.Lent.{put_waiting}
 
@@ -110,7 +110,7 @@ module _ (q : QueueLists) (leaves : List (Waiting singles)) (waiting : ℕ) (h :
       let many = h.many in
       record {
         many = ap (λ (n : ℕ). n + 1) h.many ∙ sym (length-append leaves (w ∷ []));
-        words = ap (take ((waiting + 1) * words_per_leaf)) (stores_three q.words (waiting * words_per_leaf) w.node w.offer.prop w.depth (omega (arith, room.words)))
+        words = ap (take ((waiting + 1) * words_per_leaf)) (stores_four q.words (waiting * words_per_leaf) w.node w.offer.prop w.depth w.offer.below (omega (arith, room.words)))
             ∙ rw many (put-behind wait_words words_per_leaf (λ w. refl) leaves q.words w (rw many at room.words) (rw many at h.words));
         values = ap (take (waiting + 1)) (set-paste q.values waiting w.offer.val (omega (arith, room.values)))
             ∙ rw many (rw (mul-one, mul-one) at

@@ -25,6 +25,7 @@ pub record PendingAt (q : QueueLists) (k : ℕ) (r : Pending) : Type 0 where
   pub depth : r.depth ≡ get_or q.words (k * words_per_leaf + 2) 0
   pub val : r.offer.val ≡ get_or q.values k (pos 0)
   pub gain : r.offer.gain ≡ get_or q.gains k nan
+  pub below : r.offer.below ≡ get_or q.words (k * words_per_leaf + 3) 0
 
 -- a waiting leaf in the model's terms
 abbrev pub waiting_is : Pending → Waiting singles
@@ -33,4 +34,4 @@ waiting_is p = record { node = p.node; depth = p.depth; offer = split_offered p.
 -- the lists with a leaf stored at place k
 abbrev pub put_waiting : ℕ → Waiting singles → QueueLists → QueueLists
 put_waiting k w q =
-    queue_lists (put_wait_words k w.node w.offer.prop w.depth q.words) (set q.values k w.offer.val) (set q.gains k w.offer.gain)
+    queue_lists (put_wait_words k w q.words) (set q.values k w.offer.val) (set q.gains k w.offer.gain)

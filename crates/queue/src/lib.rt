@@ -1,6 +1,6 @@
 // The queue of waiting leaves, in the order of their node numbers: so the first of the greatest gains has the lowest
-// number. It stands in three flat lists of numbers, as the C interface lends them: node, property and depth, then the
-// threshold, then the gain.
+// number. It stands in three flat lists of numbers, as the C interface lends them: node, property, depth and how many
+// rows go below, then the threshold, then the gain.
 #![tactic(auto)]
 
 ghost use Rattle.std.specs.Prelude.{◌≡◌, List, ◌++◌, ◌+◌, ◌-◌, ◌≤◌, ◌<◌, length};
@@ -14,8 +14,8 @@ ghost use Rattle.queue.specs.Lent.{queue_in, SameQueueLent, PendingAt, waiting_i
 
 use layout::Offer;
 
-// How many words a waiting leaf has: node, property and depth.
-const LEAF_WORDS: usize = 3;
+// How many words a waiting leaf has: node, property, depth and how many rows go below.
+const LEAF_WORDS: usize = 4;
 
 // A waiting leaf, with its depth and the split that it offers.
 #[derive(Clone, Copy)]
@@ -66,6 +66,7 @@ impl<'a> Queue<'a> {
                 prop: self.words[at + 1],
                 val: self.values[k],
                 gain: self.gains[k],
+                below: self.words[at + 3],
             },
         }
     }
@@ -100,6 +101,7 @@ impl<'a> Queue<'a> {
         self.words[at] = leaf.node;
         self.words[at + 1] = leaf.offer.prop;
         self.words[at + 2] = leaf.depth;
+        self.words[at + 3] = leaf.offer.below;
         self.values[k] = leaf.offer.val;
         self.gains[k] = leaf.offer.gain;
     }

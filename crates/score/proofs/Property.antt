@@ -305,8 +305,8 @@ module _ (ps : List ℤ) (tok : List ℕ) (first end prop : ℕ) (cands : List �
             go (no z) (yes e) = scored_no_gt (length (le k)) n val (lowest_to lane (length lanes)) z e ∙ sym (sides_no_gt t logs (preds_of lanes) val (le k) (gt k) (omega (arith, both k)))
             go (no z) (no e) =
                 scored-both (length (le k)) n val (lowest_to lane (length lanes)) z e
-                ∙ ap (λ (b : Float). threshold val (singles.plus b (lowest_to lane (length lanes)).gt)) lowest.0
-                ∙ ap (λ (b : Float). threshold val (singles.plus (side_cost t logs (preds_of lanes) (le k)) b)) lowest.1
+                ∙ ap (λ (b : Float). threshold val (singles.plus b (lowest_to lane (length lanes)).gt) (length (le k))) lowest.0
+                ∙ ap (λ (b : Float). threshold val (singles.plus (side_cost t logs (preds_of lanes) (le k)) b) (length (le k))) lowest.1
                 ∙ sym (sides-both t logs (preds_of lanes) val (le k) (gt k) (omega arith) (omega (arith, both k)))
 
         score_is_lem : scored_to (scored_at (summed stride (length cands * stride) (tallied_rows (bin_cell ps tok first prop cands lanes stride) (length lanes) (end - first) c)) node alphabet lanes stride (end - first) cands logs) (length cands)

@@ -55,7 +55,7 @@ module _ (size total : ℕ) (val : ℤ) (sides : Sides) where
   unfolding scored_sides
   scored_no_gt n e = rw (ne_eqb size 0 n, eq-eqb size total e)
 
-  pub scored-both : (size ≡ 0 → ⊥) → (size ≡ total → ⊥) → scored_sides size total val sides ≡ threshold val (singles.plus sides.le sides.gt)
+  pub scored-both : (size ≡ 0 → ⊥) → (size ≡ total → ⊥) → scored_sides size total val sides ≡ threshold val (singles.plus sides.le sides.gt) size
   unfolding scored_sides
   scored-both n m = rw (ne_eqb size 0 n, ne_eqb size total m)
 
@@ -72,7 +72,7 @@ module _ (t : Settings singles) (logs : List Float) (ps : List ℕ) (val : ℤ) 
   sides_no_gt (l ∷ ls) (g ∷ gs) h = absurd (omega arith)
 
   pub sides-both : (le gt : List Row) → 0 < length le → 0 < length gt
-      → score_sides t logs ps val le gt ≡ threshold val (singles.plus (side_cost t logs ps le) (side_cost t logs ps gt))
+      → score_sides t logs ps val le gt ≡ threshold val (singles.plus (side_cost t logs ps le) (side_cost t logs ps gt)) (length le)
   unfolding score_sides
   sides-both [] gt h k = absurd (omega arith)
   sides-both (l ∷ ls) [] h k = absurd (omega arith)
@@ -298,13 +298,13 @@ module _ (bin node : List ℕ) (alphabet : ℕ) (lanes : List Lane) (total : ℕ
 
   pub at_both : (size ≡ 0 → ⊥) → (size ≡ total → ⊥) → size ≤ total → total < length logs → (sides : Sides)
       → sides ≡ lowest_to (costs_at bin node alphabet lanes (record { le = get_or logs size nan; gt = get_or logs (total - size) nan }) logs) (length lanes)
-      → threshold val (singles.plus sides.le sides.gt) ≡ scored_bin bin node alphabet lanes total logs val
+      → threshold val (singles.plus sides.le sides.gt) size ≡ scored_bin bin node alphabet lanes total logs val
   unfolding scored_bin log_of
   at_both z f low reach sides e =
       let lowest : Float → Float → Sides = λ a b. lowest_to (costs_at bin node alphabet lanes (record { le = a; gt = b }) logs) (length lanes) in
       let le = get_d_any logs size nan singles.nought (omega arith) in
       let gt = get_d_any logs (total - size) nan singles.nought (omega arith) in
-      ap (λ (b : Sides). threshold val (singles.plus b.le b.gt))
+      ap (λ (b : Sides). threshold val (singles.plus b.le b.gt) size)
       (e ∙ ap (λ (a : Float). lowest a (get_or logs (total - size) nan)) le ∙ ap (lowest (get_or logs size singles.nought)) gt)
       ∙ sym (scored-both size total val (lowest (get_or logs size singles.nought) (get_or logs (total - size) singles.nought)) z f)
       ∙ ap (λ (n : ℕ). scored_sides n total val (lowest (get_or logs n singles.nought) (get_or logs (total - n) singles.nought))) is

@@ -14,10 +14,10 @@ use Rattle.score_sides.specs.declared.Sides.{Sides}
 use Rattle.score_sides.specs.Lowest.{run, costs_at, lowest_to, Ready}
 use Rattle.score.specs.declared.Threshold.{Threshold}
 
--- the answer as the model has it: nothing to offer, or a threshold with its cost in bits
+-- the answer as the model has it: nothing to offer, or a threshold with its cost in bits and the number of rows on its le side
 abbrev pub score_is : Option Threshold → model.Score singles
 score_is None = model.nothing
-score_is (Some t) = model.threshold t.val t.bits
+score_is (Some t) = model.threshold t.val t.bits t.below
 
 -- ---- what `score_property` asks
 
@@ -45,7 +45,7 @@ pub record Spare (s alphabet c : ℕ) (room : List ℕ) : Type 0 where
 
 -- of `total` rows, `size` at most the value: a threshold with an empty side is skipped
 unfoldable pub scored_sides : ℕ → ℕ → ℤ → Sides → model.Score singles
-scored_sides size total val sides = cond (eqb size 0) model.nothing (cond (eqb size total) model.nothing (model.threshold val (singles.plus sides.le sides.gt)))
+scored_sides size total val sides = cond (eqb size 0) model.nothing (cond (eqb size total) model.nothing (model.threshold val (singles.plus sides.le sides.gt) size))
 
 -- how many rows a bin counts: each has one token in the first window
 abbrev pub size_at : List ℕ → List Lane → ℕ

@@ -19,11 +19,12 @@ use score_bins::{SpanRows, SplitPlan};
 use score_sides::{SideCounts, Sides};
 use score_windows::{Lane, SideWindows};
 
-// A threshold with its cost in bits.
+// A threshold with its cost in bits, and how many rows are at or under it.
 #[derive(Clone, Copy)]
 pub struct Threshold {
     pub val: i32,
     pub bits: f32,
+    pub below: u32,
 }
 
 // The lower of two scores, the first at a tie.
@@ -72,6 +73,7 @@ fn score_at(bin: &[u32], counts: SideCounts, cand: i32) -> Option<Threshold>
     Some(Threshold {
         val: cand,
         bits: sides.le + sides.gt,
+        below: size,
     })
 }
 

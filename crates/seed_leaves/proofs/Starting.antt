@@ -27,7 +27,7 @@ use Rattle.model.specs.Deepen.{depths_of, rows_at, seed_split, empty_leaf, seed_
 use Rattle.model.proofs.Each.{each_get_d, each_append}
 use Rattle.model.proofs.Growing.{seed-sized}
 use Rattle.model.proofs.Invariant.{none_is_no_some}
-use Rattle.model.proofs.Seeds.{seed_keeps, seed-healthy}
+use Rattle.model.proofs.Seeds.{seed_keeps, seed-weighed, seed-healthy}
 use Rattle.model.proofs.SingleLawful.{single-lawful}
 use Rattle.model.proofs.Sound as sounds
 use Rattle.model.proofs.Tally.{tree-count}
@@ -323,6 +323,7 @@ module _ {job : Job} {counts : List ℕ} {x : Flat} {n : NodeLists} {q : QueueLi
         summed = done.sown.summed ∙ ap (λ (w : State singles). w.bits) state-is;
         inv = subst (λ (b : Bool). Invariant b (splits_of seed) (held_in x) st) (uses_still job.settings size)
             (seed_keeps single-lawful.bounds (job_in job x) seed (held_in x) c.lawful c.sound);
+        weighed = seed-weighed single-lawful.bounds (job_in job x) seed (held_in x) c.lawful c.sound;
         healthy = seed-healthy single-lawful.bounds (job_in job x) seed (held_in x) c.lawful c.sound;
         sized = subst (λ (k : ℕ). Sized Number k st) (sym (count_still size))
             (seed-sized Number (row_count x) (job_in job x) nought-number

@@ -31,6 +31,7 @@ split_rows-sides-requires c =
     let same = choosing.depth_is c.args.left g c.args.k asked.some_wait asked.best c.at-pending.result c.at-pending.ensures in
     record {
       fits = choosing.rows_fit c.args.left g c.args.k asked.some_wait asked.best c.at-pending.result c.at-pending.ensures _ refl;
+      below = choosing.below-is c.args.left g c.args.k asked.some_wait asked.best c.at-pending.result c.at-pending.ensures _ refl;
       shallow = omega (arith, same, choosing.shallow-leaf c.args.left g c.args.k asked.some_wait asked.best);
     }
 

@@ -1,7 +1,7 @@
--- `grow::split_rows` meets its contract: the partition, and then the two leaves. Assumes nothing.
+-- `grow::split_rows` meets its contract: the partition, its place from how many rows go below, and then the two leaves. Assumes nothing.
 use mathlib.Core.Path.{refl, sym, subst}
 use mathlib.Core.List.{List}
-use Prim.Native.Nat.{ℕ}
+use Prim.Native.Nat.{ℕ, ◌-◌}
 use native.Mathlib.Omega.{arith}
 use borrow.Author.Rules.{rules}
 use lib.IntN.{ℤ}
@@ -13,27 +13,32 @@ use Rattle.rows.specs.Flat.{Flat}
 use Rattle.rows.specs.Parted.{Partitioned}
 use Rattle.rows.specs.Lent.{flat_in}
 use Rattle.lent.specs.Fitting.{LeafFits}
-use Rattle.grow.proofs.Dividing.{gt-fits, le-fits, rows_split}
+use Rattle.grow.proofs.Dividing.{below_inside, placed, gt-fits, le-fits, rows_split}
 use Rattle.grow.proofs.split_rows.Goals as goal
 
 -- a threshold in range is the number that the partition was given
 given_val : {prop at : ℕ} {sp : Span} {x y : Flat} (val : ℤ) → SFits w32 val → Partitioned prop (to_z w32 (of_z w32 val)) sp x y at → Partitioned prop val sp x y at
 given_val val fits done = rw (to_z-of_z w32 val fits) at done
 
-pub overflow_cast-middle : goal.overflow_cast-middle
-overflow_cast-middle c =
-    let fits = gt-fits c.requires.fits c.partition-middle.ensures.rows in
-    record { fits = omega (arith, fits.fitting.few, fits.spanned.inside) }
+pub overflow_sub-middle : goal.overflow_sub-middle
+overflow_sub-middle c =
+    let fits : SFits w32 c.args.pending.offer.val = search rules in
+    below_inside c.requires.fits (given_val c.args.pending.offer.val fits c.partition.ensures.rows) c.requires.below
 
 pub make_leaf-gt-requires : goal.make_leaf-gt-requires
-make_leaf-gt-requires c = gt-fits c.requires.fits c.partition-middle.ensures.rows
+make_leaf-gt-requires c =
+    let fits : SFits w32 c.args.pending.offer.val = search rules in
+    gt-fits c.requires.fits (placed c.requires.fits (given_val c.args.pending.offer.val fits c.partition.ensures.rows) c.requires.below)
 
 pub make_leaf-le-requires : goal.make_leaf-le-requires
 make_leaf-le-requires c =
-    subst (λ (l : List ℕ). LeafFits (flat_in c.make_leaf-gt.new.rows) c.partition-middle.result c.args.span.end c.args.job l) (sym c.make_leaf-gt.ensures.zeros)
-    (le-fits c.requires.fits c.partition-middle.ensures.rows c.make_leaf-gt.ensures.answer)
+    let fits : SFits w32 c.args.pending.offer.val = search rules in
+    let done = placed c.requires.fits (given_val c.args.pending.offer.val fits c.partition.ensures.rows) c.requires.below in
+    subst (λ (l : List ℕ). LeafFits (flat_in c.make_leaf-gt.new.rows) (c.args.span.end - c.args.pending.offer.below) c.args.span.end c.args.job l) (sym c.make_leaf-gt.ensures.zeros)
+    (le-fits c.requires.fits done c.make_leaf-gt.ensures.answer)
 
 pub returns-clause-split : goal.returns-clause-split
 returns-clause-split c =
     let fits : SFits w32 c.args.pending.offer.val = search rules in
-    rows_split c.requires.fits (given_val c.args.pending.offer.val fits c.partition-middle.ensures.rows) c.make_leaf-gt.ensures.answer c.make_leaf-le.ensures.answer _ _ refl refl
+    let done = placed c.requires.fits (given_val c.args.pending.offer.val fits c.partition.ensures.rows) c.requires.below in
+    rows_split c.requires.fits done c.make_leaf-gt.ensures.answer c.make_leaf-le.ensures.answer _ _ refl refl

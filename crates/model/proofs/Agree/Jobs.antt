@@ -61,7 +61,7 @@ abbrev pub fill_spans : ℕ → ℕ → ℕ → List Span
 fill_spans fill first count = map (λ (i : ℕ). span ((fill + i) % 2 ^ 32) ((fill + i + 1) % 2 ^ 32)) (range first count)
 
 abbrev pub fill_waiting : ℕ → Waiting singles
-fill_waiting v = record { node = v; depth = v; offer = record { prop = v; val = word v; gain = f32 (v % 2 ^ 30) } }
+fill_waiting v = record { node = v; depth = v; offer = record { prop = v; val = word v; gain = f32 (v % 2 ^ 30); below = v } }
 
 abbrev pub settings : ℕ → ℕ → ℕ → ℕ → ℕ → ℕ → ℕ → ℕ → ℕ → ℕ → ℕ → Settings singles
 settings alphabet limit split_cost price smallest sides candidates weighted allowed modal settling =
