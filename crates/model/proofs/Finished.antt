@@ -51,7 +51,7 @@ unfolding fresh span_mode
 fresh-token rows e i h w = subst (λ (l : List Row). tok_of (get_or l i no_row) 0 ≡ zero_token (mode (res_of rows)) (get_or l i no_row).res) e (rebased-token (mode (res_of rows)) rows i h w)
 
 module _ {M : Meter} where
-  nodes_of_records : (es : List (Entry M)) → nodes_of (map record_of es) ≡ tree_nodes es
+  pub nodes_of_records : (es : List (Entry M)) → nodes_of (map record_of es) ≡ tree_nodes es
   nodes_of_records es = map-map (λ (r : Record M). r.node) record_of es
 
   -- ---- the result of a state, with blank entries up to `written`

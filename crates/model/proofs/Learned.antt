@@ -39,13 +39,13 @@ tokens_blind z r = ap (λ (n : ℕ). ltb 0 n) (length-set r.toks 0 z)
 module _ {M : Meter} (B : Bounds M) where
   -- ---- learning: limit - 1 steps from one leaf
   module _ (j : Job M) (limit : ℕ) (rows : List Row) (fit : JobFits B.Small j (length rows)) (low : 1 ≤ limit) (high : limit ≤ max_leaves) where
-    abbrev grown : State M
+    abbrev pub grown : State M
     grown = steps j (limit - 1) (root_state j rows)
 
-    grown_keeps : Invariant j.uses no_seeds rows grown
+    pub grown_keeps : Invariant j.uses no_seeds rows grown
     grown_keeps = steps-keep j no_seeds rows (limit - 1) (root_state j rows) (root_keeps j rows)
 
-    grown-healthy : Healthy B.Small no_seeds rows grown × (length grown.tree ≤ length (root_state j rows).tree + 2 * (limit - 1))
+    pub grown-healthy : Healthy B.Small no_seeds rows grown × (length grown.tree ≤ length (root_state j rows).tree + 2 * (limit - 1))
     grown-healthy = steps-healthy B j rows fit no_seeds (limit - 1) (root_state j rows) (root_keeps j rows) (root-healthy B j rows fit no_seeds)
 
     one-leaf : length (root_state j rows).tree ≡ 1
@@ -55,13 +55,16 @@ module _ {M : Meter} (B : Bounds M) where
     grown-few : length grown.tree ≤ 2 * limit - 1
     grown-few = omega (arith, grown-healthy.1, one-leaf)
 
+    pub grown-in_range : length grown.tree ≤ max_nodes
+    grown-in_range = omega (arith, grown-few)
+
     learned_kept : ResultKept j.uses rows (2 * limit - 1) (learned j limit rows)
     unfolding learned finished result_of
-    learned_kept = finished_kept B j no_seeds rows grown grown_keeps grown-healthy.0 (omega (arith, grown-few)) fit.price_small (j.flat rows) (2 * limit - 1) grown-few (λ p blind t. learned-formed j p blind limit rows t)
+    learned_kept = finished_kept B j no_seeds rows grown grown_keeps grown-healthy.0 grown-in_range fit.price_small (j.flat rows) (2 * limit - 1) grown-few (λ p blind t. learned-formed j p blind limit rows t)
 
     learned_fresh : T (all has_tokens rows) → T j.uses → T j.settling ⊎ (prunes j ≡ false) → ResultFresh (learned j limit rows)
     unfolding learned finished result_of
-    learned_fresh wide uses h = finished_tokens B j no_seeds rows grown grown_keeps grown-healthy.0 (omega (arith, grown-few)) fit.price_small (j.flat rows) uses (learned-formed j has_tokens tokens_blind limit rows wide) h
+    learned_fresh wide uses h = finished_tokens B j no_seeds rows grown grown_keeps grown-healthy.0 grown-in_range fit.price_small (j.flat rows) uses (learned-formed j has_tokens tokens_blind limit rows wide) h
 
   -- ---- deepening: from the seed's leaves
   module _ (j : Job M) (limit : ℕ) (seed : List (Record M)) (rows : List Row) (fit : JobFits B.Small j (length rows)) (faultless : fault_of seed ≡ none) where

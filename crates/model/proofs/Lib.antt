@@ -58,6 +58,8 @@ pub mod ContextNumbers
 pub mod OperationLaws
 pub mod StandardContexts
 pub mod SeedSplits
+pub mod Mapped
+pub mod SplitMap
 pub mod SettledPlain
 pub mod Promises
 pub mod Packing

@@ -5,8 +5,7 @@ use Prim.Native.Nat.{ℕ, zero, suc, ◌+◌, ◌-◌, ◌≤◌, ◌<◌}
 use native.Mathlib.Omega.{arith}
 use mathlib.Core.Bool.{Bool, true, false, cond}
 use mathlib.Core.List.{List, [], ◌∷◌, ◌++◌, map, map-append, append-nil}
-use lib.ListN.{length, get_or, set, take, drop, replicate, length-map, take-append-drop, get_or-map}
-use lib.Seq.{slice, take-take}
+use lib.ListN.{length, get_or, set, take, drop, replicate, length-map, get_or-map}
 use lib.Dec.{T}
 use Rattle.model.specs.Lists.{count_if}
 use Rattle.model.specs.Meter.{Meter}
@@ -22,19 +21,14 @@ use Rattle.model.proofs.Results.{ResultOneMore}
 use Rattle.model.proofs.Extended.{extended, length-extended, map-extended}
 use Rattle.model.proofs.Counting.{count_append, count_set_out}
 use Rattle.model.proofs.Paths.{T→true}
+use Rattle.model.proofs.Slices.{put_back}
 use Rattle.model.proofs.Invariant.{SplitOf, node_at, split_of}
 use Rattle.model.proofs.Steps.{step_is, steps-keep}
-
--- ---- settling changes nothing where the tokens are fresh
-put_back : (a b : ℕ) (rows : List Row) → a ≤ b → take a rows ++ slice a b rows ++ drop b rows ≡ rows
-put_back a b rows ab =
-    ap (λ (l : List Row). l ++ slice a b rows ++ drop b rows) (sym (take-take a b rows ab))
-    ∙ ap (λ (l : List Row). l ++ drop b rows) (take-append-drop a (take b rows))
-    ∙ take-append-drop b rows
 
 span-is : (s : Span) (a b : ℕ) → s.first ≡ a → s.end ≡ b → s ≡ record { first = a; end = b }
 span-is s a b p q = λ i. record { first = p i; end = q i }
 
+-- ---- settling changes nothing where the tokens are fresh
 module _ {M : Meter} where
   settled_same : (uses : Bool) (es : List (Entry M)) (rows : List Row)
       → ((k : ℕ) → k < length es → ((entry_at es k).span.first ≤ (entry_at es k).span.end) × (T (is_leaf (entry_at es k).node) → fresh uses (within (entry_at es k).span rows) ≡ within (entry_at es k).span rows))

@@ -245,6 +245,9 @@ module _ {M : Meter} where
           | no ne ↦ eqb-other (place_of y order) q (λ (z : place_of y order ≡ q). ne (sym (place_at y order my).1 ∙ ap (λ (k : ℕ). get_or order k 0) z)) ∙ sym (eqb-other y i ne)
         ]
 
+    pub found-again : (q : ℕ) → q < length order → place_of (get_or order q 0) order ≡ q
+    found-again q h = place-of order no_repeat q h
+
     -- ---- the entry under a new number
     pub entry_kept : (q : ℕ) → q < length order → entry_at kept q ≡ moved tree pn order (get_or order q 0)
     unfolding pruned_tree

@@ -10,7 +10,7 @@ use lib.ListN.{length, get_or, length-map, get_or-eq_default}
 use lib.IntN.{ℤ}
 use lib.Dec.{T}
 use Rattle.model.specs.Meter.{Meter}
-use Rattle.model.specs.Settings.{max_nodes, max_leaves}
+use Rattle.model.specs.Settings.{Settings, max_nodes, max_leaves}
 use Rattle.model.specs.Rows.{Row, Span, no_span}
 use Rattle.model.specs.Tree.{Node, split, leaf, is_leaf, Record, nodes_of, fault_of}
 use Rattle.model.specs.Job.{Job, prunes}
@@ -19,9 +19,10 @@ use Rattle.model.specs.Prune.{place_of, renumbered, moved, pruned_nodes, pruned_
 use Rattle.model.specs.Learn.{leaf_count, pruned, settled_state, finished}
 use Rattle.model.specs.Deepen.{seed_state, deepened}
 use Rattle.model.specs.Profile.{Profile, job_of}
-use Rattle.model.specs.Lent.{rows_in, uses_modes, tree_in}
-use Rattle.model.specs.SeedKept.{SeedsKept}
-use Rattle.model.specs.Accepting.{JobFits}
+use Rattle.model.specs.Lent.{Lent, rows_in, uses_modes, tree_in, lent_after}
+use Rattle.model.specs.Operations.{tree_of}
+use Rattle.model.specs.SeedKept.{SeedKept, SeedsKept}
+use Rattle.model.specs.Accepting.{SeedRooms, Passed, JobFits}
 use Rattle.model.specs.Family.{Child}
 use Rattle.model.specs.Kept.{entry_at, Invariant, Healthy}
 use Rattle.model.proofs.Lawful.{Bounds, Lawful}
@@ -104,7 +105,7 @@ module _ {M : Meter} (B : Bounds M) (j : Job M) (limit : ℕ) (seed : List (Reco
   abbrev tree : List (Entry M)
   tree = s.tree
 
-  inv : Invariant j.uses seeds rows s
+  pub inv : Invariant j.uses seeds rows s
   inv = deeper_keeps B j limit seed rows fit faultless
 
   ok : Healthy B.Small seeds rows s
@@ -175,7 +176,7 @@ module _ {M : Meter} (B : Bounds M) (j : Job M) (limit : ℕ) (seed : List (Reco
   abbrev done : State M
   done = settled_state j (pruned j s)
 
-  abbrev place : ℕ → ℕ
+  abbrev pub place : ℕ → ℕ
   place k = cond (prunes j) (place_of k order) k
 
   done-stands : TreeStands nodes done.tree place
@@ -198,9 +199,10 @@ module _ {M : Meter} (B : Bounds M) (j : Job M) (limit : ℕ) (seed : List (Reco
       rw (count-shown done n flat short) (reread nodes (length done.tree) done-stands (record_shown done n flat short) (span-shown done n flat short))
 
 -- ---- the operation
-pub seeds_kept_of : (P : Profile) → Lawful P → SeedsKept P
-seeds_kept_of P law t logs count x y a e =
-    let (p, rooms, faultless, ea, ey) = deepen-accepted P t logs x y count a e in
+-- in the lists after acceptance
+pub kept_after : (P : Profile) (law : Lawful P) (t : Settings P.meter) (logs : List P.meter.Cost) (count : ℕ) (x : Lent P.meter) → Passed P t logs x → SeedRooms count x → fault_of (tree_in count x.nodes) ≡ none
+    → let r = deepened_from P t logs count x in SeedKept P t count x (tree_of r) (lent_after r x)
+kept_after P law t logs count x p rooms faultless =
     let laws = result-laws law.bounds in
     let seed = tree_in count x.nodes in
     let j = job_of P t logs (uses_modes t x) in
@@ -210,11 +212,22 @@ seeds_kept_of P law t logs count x y a e =
     let r = deepened_from P t logs count x in
     let st = reread (nodes_of seed) r.count (result-stands law.bounds j t.limit seed (rows_in x) fit faultless high) (record_at_lem f) (span_at_lem f) in
     let n : length (nodes_of seed) ≡ count = same_length seed ∙ length-tree count x.nodes rooms.nodes in
-    rw (ea, ey) (record {
+    record {
       place = place law.bounds j t.limit seed (rows_in x) fit faultless high;
       root = st.root;
       inside = λ k h. st.inside k (rw n h);
       apart = λ i k hi hk. st.apart i k (rw n hi) (rw n hk);
       splits = λ k prop val gt le h q. st.splits k prop val gt le (rw n h) (node_of seed k ∙ ap (λ r. r.node) (read-tree count x.nodes k h) ∙ q);
       unpruned = λ un k. rw un;
-    })
+    }
+
+pub place-after : (P : Profile) (law : Lawful P) (t : Settings P.meter) (logs : List P.meter.Cost) (count : ℕ) (x : Lent P.meter) (p : Passed P t logs x) (rooms : SeedRooms count x)
+    (faultless : fault_of (tree_in count x.nodes) ≡ none) (k : ℕ) → (kept_after P law t logs count x p rooms faultless).place k
+    ≡ place law.bounds (job_of P t logs (uses_modes t x)) t.limit (tree_in count x.nodes) (rows_in x) (job-fits P law (result-laws law.bounds) t logs x p) faultless p.settings.limit.1 k
+unfolding kept_after
+place-after P law t logs count x p rooms faultless k = refl
+
+pub seeds_kept_of : (P : Profile) → Lawful P → SeedsKept P
+seeds_kept_of P law t logs count x y a e =
+    let (p, rooms, faultless, ea, ey) = deepen-accepted P t logs x y count a e in
+    rw (ea, ey) (kept_after P law t logs count x p rooms faultless)

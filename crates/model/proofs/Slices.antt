@@ -20,6 +20,13 @@ module _ {ℓ} {A : Type ℓ} where
       ∙ sym (drop-append-le c (take a m) (drop a m) (omega arith))
       ∙ ap (drop c) (take-append-drop a m)
 
+  -- the list put together again
+  pub put_back : (a b : ℕ) (l : List A) → a ≤ b → take a l ++ slice a b l ++ drop b l ≡ l
+  put_back a b l ab =
+      ap (λ (x : List A). x ++ slice a b l ++ drop b l) (sym (take-take a b l ab))
+      ∙ ap (λ (x : List A). x ++ drop b l) (take-append-drop a (take b l))
+      ∙ take-append-drop b l
+
   -- an element of a slice
   pub get_d_slice : (c d : ℕ) (l : List A) (i : ℕ) (z : A) → c + i < d → get_or (slice c d l) i z ≡ get_or l (c + i) z
   get_d_slice c d l i z h = get_or-drop c (take d l) i z ∙ get_or-take d l (c + i) z h

@@ -34,4 +34,5 @@ pub mod Family
 pub mod Kept
 pub mod SeedKept
 pub mod SettledPlain
+pub mod SplitMap
 pub mod Bench

@@ -43,7 +43,7 @@ Ran a y = record { outcome = accepted a; lent = lent_in y }
 ran : (a : Tree singles) (y : Records) (w : After (Tree singles) (Lent singles)) → w.outcome ≡ accepted a → lent_in y ≡ w.lent → w ≡ Ran a y
 ran a y w told left = λ i. record { outcome = told i; lent = sym left i }
 
-learnt : (s : Settings) (logs : List Float) (x y : Records) (a : Tree singles) → Learning s logs x (answered a) y → learn single (settings_of s) logs (lent_in x) ≡ Ran a y
+pub learnt : (s : Settings) (logs : List Float) (x y : Records) (a : Tree singles) → Learning s logs x (answered a) y → learn single (settings_of s) logs (lent_in x) ≡ Ran a y
 unfolding learn learn_refusal
 learnt s logs x y a run = ran a y (learn single (settings_of s) logs (lent_in x))
     (tree-told (lent_in x) _ _ (learn_refusal single (settings_of s) logs (lent_in x)) a (learn-numbered (settings_of s) logs (lent_in x)) run.answers) run.leaves

@@ -1,4 +1,4 @@
--- The two laws of runs, from the model's and the contracts. Assumes nothing.
+-- The three laws of runs, from the model's and the contracts. Assumes nothing.
 use mathlib.Core.Path.{◌≡◌, sym, ap, ◌∙◌}
 use mathlib.Core.Bool.{Bool}
 use mathlib.Core.List.{List}
@@ -13,13 +13,13 @@ use Rattle.model.specs.Operations.{After, Tree, learn, deepen}
 use Rattle.model.specs.Promise.{Unpruned}
 use Rattle.model.proofs.SingleLawful.{single-lawful}
 use Rattle.model.proofs.SettledPlain.{learn_refusal_plain, deepen_refusal_plain, learned-plain, deepened-plain, unless-same}
-use Rattle.model.proofs.Promises.{seeds_kept, settled_plain}
+use Rattle.model.proofs.Promises.{seeds_kept, settled_plain, split_map}
 use Rattle.refuse.specs.Given.{settings_of}
 use Rattle.refuse.specs.declared.Settings.{Settings}
 use Rattle.answers.specs.Answers.{learned_in}
 use Rattle.border.specs.Lists.{Records, lent_in, records_after, learn_records, deepen_records}
 use Rattle.promises.specs.Laws.{Laws}
-use Rattle.promises.proofs.Demand3.{deepened}
+use Rattle.promises.proofs.Demand3.{learnt, deepened}
 
 -- record by record and number by number as well
 module _ (t : model.Settings singles) (logs : List Float) (x : Records) (b : Bool) (unpruned : Unpruned single t) where
@@ -41,6 +41,8 @@ module _ {A : Type 0} (of : model.Settings singles → A) (s t : Settings) (one 
 pub laws : Laws
 laws = record {
   seeds_kept = λ s logs count x y a run. seeds_kept (settings_of s) logs count (lent_in x) (lent_in y) a (deepened s logs count x y a run);
+  learn_parts = λ s logs x y a run. split_map.learn_parts (settings_of s) logs (lent_in x) (lent_in y) a (learnt s logs x y a run);
+  deepen_parts = λ s logs count x y a run. split_map.deepen_parts (settings_of s) logs count (lent_in x) (lent_in y) a (deepened s logs count x y a run);
   learn_plain = λ s t logs x y z r q unpruned one run next.
       let e = same (λ (u : model.Settings singles). learn single u logs (lent_in x)) s t one (settled_plain.learn_plain (settings_of s) logs (lent_in x) t.settle unpruned) in
       let w = same (λ (u : model.Settings singles). learn_records u logs x) s t one (learn_records_plain (settings_of s) logs x t.settle unpruned) in (

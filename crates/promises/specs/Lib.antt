@@ -1,4 +1,4 @@
--- `Tied`: each contract asks nothing and says the relation that the promises are drawn from. `Demand1`, `Demand2`, `Demand3`: the demands, said of runs of the public operations. `Laws`: two
+-- `Tied`: each contract asks nothing and says the relation that the promises are drawn from. `Demand1`, `Demand2`, `Demand3`: the demands, said of runs of the public operations. `Laws`: three
 -- laws more.
 pub mod Tied
 pub mod Demand1
