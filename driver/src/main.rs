@@ -9,7 +9,7 @@ mod pruning;
 use driver::port::Counts;
 use std::io::{self, BufReader, BufWriter, Write};
 use std::process::ExitCode;
-use stream::{Damaged, Job, read_message, write_message};
+use stream::{Damaged, Job, Messages, write_message};
 
 fn main() -> ExitCode {
     if std::env::args().len() != 1 {
@@ -26,10 +26,13 @@ fn main() -> ExitCode {
 }
 
 fn answer_all() -> Result<(), Damaged> {
-    let mut input = BufReader::with_capacity(1 << 20, io::stdin().lock());
+    let input = BufReader::with_capacity(1 << 20, io::stdin().lock());
     let mut output = BufWriter::with_capacity(1 << 20, io::stdout().lock());
+    let Some(mut jobs) = Messages::greet(input, &mut output)? else {
+        return Ok(());
+    };
     let mut counts = Counts::default();
-    while let Some(message) = read_message(&mut input)? {
+    while let Some(message) = jobs.next_message()? {
         let answer = operations::answer(Job::read(&message)?, &mut counts);
         write_message(&mut output, &answer.message())?;
     }

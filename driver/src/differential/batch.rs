@@ -7,7 +7,7 @@ use std::collections::BTreeMap;
 use std::fs::File;
 use std::io::BufReader;
 use std::path::Path;
-use stream::{Message, read_message};
+use stream::{Message, Messages};
 
 /// How many jobs of each kind, and how many of them the oracle refused.
 pub type Tally = BTreeMap<u32, Counts>;
@@ -46,20 +46,26 @@ pub fn run(batch: &Batch, programs: &Programs, folder: &Path) -> Result<Compared
     }
 }
 
-fn open(path: &Path) -> Result<BufReader<File>> {
-    Ok(BufReader::with_capacity(1 << 20, File::open(path)?))
+fn open(path: &Path) -> Result<Messages<BufReader<File>>> {
+    let file = File::open(path)?;
+    Ok(Messages::open(BufReader::with_capacity(1 << 20, file))?)
 }
 
 fn compare(first: u64, jobs: &Path, oracle: &Path, driver: &Path) -> Result<Compared> {
     let (mut jobs, mut oracle, mut driver) = (open(jobs)?, open(oracle)?, open(driver)?);
+    if driver.version() != oracle.version() {
+        return Err(Failure(
+            "the driver has no answer to the version message".into(),
+        ));
+    }
     let mut tally = Tally::new();
     let mut difference: Option<Difference> = None;
     let mut index = first;
-    while let Some(job) = read_message(&mut jobs)? {
-        let expected = read_message(&mut oracle)?.ok_or_else(short)?;
+    while let Some(job) = jobs.next_message()? {
+        let expected = oracle.next_message()?.ok_or_else(short)?;
         count(&mut tally, &job, &expected);
         // A driver that failed has answered no job from here on.
-        let given = read_message(&mut driver).ok().flatten();
+        let given = driver.next_message().ok().flatten();
         let fell_out = given.is_none();
         if !given.is_some_and(|given| given.kind == expected.kind && given.body == expected.body) {
             note(&mut difference, index, job);
@@ -69,7 +75,7 @@ fn compare(first: u64, jobs: &Path, oracle: &Path, driver: &Path) -> Result<Comp
         }
         index += 1;
     }
-    match (read_message(&mut oracle)?, read_message(&mut driver)?) {
+    match (oracle.next_message()?, driver.next_message()?) {
         (None, None) => Ok(Compared { tally, difference }),
         _ => Err(Failure("more answers than jobs".into())),
     }

@@ -25,7 +25,7 @@ use std::io;
 use std::path::{Path, PathBuf};
 use std::process::ExitCode;
 use std::time::Instant;
-use stream::{Damaged, Message, write_message};
+use stream::{Damaged, Message};
 
 /// What went wrong, in words.
 pub struct Failure(pub String);
@@ -133,7 +133,5 @@ fn show_answers(job: &Path, programs: &Programs, folder: &Path) -> Result<()> {
 }
 
 fn store(path: &Path, job: &Message) -> Result<()> {
-    let mut bytes = Vec::new();
-    write_message(&mut bytes, job)?;
-    Ok(fs::write(path, bytes)?)
+    Ok(fs::write(path, programs::stream_of(job)?)?)
 }

@@ -7,7 +7,7 @@ use std::fs::{self, File};
 use std::io::Write;
 use std::path::{Path, PathBuf};
 use std::process::{Command, Stdio};
-use stream::{Message, write_message};
+use stream::{Message, STATE, version, write_message};
 
 pub struct Programs {
     generator: PathBuf,
@@ -61,12 +61,14 @@ impl Programs {
         Ok(names.map(str::to_owned).collect())
     }
 
-    /// Writes a batch's jobs.
+    /// Writes a batch's jobs, behind a version message as in every stream here.
     pub fn generate(&self, batch: &Batch, jobs: &Path) -> Result<()> {
         let numbers = [SEED, batch.count, batch.first].map(|number| number.to_string());
         let mut command = Command::new(&self.generator);
         command.arg(batch.family.name).args(numbers);
-        let done = command.stdout(File::create(jobs)?).status()?;
+        let mut jobs = File::create(jobs)?;
+        write_message(&mut jobs, &version(STATE))?;
+        let done = command.stdout(jobs).status()?;
         match done.success() {
             true => Ok(()),
             false => Err(Failure(format!("gen failed on {}", batch.family.name))),
@@ -95,15 +97,14 @@ impl Programs {
 
     /// Whether the two answer one job differently. A job that the oracle does not take is none.
     pub fn differs(&self, job: &Message) -> Result<bool> {
-        let mut bytes = Vec::new();
-        write_message(&mut bytes, job)?;
-        Ok(match answer(&self.oracle, &bytes)? {
+        let bytes = stream_of(job)?;
+        Ok(match answers(&self.oracle, &bytes)? {
             None => false,
-            expected => answer(&self.driver, &bytes)? != expected,
+            expected => answers(&self.driver, &bytes)? != expected,
         })
     }
 
-    /// The first message of a stream in words.
+    /// The first job or answer of a stream in words.
     pub fn show(&self, what: &str, stream: &Path) -> Result<String> {
         let mut command = Command::new(&self.show);
         command.args([OsStr::new(what), OsStr::new("0")]);
@@ -115,8 +116,16 @@ impl Programs {
     }
 }
 
-/// A program's answer to one job; `None` if it fails.
-fn answer(program: &Path, job: &[u8]) -> Result<Option<Vec<u8>>> {
+/// A stream of one job.
+pub fn stream_of(job: &Message) -> Result<Vec<u8>> {
+    let mut bytes = Vec::new();
+    write_message(&mut bytes, &version(STATE))?;
+    write_message(&mut bytes, job)?;
+    Ok(bytes)
+}
+
+/// A program's answers to a stream; `None` if it fails.
+fn answers(program: &Path, stream: &[u8]) -> Result<Option<Vec<u8>>> {
     let mut command = Command::new(program);
     command
         .stdin(Stdio::piped())
@@ -124,8 +133,8 @@ fn answer(program: &Path, job: &[u8]) -> Result<Option<Vec<u8>>> {
         .stderr(Stdio::null());
     let mut child = command.spawn()?;
     if let Some(mut input) = child.stdin.take() {
-        // A program that fails may leave some of the job unread; its status says so.
-        let _ = input.write_all(job);
+        // A program that fails may leave some of the stream unread; its status says so.
+        let _ = input.write_all(stream);
     }
     let done = child.wait_with_output()?;
     Ok(done.status.success().then_some(done.stdout))

@@ -1,11 +1,13 @@
 //! Makes job streams:
 //!
 //!     gen FAMILY SEED COUNT [FIRST] > jobs
+//!     gen --version > message
 //!     gen --list
 //!     gen --pairs < jobs > jobs
 //!
-//! A family, a seed and an index name one job, however many are asked for; the first index is 0, or FIRST. Of jobs from
-//! elsewhere pairs are made for demand 3: each learning and deepening as it is, then unpruned with limits k and k + 1.
+//! A family, a seed and an index name one job, however many are asked for; the first index is 0, or FIRST. The version
+//! message is to stand before all jobs of a stream, of whatever families. Of jobs from elsewhere pairs are made for
+//! demand 3: each learning and deepening as it is, then unpruned with limits k and k + 1.
 
 mod agree;
 mod draft;
@@ -25,7 +27,7 @@ mod trees;
 use rng::Rng;
 use std::io::{self, BufReader, BufWriter, Write};
 use std::process::ExitCode;
-use stream::{Damaged, Job, write_message};
+use stream::{Damaged, Job, STATE, version, write_message};
 
 /// Which job of a family.
 #[derive(Clone, Copy)]
@@ -114,8 +116,8 @@ const FAMILIES: &[Family] = &[
     family("agree", "63 tiny jobs fit for a proof checker, again and again", agree::agree),
 ];
 
-const USAGE: &str =
-    "usage: gen FAMILY SEED COUNT [FIRST] > jobs, or gen --list, or gen --pairs < jobs > jobs";
+const USAGE: &str = "usage: gen FAMILY SEED COUNT [FIRST] > jobs, or gen --version > message, \
+                     or gen --list, or gen --pairs < jobs > jobs";
 
 fn main() -> ExitCode {
     let arguments: Vec<String> = std::env::args().skip(1).collect();
@@ -123,6 +125,7 @@ fn main() -> ExitCode {
     let done = match arguments[..] {
         ["--list"] => list(),
         ["--pairs"] => write_pairs(),
+        ["--version"] => write_message(&mut io::stdout().lock(), &version(STATE)),
         [name, seed, count] => write_jobs(name, seed, count, "0"),
         [name, seed, count, first] => write_jobs(name, seed, count, first),
         _ => Err(Damaged(USAGE.into())),

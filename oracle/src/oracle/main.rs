@@ -24,7 +24,7 @@ mod bench;
 use coder_scratch::CoderScratch;
 use std::io::{self, BufReader, BufWriter, Write};
 use std::process::ExitCode;
-use stream::{Damaged, Job, read_message, write_message};
+use stream::{Damaged, Job, Messages, write_message};
 
 fn main() -> ExitCode {
     let options: Vec<_> = std::env::args().skip(1).collect();
@@ -46,10 +46,13 @@ fn main() -> ExitCode {
 }
 
 fn answer_all() -> Result<(), Damaged> {
-    let mut input = BufReader::with_capacity(1 << 20, io::stdin().lock());
+    let input = BufReader::with_capacity(1 << 20, io::stdin().lock());
     let mut output = BufWriter::with_capacity(1 << 20, io::stdout().lock());
+    let Some(mut jobs) = Messages::greet(input, &mut output)? else {
+        return Ok(());
+    };
     let mut scratch = CoderScratch::default();
-    while let Some(message) = read_message(&mut input)? {
+    while let Some(message) = jobs.next_message()? {
         let answer = operations::answer(Job::read(&message)?, &mut scratch)?;
         write_message(&mut output, &answer.message())?;
     }

@@ -1,4 +1,4 @@
-//! Prints one job or one answer of a stream in words, to look at a difference:
+//! Prints one job or one answer of a stream in words, to look at a difference; the first is 0, a version message none:
 //!
 //!     show job INDEX < jobs
 //!     show answer INDEX < answers
@@ -7,7 +7,7 @@ mod text;
 
 use std::io::{self, BufReader, Write};
 use std::process::ExitCode;
-use stream::{Answer, Damaged, Job, read_message};
+use stream::{Answer, Damaged, Job, Messages};
 
 const USAGE: &str = "usage: show (job|answer) INDEX < stream";
 
@@ -31,11 +31,11 @@ fn show(what: &str, index: &str) -> Result<String, Damaged> {
     let Ok(index) = index.parse::<u64>() else {
         return Err(Damaged(USAGE.into()));
     };
-    let mut input = BufReader::new(io::stdin().lock());
+    let mut messages = Messages::open(BufReader::new(io::stdin().lock()))?;
     for _ in 0..index {
-        read_message(&mut input)?;
+        messages.next_message()?;
     }
-    let Some(message) = read_message(&mut input)? else {
+    let Some(message) = messages.next_message()? else {
         return Err(Damaged(format!("the stream has no message {index}")));
     };
     match what {

@@ -1,15 +1,17 @@
 //! The job stream: one binary format for jobs and answers, so that comparing
 //! two programs is comparing their bytes. The format is described in the
-//! project's design notes (JOBS.md); this crate only reads and writes it.
+//! project's design notes (JOBS.md, JOBS-02.md); this crate only reads and writes it.
 
 mod answer;
 mod job;
 mod record;
+mod version;
 mod wire;
 
 pub use answer::{Answer, Contexts, Found, Learned, Pruned, Runs, Sampled, TokenOf, ValueOf};
 pub use job::{ContextsJob, Job, Learning, LookupJob, PruneJob, SampleJob, Settings};
 pub use record::{NodeList, Record, Span};
+pub use version::{Messages, STATE, version};
 pub use wire::{Damaged, Message, read_message, write_message};
 
 /// Properties of a row.

@@ -13,7 +13,7 @@ pub use counts::Tally;
 
 use std::fmt::Display;
 use std::io::Read;
-use stream::{Answer, Damaged, Job, Learned, Learning, read_message};
+use stream::{Answer, Damaged, Job, Learned, Learning, Messages};
 
 /// What is broken, in words.
 type Checked<T = ()> = Result<T, String>;
@@ -36,10 +36,14 @@ struct Run {
 /// Checks each answer, and each two neighbours that are jobs of learning or of deepening and differ only in the leaf
 /// limit, k and k + 1. Ends at the first promise that is broken.
 pub fn tally(jobs: &mut impl Read, answers: &mut impl Read) -> Result<Tally, Damaged> {
+    let (mut jobs, mut answers) = (Messages::open(jobs)?, Messages::open(answers)?);
+    if jobs.version() != answers.version() {
+        return Err(Damaged("a version message without its answer".into()));
+    }
     let mut tally = Tally::default();
     let mut before = None;
     loop {
-        let (job, answer) = match (read_message(jobs)?, read_message(answers)?) {
+        let (job, answer) = match (jobs.next_message()?, answers.next_message()?) {
             (None, None) => return Ok(tally),
             (Some(job), Some(answer)) => (Job::read(&job)?, Answer::read(&answer)?),
             _ => return Err(Damaged("not as many answers as jobs".into())),

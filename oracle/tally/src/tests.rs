@@ -6,8 +6,8 @@ use crate::{Tally, tally};
 use small::{deepening, folded, job, one_leaf, refused, settled, three_leaves, two_leaves};
 use stream::{
     Answer, Contexts, ContextsJob, Damaged, Found, Job, Learned, LookupJob, Message, NodeList,
-    PREDICTORS, PruneJob, Pruned, Record, Runs, SampleJob, Sampled, Span, TokenOf, ValueOf,
-    write_message,
+    PREDICTORS, PruneJob, Pruned, Record, Runs, STATE, SampleJob, Sampled, Span, TokenOf, ValueOf,
+    version, write_message,
 };
 
 fn bytes(messages: impl Iterator<Item = Message>) -> Vec<u8> {
@@ -245,6 +245,23 @@ fn a_refusal_that_changes_something_is_refused() {
         changes(&mut answer);
         refuses(&jobs, &[Answer::Learned(answer)], why);
     }
+}
+
+/// A version message is no job, and its answer no answer to one.
+#[test]
+fn versions_stand_apart() {
+    let job = || Job::Pack(vec![0]).message();
+    let answer = || Answer::Packed(vec![0]).message();
+    let told = |jobs: Vec<Message>, answers: Vec<Message>| {
+        let (jobs, answers) = (bytes(jobs.into_iter()), bytes(answers.into_iter()));
+        tally(&mut &jobs[..], &mut &answers[..]).map(|tally| tally.to_string())
+    };
+    let seen = told(vec![version(STATE), job()], vec![version(STATE), answer()]);
+    assert_eq!(seen.ok().as_deref(), Some("1 jobs, 1 accepted"));
+    assert!(told(vec![version(STATE), job()], vec![answer()]).is_err());
+    assert!(told(vec![job()], vec![version(STATE), answer()]).is_err());
+    assert!(told(vec![version(STATE)], vec![version(STATE + 1)]).is_err());
+    assert!(told(vec![job(), version(STATE)], vec![answer(), version(STATE)]).is_err());
 }
 
 #[test]
