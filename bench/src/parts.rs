@@ -73,6 +73,8 @@ fn scoring(sheet: &Sheet, rows: usize, tables: bool) {
                         port::score_property(
                             props.as_flattened(),
                             tok.as_flattened(),
+                            0,
+                            rows,
                             prop,
                             scoring.candidates(),
                             &windows,
@@ -83,7 +85,11 @@ fn scoring(sheet: &Sheet, rows: usize, tables: bool) {
                         )
                     }
                 });
-                (time, score.map(|(value, cost)| (value, cost.to_bits())))
+                let found = score.found == 1;
+                (
+                    time,
+                    found.then_some((score.threshold, score.cost.to_bits())),
+                )
             },
         );
     }

@@ -5,6 +5,7 @@
 
 mod operations;
 mod pruning;
+mod scoring;
 
 use driver::port::Counts;
 use std::io::{self, BufReader, BufWriter, Write};

@@ -1,7 +1,7 @@
 //! From a job to the port's answer. The public operations are crate `jobs`'s; a single part's job is laid out here as
 //! the part wants it.
 
-use crate::pruning;
+use crate::{pruning, scoring};
 use driver::port::{self, CANDIDATES, Counts, Rows};
 use stream::{Answer, Job, PREDICTORS, PROPERTIES};
 
@@ -19,11 +19,12 @@ pub fn answer(job: Job, counts: &mut Counts) -> Answer {
         Job::Candidates(column, limit) => candidates(&column, limit, counts),
         Job::Partition(column, threshold) => partition(&column, threshold),
         Job::Prune(job) => Answer::Pruned(pruning::prune(&job)),
+        Job::Score(job) => Answer::Scored(scoring::score(&job)),
     }
 }
 
 /// A pattern for what must stay or move along: row and column tell the entries apart.
-fn mark(row: usize, column: usize) -> u8 {
+pub fn mark(row: usize, column: usize) -> u8 {
     (row * 31 + column * 7 + 1) as u8
 }
 

@@ -13,7 +13,7 @@ const COUNTS: usize = 4_096;
 /// Most candidates.
 pub const CANDIDATES: usize = 32;
 /// Most rows.
-const ROWS: usize = 65_536;
+pub const ROWS: usize = 65_536;
 
 /// How many nodes pruning leaves, and their estimated bits.
 #[repr(C)]
@@ -22,12 +22,13 @@ pub struct PrunedTree {
     pub bits: f64,
 }
 
-/// The best threshold of a property and its cost.
+/// The best threshold of a property, its cost, and how many rows are at or under it; found is 0 where there is none.
 #[repr(C)]
 pub struct Scored {
     pub found: u32,
     pub threshold: i32,
     pub cost: f32,
+    pub below: u32,
 }
 
 /// A side predictor with its window: the first token, how many there are, and where the window starts in a bin.
@@ -333,18 +334,20 @@ impl Windows {
     }
 }
 
-/// The best of a property's candidates over all rows.
+/// The best of a property's candidates over the rows from first to end.
 ///
 /// # Safety
 ///
-/// There are 24 properties and 14 tokens a row, at most 65,536 rows; the tokens are below the
-/// alphabet, `node` counts them, and the windows are of `node`; the candidates, at most 32, ascend; the
-/// logarithms reach the number of rows, each from 0 to 32; the room is zeros and has as many numbers as
-/// predictors × alphabet × (candidates + 2).
+/// There are 24 properties and 14 tokens a row; the rows are there, and end is at most 65,536; their tokens are
+/// below the alphabet, which is 1 to 256, `node` counts them, and the windows are of `node` and at least one; the
+/// candidates, at most 32, ascend; the logarithms reach the number of rows, each from 0 to 32; the room is zeros and
+/// has as many numbers as predictors × alphabet × (candidates + 2).
 #[allow(clippy::too_many_arguments)]
 pub unsafe fn score_property(
     props: &[i32],
     tok: &[u8],
+    first: usize,
+    end: usize,
     prop: usize,
     cands: &[i32],
     windows: &Windows,
@@ -352,9 +355,9 @@ pub unsafe fn score_property(
     node: &[u32],
     logs: &[f32],
     room: &mut [u32],
-) -> Option<(i32, f32)> {
+) -> Scored {
     // SAFETY: the pointers and the lengths are slices'; the caller sees to the rest.
-    let scored = unsafe {
+    unsafe {
         c::ostrovuc_score_property(
             props.as_ptr(),
             props.len(),
@@ -370,12 +373,11 @@ pub unsafe fn score_property(
             logs.len(),
             room.as_mut_ptr(),
             room.len(),
-            0,
-            props.len() / PROPERTIES,
+            first,
+            end,
             prop,
             windows.stride,
             alphabet,
         )
-    };
-    (scored.found == 1).then_some((scored.threshold, scored.cost))
+    }
 }

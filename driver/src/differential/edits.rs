@@ -4,7 +4,9 @@ use crate::Result;
 use crate::shrink::{Number, Shrinker};
 use crate::trees;
 use std::ops::Range;
-use stream::{ContextsJob, Learning, LookupJob, PREDICTORS, PROPERTIES, PruneJob, SampleJob};
+use stream::{
+    ContextsJob, Learning, LookupJob, PREDICTORS, PROPERTIES, PruneJob, SampleJob, ScoreJob,
+};
 
 /// Learning and deepening: rows, settings, the seed, room, then what the rows hold.
 pub fn learning(s: &mut Shrinker<'_, Learning>) -> Result<()> {
@@ -22,12 +24,14 @@ pub fn learning(s: &mut Shrinker<'_, Learning>) -> Result<()> {
     Ok(())
 }
 
-/// Takes rows out of every list, as far as each one goes.
+/// Takes rows with so many entries each out of a list, as far as it goes.
+fn cut<T>(list: &mut Vec<T>, rows: &Range<usize>, each: usize) {
+    let end = list.len().min(rows.end * each);
+    list.drain(end.min(rows.start * each)..end);
+}
+
+/// Takes rows out of every list.
 fn drop_rows(job: &mut Learning, rows: Range<usize>) {
-    fn cut<T>(list: &mut Vec<T>, rows: &Range<usize>, each: usize) {
-        let end = list.len().min(rows.end * each);
-        list.drain(end.min(rows.start * each)..end);
-    }
     cut(&mut job.properties, &rows, PROPERTIES);
     cut(&mut job.tokens, &rows, PREDICTORS);
     cut(&mut job.residuals, &rows, 1);
@@ -134,6 +138,35 @@ pub fn prune(s: &mut Shrinker<'_, PruneJob>) -> Result<()> {
         s.lower(|job| &mut job.spans[at].end)?;
     }
     Ok(())
+}
+
+/// Scoring: rows, candidates, side predictors, then what they hold. An edit that makes it a job of no learner's is not
+/// kept, since the oracle does not take that.
+pub fn score(s: &mut Shrinker<'_, ScoreJob>) -> Result<()> {
+    s.pieces(|job| job.column.len(), drop_scored_rows)?;
+    s.pieces(
+        |job| job.candidates.len(),
+        |job, piece| drop(job.candidates.drain(piece)),
+    )?;
+    s.pieces(
+        |job| job.side_predictors.len(),
+        |job, piece| drop(job.side_predictors.drain(piece)),
+    )?;
+    s.numbers(|job| &mut job.column)?;
+    s.numbers(|job| &mut job.candidates)?;
+    s.numbers(|job| &mut job.tokens)?;
+    s.numbers(|job| &mut job.side_predictors)?;
+    s.lower(|job| &mut job.alphabet)?;
+    s.shorten(|job| &mut job.logarithms)?;
+    s.attempt(|job| job.logarithms = logarithms(job.logarithms.len()))?;
+    Ok(())
+}
+
+/// There is a logarithm for every count of the rows that are left.
+fn drop_scored_rows(job: &mut ScoreJob, rows: Range<usize>) {
+    cut(&mut job.column, &rows, 1);
+    cut(&mut job.tokens, &rows, PREDICTORS);
+    job.logarithms.truncate(job.column.len() + 1);
 }
 
 /// A list of numbers: fewer of them, then nearer to 0.

@@ -13,7 +13,7 @@ const SHOWN: usize = 40;
 /// Without a terminal, a line after so much time.
 const PAUSE: Duration = Duration::from_secs(15);
 
-const KINDS: [(u32, &str); 12] = [
+const KINDS: [(u32, &str); 13] = [
     (1, "learning"),
     (2, "deepening"),
     (3, "lookup"),
@@ -26,6 +26,7 @@ const KINDS: [(u32, &str); 12] = [
     (17, "candidates"),
     (18, "partition"),
     (19, "pruning"),
+    (48, "scoring"),
 ];
 
 /// 1234567 as 1,234,567.

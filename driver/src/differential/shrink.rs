@@ -40,6 +40,7 @@ pub fn smallest(job: &Message, differs: Differs<'_>) -> Result<Shrunk> {
             rounds((column, threshold), wrap, differs, edits::column)
         }
         Job::Prune(job) => rounds(job, Job::Prune, differs, edits::prune),
+        Job::Score(job) => rounds(job, Job::Score, differs, edits::score),
     }
 }
 

@@ -3,7 +3,7 @@
 //! private parts without making them public.
 
 use super::*;
-use stream::{Record, Settings, Span};
+use stream::{Record, ScoreJob, Settings, Span};
 
 /// A tree with what stands beside its nodes.
 pub(crate) struct Tree {
@@ -147,7 +147,17 @@ pub(crate) fn entropy(hist: &[u32], total: u32) -> f32 {
     hist_entropy_bits(hist, total)
 }
 
-/// One property planned for scoring, for the benchmark: what the original makes once a node.
+/// The best threshold among a job's own candidates, with its cost.
+pub(crate) fn score(job: &ScoreJob, scratch: &mut CoderScratch) -> Option<(i32, f32)> {
+    let rows: Vec<_> = job.column.iter().map(|&v| [v; NUM_MA_PROPS]).collect();
+    let (tokens, _) = job.tokens.as_chunks();
+    let preds: Vec<_> = job.side_predictors.iter().map(|&p| p as usize).collect();
+    let mut scoring = Scoring::of_node(tokens, &preds, job.alphabet as usize, scratch);
+    scoring.propose(&job.candidates);
+    scoring.score(&rows, tokens, &mut Vec::new(), scratch)
+}
+
+/// One property planned for scoring: what the original makes once a node.
 pub(crate) struct Scoring {
     plan: SplitPlan,
     luts: Vec<u8>,
@@ -159,7 +169,7 @@ pub(crate) struct Scoring {
 }
 
 impl Scoring {
-    /// `None` if the property has no candidates. Without tables each value's bin is searched for.
+    /// For the benchmark. `None` if the property has no candidates. Without tables each value's bin is searched for.
     pub(crate) fn of(
         rows: &[[i32; NUM_MA_PROPS]],
         tokens: &[[u8; NUM_MA_PREDS]],
@@ -169,9 +179,24 @@ impl Scoring {
         tables: bool,
         scratch: &mut CoderScratch,
     ) -> Option<Self> {
-        renew_logs(scratch);
+        let mut scoring = Self::of_node(tokens, preds, alphabet, scratch);
+        let stride = scoring.window.bin_stride;
         let scratch = &mut scratch.ma_property;
-        scratch.prepare(alphabet);
+        let luts = &mut scoring.luts;
+        scoring.plan = plan_split(rows, prop, MAX_CANDIDATES, stride, 0, luts, scratch)?;
+        scoring.plan.use_lut &= tables;
+        Some(scoring)
+    }
+
+    /// The node's counts and windows; property 0, and no candidates yet.
+    fn of_node(
+        tokens: &[[u8; NUM_MA_PREDS]],
+        preds: &[usize],
+        alphabet: usize,
+        scratch: &mut CoderScratch,
+    ) -> Self {
+        renew_logs(scratch);
+        scratch.ma_property.prepare(alphabet);
         let mut node = vec![0; NUM_MA_PREDS * alphabet];
         count_tokens(&mut node, alphabet, tokens);
         let mut extra_bits = [0; NUM_MA_PREDS];
@@ -179,19 +204,21 @@ impl Scoring {
             *bits = raw_bits_from_hist(hist);
         }
         let window = SymbolWindow::new(preds, alphabet, &node);
-        let mut luts = Vec::new();
-        let stride = window.bin_stride;
-        let mut plan = plan_split(rows, prop, MAX_CANDIDATES, stride, 0, &mut luts, scratch)?;
-        plan.use_lut &= tables;
-        Some(Self {
-            plan,
-            luts,
+        Self {
+            plan: no_plan(window.bin_stride),
+            luts: Vec::new(),
             preds: preds.to_vec(),
             alphabet,
             window,
             node,
             extra_bits,
-        })
+        }
+    }
+
+    /// Takes other candidates than the original picks.
+    fn propose(&mut self, candidates: &[i32]) {
+        self.plan.cands[..candidates.len()].copy_from_slice(candidates);
+        self.plan.ncand = candidates.len() as u8;
     }
 
     pub(crate) fn candidates(&self) -> &[i32] {
@@ -225,6 +252,21 @@ impl Scoring {
             rows.len() as u32,
             &mut scratch.ma_property,
         )
+    }
+}
+
+/// A plan without candidates, in which each value's bin is searched for.
+fn no_plan(bin_stride: usize) -> SplitPlan {
+    SplitPlan {
+        prop: 0,
+        ncand: 0,
+        use_lut: false,
+        lo_v: 0,
+        hi_v: 0,
+        lut_start: 0,
+        hist_start: 0,
+        bin_stride: bin_stride as u32,
+        cands: [0; MAX_CANDIDATES],
     }
 }
 

@@ -20,6 +20,8 @@ mod util;
 
 #[cfg(test)]
 mod bench;
+#[cfg(test)]
+mod scores;
 
 use coder_scratch::CoderScratch;
 use std::io::{self, BufReader, BufWriter, Write};

@@ -10,7 +10,8 @@ use crate::ma_tree::{MaProperties, MaSamples, hooks};
 use crate::refusals::{self, Refusal};
 use stream::{
     Answer, Contexts, ContextsJob, Damaged, Found, Job, Learned, Learning, LookupJob, PREDICTORS,
-    PROPERTIES, PruneJob, Pruned, Record, Runs, SampleJob, Sampled, Span, TokenOf, ValueOf,
+    PROPERTIES, PruneJob, Pruned, Record, Runs, SampleJob, Sampled, ScoreJob, Scored, Span,
+    TokenOf, ValueOf,
 };
 
 pub(crate) fn answer(job: Job, scratch: &mut CoderScratch) -> Result<Answer, Damaged> {
@@ -32,6 +33,7 @@ pub(crate) fn answer(job: Job, scratch: &mut CoderScratch) -> Result<Answer, Dam
             Answer::Partitioned(above as u32, column)
         }
         Job::Prune(job) => Answer::Pruned(prune(job)?),
+        Job::Score(job) => Answer::Scored(score(&job, scratch)),
     })
 }
 
@@ -188,4 +190,19 @@ fn prune(job: PruneJob) -> Result<Pruned, Damaged> {
         nodes,
         spans,
     })
+}
+
+/// The original gives the threshold and its cost. How many rows are at or under it is counted here, row by row.
+fn score(job: &ScoreJob, scratch: &mut CoderScratch) -> Scored {
+    adaptive_quant::lend(&job.logarithms, job.column.len());
+    let Some((threshold, cost)) = hooks::score(job, scratch) else {
+        return Scored::default();
+    };
+    let below = job.column.iter().filter(|&&value| value <= threshold);
+    Scored {
+        found: true,
+        threshold,
+        cost,
+        below: below.count() as u32,
+    }
 }

@@ -4,7 +4,7 @@
 use std::fmt::Write;
 use stream::{
     Answer, Contexts, ContextsJob, Job, Learned, Learning, LookupJob, NodeList, PREDICTORS,
-    PROPERTIES, PruneJob, Pruned, Record, SampleJob, Sampled, Settings, Span,
+    PROPERTIES, PruneJob, Pruned, Record, SampleJob, Sampled, ScoreJob, Scored, Settings, Span,
 };
 
 pub fn job(job: &Job) -> String {
@@ -23,6 +23,7 @@ pub fn job(job: &Job) -> String {
             format!("partition of column {list:?} above {threshold}\n")
         }
         Job::Prune(job) => prune(job),
+        Job::Score(job) => score(job),
     }
 }
 
@@ -58,6 +59,7 @@ pub fn answer(answer: &Answer) -> String {
         Answer::Candidates(list) => format!("candidates {list:?}\n"),
         Answer::Partitioned(above, list) => format!("{above} rows above, column {list:?}\n"),
         Answer::Pruned(answer) => pruned(answer),
+        Answer::Scored(answer) => scored(answer),
     }
 }
 
@@ -146,10 +148,38 @@ fn pruned(answer: &Pruned) -> String {
     )
 }
 
+fn score(job: &ScoreJob) -> String {
+    let mut text = format!(
+        "score candidates {:?}: alphabet {}, side predictors {:?}\n",
+        job.candidates, job.alphabet, job.side_predictors
+    );
+    text += &logarithms(&job.logarithms);
+    let rows = job.column.iter().zip(job.tokens.chunks(PREDICTORS));
+    for (row, (value, tokens)) in rows.enumerate() {
+        text += &format!("row {row}: value {value}, tokens {tokens:?}\n");
+    }
+    text
+}
+
+fn scored(answer: &Scored) -> String {
+    let Scored {
+        found,
+        threshold,
+        cost,
+        below,
+    } = answer;
+    let found = if *found { "found" } else { "nothing found" };
+    format!("{found}: threshold {threshold}, cost {cost:?}, {below} rows at or under it\n")
+}
+
+fn logarithms(list: &[f32]) -> String {
+    let list: Vec<String> = list.iter().map(f32::to_string).collect();
+    format!("logarithms {}\n", list.join(" "))
+}
+
 fn learning(what: &str, job: &Learning) -> String {
-    let logarithms: Vec<String> = job.logarithms.iter().map(f32::to_string).collect();
     let mut text = format!("{what}: {}\n", settings(&job.settings));
-    text += &format!("logarithms {}\n", logarithms.join(" "));
+    text += &logarithms(&job.logarithms);
     text += &format!(
         "room: {} nodes, {} spans, {} queue, {} counts; fill {}\n",
         job.nodes.entries, job.span_entries, job.queue_entries, job.count_entries, job.fill

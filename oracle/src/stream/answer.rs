@@ -1,6 +1,7 @@
 //! Answers.
 
 use crate::record::{Record, Span};
+use crate::score::Scored;
 use crate::wire::{Message, Reader, Result, Wire, damaged, wire_struct};
 
 /// A list as runs of equal entries: (value, length) each.
@@ -199,6 +200,7 @@ pub enum Answer {
     /// Rows above, and the column.
     Partitioned(u32, Vec<i32>),
     Pruned(Pruned),
+    Scored(Scored),
 }
 
 impl Answer {
@@ -217,6 +219,7 @@ impl Answer {
             17 => Self::Candidates(body.get()?),
             18 => Self::Partitioned(body.get()?, body.get()?),
             19 => Self::Pruned(body.get()?),
+            48 => Self::Scored(body.get()?),
             other => return damaged(format!("no answer has kind {other}")),
         };
         body.done()?;
@@ -237,6 +240,7 @@ impl Answer {
             Self::Candidates(_) => 17,
             Self::Partitioned(..) => 18,
             Self::Pruned(_) => 19,
+            Self::Scored(_) => 48,
         }
     }
 
@@ -260,6 +264,7 @@ impl Answer {
                 column.write(&mut body);
             }
             Self::Pruned(answer) => answer.write(&mut body),
+            Self::Scored(answer) => answer.write(&mut body),
         }
         Message {
             kind: self.kind(),

@@ -1,6 +1,7 @@
 //! Jobs.
 
 use crate::record::{NodeList, Record, Span};
+use crate::score::ScoreJob;
 use crate::wire::{Message, Reader, Result, Wire, damaged, wire_struct};
 
 #[derive(Clone, Debug, PartialEq)]
@@ -138,6 +139,7 @@ pub enum Job {
     /// A column and the threshold.
     Partition(Vec<i32>, i32),
     Prune(PruneJob),
+    Score(ScoreJob),
 }
 
 impl Job {
@@ -156,19 +158,21 @@ impl Job {
             17 => Self::Candidates(body.get()?, body.get()?),
             18 => Self::Partition(body.get()?, body.get()?),
             19 => Self::Prune(body.get()?),
+            48 => Self::Score(body.get()?),
             other => return damaged(format!("no job has kind {other}")),
         };
         body.done()?;
         job.shaped()
     }
 
-    /// Two things that fields alone cannot say.
+    /// Three things that fields alone cannot say.
     fn shaped(self) -> Result<Self> {
         match &self {
             Self::Learn(job) if job.seed_count != 0 => damaged("learning takes no seed"),
             Self::Prune(job) if job.nodes.len() != job.spans.len() => {
                 damaged("pruning wants a span for each node")
             }
+            Self::Score(job) if !job.is_sound() => damaged("scoring of what no learner has"),
             _ => Ok(self),
         }
     }
@@ -187,6 +191,7 @@ impl Job {
             Self::Candidates(..) => 17,
             Self::Partition(..) => 18,
             Self::Prune(_) => 19,
+            Self::Score(_) => 48,
         }
     }
 
@@ -209,6 +214,7 @@ impl Job {
                 threshold.write(&mut body);
             }
             Self::Prune(job) => job.write(&mut body),
+            Self::Score(job) => job.write(&mut body),
         }
         Message {
             kind: self.kind(),

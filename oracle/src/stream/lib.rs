@@ -5,12 +5,14 @@
 mod answer;
 mod job;
 mod record;
+mod score;
 mod version;
 mod wire;
 
 pub use answer::{Answer, Contexts, Found, Learned, Pruned, Runs, Sampled, TokenOf, ValueOf};
 pub use job::{ContextsJob, Job, Learning, LookupJob, PruneJob, SampleJob, Settings};
 pub use record::{NodeList, Record, Span};
+pub use score::{ScoreJob, Scored};
 pub use version::{Messages, STATE, version};
 pub use wire::{Damaged, Message, read_message, write_message};
 
@@ -18,3 +20,7 @@ pub use wire::{Damaged, Message, read_message, write_message};
 pub const PROPERTIES: usize = 24;
 /// Tokens of a row, one for each predictor.
 pub const PREDICTORS: usize = 14;
+/// Rows of a job, at most.
+pub const MOST_ROWS: usize = 65_536;
+/// Candidates of a property, at most.
+pub const MOST_CANDIDATES: usize = 32;

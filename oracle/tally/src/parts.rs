@@ -5,7 +5,7 @@ use crate::{Checked, ensure};
 use std::collections::BTreeSet;
 use stream::{
     Answer, Contexts, ContextsJob, Found, Job, LookupJob, PROPERTIES, PruneJob, Pruned, Record,
-    Runs, SampleJob, Sampled, Span, TokenOf, ValueOf,
+    Runs, SampleJob, Sampled, ScoreJob, Scored, Span, TokenOf, ValueOf,
 };
 
 pub fn check(job: &Job, answer: &Answer) -> Checked {
@@ -33,6 +33,7 @@ pub fn check(job: &Job, answer: &Answer) -> Checked {
             partition(column, *threshold, *above as usize, moved)
         }
         (Job::Prune(job), Answer::Pruned(answer)) => prune(job, answer),
+        (Job::Score(job), Answer::Scored(answer)) => score(job, answer),
         _ => Err("an answer of another kind".into()),
     }
 }
@@ -210,4 +211,35 @@ fn prune(job: &PruneJob, answer: &Pruned) -> Checked {
         )?;
     }
     Ok(())
+}
+
+/// One of the candidates with rows on both sides, and how many are on the le side; nothing only if there is none.
+fn score(job: &ScoreJob, answer: &Scored) -> Checked {
+    let rows = job.column.len();
+    let below = |threshold: i32| {
+        job.column
+            .iter()
+            .filter(|&&value| value <= threshold)
+            .count()
+    };
+    if !answer.found {
+        let parts = |&candidate: &i32| (1..rows).contains(&below(candidate));
+        let rest = (answer.threshold, answer.cost.to_bits(), answer.below);
+        ensure(rest == (0, 0, 0), "nothing found, yet more is said")?;
+        return ensure(
+            !job.candidates.iter().any(parts),
+            "nothing found, where a candidate has rows on both sides",
+        );
+    }
+    ensure(
+        job.candidates.contains(&answer.threshold),
+        "the threshold is no candidate",
+    )?;
+    let count = answer.below as usize;
+    ensure(
+        count == below(answer.threshold),
+        "not the rows at or under the threshold",
+    )?;
+    ensure((1..rows).contains(&count), "a side is empty")?;
+    ensure(!answer.cost.is_nan(), "the cost is no number")
 }

@@ -6,8 +6,8 @@ use crate::{Tally, tally};
 use small::{deepening, folded, job, one_leaf, refused, settled, three_leaves, two_leaves};
 use stream::{
     Answer, Contexts, ContextsJob, Damaged, Found, Job, Learned, LookupJob, Message, NodeList,
-    PREDICTORS, PruneJob, Pruned, Record, Runs, STATE, SampleJob, Sampled, Span, TokenOf, ValueOf,
-    version, write_message,
+    PREDICTORS, PruneJob, Pruned, Record, Runs, STATE, SampleJob, Sampled, ScoreJob, Scored, Span,
+    TokenOf, ValueOf, version, write_message,
 };
 
 fn bytes(messages: impl Iterator<Item = Message>) -> Vec<u8> {
@@ -329,9 +329,44 @@ fn others() -> Vec<(Job, Answer, Answer, &'static str)> {
     ]
 }
 
+/// A job of scoring, its answer, and a broken one.
+#[rustfmt::skip]
+fn scorings() -> Vec<(Job, Answer, Answer, &'static str)> {
+    // Rows -1, 4, 4 and 9.
+    let score = |candidates: &[i32]| Job::Score(ScoreJob {
+        alphabet: 1,
+        column: vec![4, -1, 9, 4],
+        tokens: vec![0; 4 * PREDICTORS],
+        side_predictors: vec![0],
+        candidates: candidates.to_vec(),
+        logarithms: vec![0.0; 5],
+    });
+    let scored = |threshold, below| Answer::Scored(Scored { found: true, threshold, cost: 0.0, below });
+    let free = |cost| Answer::Scored(Scored { found: true, threshold: 4, cost, below: 3 });
+    let nothing = || Answer::Scored(Scored::default());
+    let but = |edit: fn(&mut Scored)| {
+        let mut answer = Scored::default();
+        edit(&mut answer);
+        Answer::Scored(answer)
+    };
+    vec![
+        (score(&[-1, 4]), scored(4, 3), scored(4, 1), "not the rows at or under the threshold"),
+        (score(&[-1, 4]), scored(-1, 1), scored(-1, 0), "not the rows at or under the threshold"),
+        (score(&[-1, 4]), scored(4, 3), scored(3, 1), "the threshold is no candidate"),
+        (score(&[-1, 9]), scored(-1, 1), scored(9, 4), "a side is empty"),
+        (score(&[-2, 5]), scored(5, 3), scored(-2, 0), "a side is empty"),
+        (score(&[4]), free(-8.0), free(f32::NAN), "the cost is no number"),
+        (score(&[-2, 4]), scored(4, 3), nothing(), "nothing found, where a candidate has rows on both sides"),
+        (score(&[-2, 9, 10]), nothing(), scored(9, 4), "a side is empty"),
+        (score(&[9]), nothing(), but(|a| a.threshold = 9), "nothing found, yet more is said"),
+        (score(&[9]), nothing(), but(|a| a.cost = -0.0), "nothing found, yet more is said"),
+        (score(&[-2]), nothing(), but(|a| a.below = 4), "nothing found, yet more is said"),
+    ]
+}
+
 #[test]
 fn broken_answers_to_the_other_jobs_are_refused() {
-    for (job, right, broken, why) in others() {
+    for (job, right, broken, why) in others().into_iter().chain(scorings()) {
         passes(std::slice::from_ref(&job), &[right]);
         refuses(&[job], &[broken], why);
     }

@@ -1,7 +1,9 @@
 //! The shrinker on made-up differences: what is left is what the difference asks for, and nothing else.
 
 use super::*;
-use stream::{Learning, NodeList, PREDICTORS, PROPERTIES, PruneJob, Record, Settings, Span};
+use stream::{
+    Learning, NodeList, PREDICTORS, PROPERTIES, PruneJob, Record, ScoreJob, Settings, Span,
+};
 
 const ROWS: usize = 37;
 
@@ -193,6 +195,40 @@ fn pruning() {
         spans: vec![Span { first: 0, end: 60 }],
     };
     assert_eq!(shrunk(Job::Prune(job), differs), Job::Prune(expected));
+}
+
+/// Two rows are left of which one is at or under a candidate, with the token that counts; the job stays one that a
+/// learner has.
+#[test]
+fn scoring() {
+    let job = ScoreJob {
+        alphabet: 200,
+        column: (0..ROWS as i32).map(|row| 3 * row - 50).collect(),
+        tokens: (0..ROWS * PREDICTORS).map(|at| (at % 199) as u8).collect(),
+        side_predictors: vec![6, 13, 0, 2],
+        candidates: vec![i32::MIN, -7, 9, 40, 41],
+        logarithms: vec![0.5; ROWS + 9],
+    };
+    let differs = |job: &Job| {
+        let Job::Score(job) = job else { return false };
+        let below = |cut: i32| job.column.iter().filter(|&&value| value <= cut).count();
+        let parts = |&cut: &i32| cut > 8 && (1..job.column.len()).contains(&below(cut));
+        let mut tokens = job.tokens.iter().skip(13).step_by(PREDICTORS);
+        job.candidates.iter().any(parts)
+            && tokens.any(|&token| token > 20)
+            && job.side_predictors.contains(&13)
+    };
+    let Job::Score(left) = shrunk(Job::Score(job), differs) else {
+        panic!("no job of scoring");
+    };
+    assert_eq!((left.column.len(), left.alphabet), (2, 22));
+    assert_eq!((left.candidates, left.side_predictors), (vec![9], vec![13]));
+    assert_eq!(left.tokens.iter().filter(|&&token| token == 21).count(), 1);
+    assert_eq!(left.tokens.iter().filter(|&&token| token == 0).count(), 27);
+    assert_eq!(left.logarithms, [0.0, 0.0, 1.0]);
+    let mut column = left.column;
+    column.sort_unstable();
+    assert_eq!(column, [0, 10]);
 }
 
 /// Negative numbers come up to 0, and the ends of 32 bits do not run over.
