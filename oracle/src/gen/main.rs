@@ -19,6 +19,7 @@ mod parts;
 mod refusals;
 mod rng;
 mod rows;
+mod scores;
 mod seeds;
 mod sheet;
 mod tokens;
@@ -113,6 +114,10 @@ const FAMILIES: &[Family] = &[
     family("partition", "the partition alone", parts::partition),
     family("columns", "mode step, candidates and partition by turns, 255 to 65,536 rows", parts::columns),
     family("prune", "pruning alone, at prices above 0, with exact ties", parts::prune),
+    family("score", "scoring alone, up to 40 rows, any column, candidates, side predictors and logarithms", scores::score),
+    family("score-ties", "scoring alone, thresholds of equal costs", scores::ties),
+    family("score-long", "scoring alone, 1,023 to 20,000 rows", scores::long),
+    family("score-65536", "scoring alone, 65,535 and 65,536 rows", scores::longest),
     family("agree", "63 tiny jobs fit for a proof checker, again and again", agree::agree),
 ];
 
