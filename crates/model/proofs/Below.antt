@@ -12,13 +12,13 @@ use Rattle.model.specs.Meter.{Meter}
 use Rattle.model.specs.Rows.{Row, within}
 use Rattle.model.specs.Mode.{fresh}
 use Rattle.model.specs.Job.{Job}
-use Rattle.model.specs.Grow.{State, leaf_over, split_at, step, steps}
+use Rattle.model.specs.Grow.{State, leaf_over, split_at, step}
 use Rattle.model.specs.Learn.{root_state}
 use Rattle.model.specs.Accepting.{OfferFits}
 use Rattle.model.specs.Kept.{Invariant, Weighed}
 use Rattle.model.proofs.Fresh.{length-fresh}
 use Rattle.model.proofs.Invariant.{split_weighs, split_of}
-use Rattle.model.proofs.Steps.{step_is, steps-keep}
+use Rattle.model.proofs.Steps.{step_is}
 
 module _ {M : Meter} where
   module _ (j : Job M) (fit : (depth : ℕ) (cost : M.Cost) (rows : List Row) → OfferFits rows (j.offered depth cost rows)) where

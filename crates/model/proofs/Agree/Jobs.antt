@@ -3,19 +3,20 @@ use Prim.Native.Nat.{ℕ, zero, suc, ◌+◌, ◌-◌, ◌%◌, ◌^◌}
 use mathlib.Core.Bool.{cond}
 use mathlib.Core.List.{List, [], ◌∷◌, ◌++◌, map}
 use mathlib.Core.Option.{none}
-use lib.ListN.{length, replicate}
+use lib.ListN.{length, replicate, take, drop}
 use lib.Signed.{lt_z}
 use lib.IntN.{ℤ, pos, negsuc}
 use lib.Dec.{eqb, ltb}
 use lib.Ieee.{Float, binary32, binary64, of_bits}
 use Rattle.model.specs.Lists.{range}
-use Rattle.model.specs.Settings.{Settings}
+use Rattle.model.specs.Settings.{Settings, toks_per_row}
 use Rattle.model.specs.Pack.{packed}
 use Rattle.model.specs.Token.{encoded_of}
-use Rattle.model.specs.Rows.{Span}
+use Rattle.model.specs.Rows.{Span, Row}
 use Rattle.model.specs.Partition.{above_rows, other_rows}
 use Rattle.model.specs.Mode.{mode, zero_token}
 use Rattle.model.specs.Candidates.{candidates_of}
+use Rattle.model.specs.Score.{Score, nothing, threshold, score_of}
 use Rattle.model.specs.Grow.{Entry}
 use Rattle.model.specs.Prune.{pruned_tree, pruned_bits}
 use Rattle.model.specs.Learn.{result_of}
@@ -107,6 +108,7 @@ pub data Job : Type 0 where
   thresholds : List ℕ → ℕ → Job
   parting : List ℕ → ℕ → Job
   pruning : ℕ → List (Stored singles) → List Span → Job
+  scoring : ℕ → List ℕ → List ℕ → List ℕ → List ℕ → List ℕ → Job
 
 pub data Answer : Type 0 where
   grown : After (Tree singles) (Lent singles) → Answer
@@ -119,6 +121,7 @@ pub data Answer : Type 0 where
   integers : List ℤ → Answer
   parted : ℕ → List ℤ → Answer
   pruned_to : Float → ℕ → List (Stored singles) → List Span → Answer
+  scored : Score singles → Answer
 
 -- a record of the stream as an entry of a tree
 abbrev entry : Stored singles → Span → Entry singles
@@ -134,6 +137,14 @@ abbrev pruned_answer : Float → List (Entry singles) → Answer
 pruned_answer price tree =
     let r = result_of {M = singles} (record { rows = []; tree = pruned_tree price tree; bits = pruned_bits {M = singles} price tree }) (length tree) (f64 0) in
     pruned_to r.bits r.count (map stored r.records) r.spans
+
+-- rows of one property, and the settings that scoring looks at
+abbrev column_rows : List ℕ → List ℕ → List Row
+column_rows [] toks = []
+column_rows (v ∷ vs) toks = record { props = word v ∷ []; toks = take toks_per_row toks; res = pos 0 } ∷ column_rows vs (drop toks_per_row toks)
+
+abbrev with_alphabet : ℕ → Settings singles
+with_alphabet alphabet = settings alphabet 0 0 0 0 0 0 0 0 0 0
 
 -- number, place and value
 abbrev value_words : Outcome ℕ → List ℕ
@@ -152,10 +163,12 @@ answer_to (encoding vs) = encodings (map (λ (v : ℕ). let e = encoded_of v in 
 answer_to (reading ts) = encodings (map (λ (t : ℕ × ℕ). value_words (token_answer t.0 t.1)) ts)
 answer_to (mode_step rs) = let m = mode (words rs) in rebased_to m (map (λ (r : ℕ). zero_token m (word r)) rs)
 answer_to (thresholds column most) = integers (candidates_of most (words column))
-answer_to (parting column threshold) =
-    let above = above_rows (lt_z (word threshold)) (words column) in
-    parted (length above) (above ++ other_rows (lt_z (word threshold)) (words column))
+answer_to (parting column val) =
+    let above = above_rows (lt_z (word val)) (words column) in
+    parted (length above) (above ++ other_rows (lt_z (word val)) (words column))
 answer_to (pruning price nodes spans) = pruned_answer (f32 price) (entries nodes spans)
+answer_to (scoring alphabet column toks preds cands logs) =
+    scored (score_of {M = singles} (with_alphabet alphabet) (map f32 logs) preds 0 (column_rows column toks) (words cands))
 
 -- ---- answers as the stream writes them
 -- an acceptance, and the lists at exit
@@ -180,3 +193,10 @@ contexts_are number place n contexts queue = numbered (record { outcome = outcom
 
 abbrev pub sample_is : ℕ → ℕ → ℕ → List ℕ → Answer
 sample_is number place n out = sampled (record { outcome = outcome number place n; lent = out })
+
+-- the winning threshold, its cost, and how many rows are at or under it
+abbrev pub best_at : ℕ → ℕ → ℕ → Answer
+best_at val cost below = scored (threshold (word val) (f32 cost) below)
+
+abbrev pub none_scored : Answer
+none_scored = scored nothing
