@@ -3,7 +3,7 @@
 use crate::rules::{self, Rows};
 use crate::{Checked, ensure};
 use std::ops::Range;
-use stream::{Learned, Learning, PREDICTORS, Record, Runs, Span};
+use stream::{Learned, Learning, PREDICTORS, PROPERTIES, Record, Runs, Span};
 
 pub fn check(job: &Learning, answer: &Learned) -> Checked {
     if answer.number != 0 {
@@ -59,6 +59,7 @@ fn accepted(job: &Learning, answer: &Learned) -> Checked {
     entries(job, answer)?;
     spans_hold_their_rows(job, answer)?;
     spans_hold_each_place_once(answer)?;
+    splits_part_their_spans(job, answer)?;
     if uses_modes(job) && (is_unpruned(job) || job.settings.settling) {
         tokens_are_fresh(answer)?;
     }
@@ -173,6 +174,44 @@ fn spans_hold_each_place_once(answer: &Learned) -> Checked {
         Some(place) => Err(format!("no span has place {place}")),
         None => Ok(()),
     }
+}
+
+/// Each split but a seed's parts its span between its children: gt's rows stand first, and le has just the rows at or
+/// under the value, neither none nor all. A seed's splits, whose cost has no end, have no span.
+pub fn splits_part_their_spans(job: &Learning, answer: &Learned) -> Checked {
+    let is_of_seed = |node: &Record| job.seed_count != 0 && node.cost == f32::INFINITY.to_bits();
+    let splits = tree(answer)?.iter().enumerate();
+    for (split, node) in splits.filter(|(_, node)| node.is_split()) {
+        if !is_of_seed(node) {
+            parts_its_span(split, node, answer)?;
+        } else if answer.spans[split] != Span::BLANK {
+            return Err(format!("split {split}, of the seed, has a span"));
+        }
+    }
+    Ok(())
+}
+
+fn parts_its_span(split: usize, node: &Record, answer: &Learned) -> Checked {
+    let places = |at| rules::places(answer.spans[at], Rows::after(answer).count());
+    let [own, gt, le] = [split, node.gt as usize, node.le as usize].map(places);
+    let (Some(own), Some(gt), Some(le)) = (own, gt, le) else {
+        return Err(format!("the span of split {split} holds no places"));
+    };
+    ensure(
+        (gt.start, gt.end, le.end) == (own.start, le.start, own.end),
+        format_args!("the children of split {split} do not share its span"),
+    )?;
+    let value = |place: usize| answer.properties[PROPERTIES * place + node.prop as usize];
+    let due = own.filter(|&place| value(place) <= node.val).count();
+    let found = le.len();
+    ensure(
+        found == due,
+        format_args!("split {split} has {found} rows go below, and not {due}"),
+    )?;
+    ensure(
+        !gt.is_empty() && !le.is_empty(),
+        format_args!("all rows of split {split} go one way"),
+    )
 }
 
 /// "Every row's zero-predictor token is the one worked afresh from its residual

@@ -2,7 +2,7 @@
 
 mod small;
 
-use crate::{Tally, tally};
+use crate::{Tally, runs, tally};
 use small::{deepening, folded, job, one_leaf, refused, settled, three_leaves, two_leaves};
 use stream::{
     Answer, Contexts, ContextsJob, Damaged, Found, Job, Learned, LookupJob, Message, NodeList,
@@ -90,6 +90,10 @@ const BROKEN_RUNS: &[Break] = &[
     (|a| _ = a.residuals.pop(), "the lists of rows have other lengths"),
     (|a| _ = a.tokens.pop(), "the lists of rows have other lengths"),
     (|a| a.properties.truncate(24), "the lists of rows have other lengths"),
+    (|a| a.spans[0].first = 1, "the children of split 0 do not share its span"),
+    (|a| a.spans[0].end = 3, "the children of split 0 do not share its span"),
+    (|a| a.spans[0].end = 5, "the span of split 0 holds no places"),
+    (all_below, "all rows of split 0 go one way"),
     (|a| a.leaf_count = 3, "leaf count does not fit the tree"),
     (|a| a.node_count = 2, "no sound tree"),
     (|a| a.node_count = 0, "no sound tree"),
@@ -111,6 +115,12 @@ const BROKEN_RUNS: &[Break] = &[
     (|a| a.counts = Runs::of(7, 9), "space does not hold zeros"),
     (|a| a.counts = Runs::of(0, 8), "space does not hold zeros"),
 ];
+
+/// A tree that holds its rows, in an empty leaf and a full one.
+fn all_below(answer: &mut Learned) {
+    answer.nodes[0].val = 9;
+    (answer.spans[1].end, answer.spans[2].first) = (0, 0);
+}
 
 #[test]
 fn broken_runs_are_refused() {
@@ -135,8 +145,6 @@ const BROKEN_PAIRS: &[Break] = &[
     (|a| a.nodes[0].offset = 4, "k + 1: entries [0, 2] of the node list changed"),
     (|a| a.nodes[2] = a.nodes[2].with_cost(2.5), "k + 1: leaf 2 became Record"),
     (|a| a.nodes[2].pred = 1, "k + 1: leaf 2 became Record"),
-    (|a| a.spans[0].first = 1, "k + 1: span entry 0 changed"),
-    (|a| a.spans[2].end = 3, "k + 1: span entry 2 changed"),
     (swap_rows_of_leaf_1, "k + 1: place 0, outside the split's span, has another row"),
 ];
 
@@ -177,9 +185,66 @@ fn the_new_leaves_stand_gt_first() {
         answer.properties[24 * at + 1] = row;
         answer.tokens[PREDICTORS * at + 1..][..13].fill(row as u8 + 1);
     }
-    passes(&[Job::Learn(job(3))], &[Answer::Learned(answer.clone())]);
-    let jobs = [2, 3].map(|limit| Job::Learn(job(limit)));
-    refuses(&jobs, &learned([two_leaves(), answer]), "do not share");
+    let why = "the children of split 2 do not share its span";
+    refuses(&[Job::Learn(job(3))], &[Answer::Learned(answer)], why);
+}
+
+/// Where a leaf's span is wrong too, that is said first.
+#[test]
+fn splits_have_the_rows_of_their_children() {
+    const BROKEN: &[Break] = &[
+        (
+            |a| a.nodes[0].val = 9,
+            "split 0 has 2 rows go below, and not 4",
+        ),
+        (
+            |a| a.nodes[0].val = 4,
+            "split 0 has 2 rows go below, and not 0",
+        ),
+        (
+            |a| a.properties[0] = 5,
+            "split 0 has 2 rows go below, and not 3",
+        ),
+        (
+            |a| a.spans[1].end = 1,
+            "the children of split 0 do not share",
+        ),
+        (
+            |a| a.spans.swap(1, 2),
+            "the children of split 0 do not share",
+        ),
+        (
+            |a| a.spans[2].first = TOO_MANY,
+            "the span of split 0 holds no",
+        ),
+    ];
+    for (breaks, why) in BROKEN {
+        let mut answer = two_leaves();
+        breaks(&mut answer);
+        let said = runs::splits_part_their_spans(&job(2), &answer);
+        let said = said.err().unwrap_or_else(|| panic!("not refused: {why}"));
+        assert!(said.contains(why), "{said:?}, where due is {why:?}");
+    }
+}
+
+/// Told by a cost without end, which learning has not.
+#[test]
+fn splits_of_a_seed_have_no_span() {
+    let mut answer = two_leaves();
+    answer.nodes[0] = answer.nodes[0].with_cost(f32::INFINITY);
+    let why = "split 0, of the seed, has a span";
+    refuses(
+        &[Job::Deepen(deepening(2))],
+        &[Answer::Deepened(answer.clone())],
+        why,
+    );
+    answer.spans[0] = Span::BLANK;
+    passes(
+        &[Job::Deepen(deepening(2))],
+        &[Answer::Deepened(answer.clone())],
+    );
+    let why = "the children of split 0 do not share its span";
+    refuses(&[Job::Learn(job(2))], &[Answer::Learned(answer)], why);
 }
 
 /// What makes two jobs no pair leaves their answers free of each other.
