@@ -206,7 +206,8 @@ static inline size_t ostrovuc_logs_length(size_t rows) {
  * Learns a tree from the rows. Refusals 1 to 7, in this order.
  *
  *   nodes     ostrovuc_nodes_length(max_leaves, 0): the tree, node 0 its root
- *   spans     ostrovuc_spans_length(max_leaves, 0): the rows of each node
+ *   spans     ostrovuc_spans_length(max_leaves, 0): the rows of each node; a split's are parted between its children,
+ *             gt's first, and le has those at or under its value, neither none nor all
  *   logs      ostrovuc_logs_length(rows)
  *   props     24 a row; rows are moved so that each node's stand together
  *   tok       14 a row, moved with it; with residuals and modal offsets, column 0 is made anew from the residual and its leaf's mode (but pruning leaves it

@@ -117,6 +117,8 @@ fn check_start(bytes: &[u8]) -> Result<(), WrongInput> {
         17 => "candidates",
         18 => "partition",
         19 => "pruning",
+        30 => "a stream's state",
+        48 => "scoring",
         _ => return Err(WrongInput::NoKind(kind)),
     };
     Err(WrongInput::OtherKind(name))

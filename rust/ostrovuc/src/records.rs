@@ -64,7 +64,8 @@ impl MaNode {
     }
 }
 
-/// The rows of a node: the first, and the one behind the last.
+/// The rows of a node: the first, and the one behind the last. A split's are parted between its children, gt's first; a
+/// seed's split has none.
 #[repr(C)]
 #[derive(Clone, Copy, Debug, Default, Eq, PartialEq)]
 pub struct Span {
