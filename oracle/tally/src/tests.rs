@@ -2,7 +2,7 @@
 
 mod small;
 
-use crate::{Tally, runs, tally};
+use crate::{Run, Tally, pairs, runs, tally};
 use small::{deepening, folded, job, one_leaf, refused, settled, three_leaves, two_leaves};
 use stream::{
     Answer, Contexts, ContextsJob, Damaged, Found, Job, Learned, LookupJob, Message, NodeList,
@@ -165,6 +165,28 @@ fn broken_pairs_are_refused() {
         refuses(&jobs, &learned([two_leaves(), answer.clone()]), why);
         let jobs = [2, 3].map(|limit| Job::Deepen(deepening(limit)));
         refuses(&jobs, &[two_leaves(), answer].map(Answer::Deepened), why);
+    }
+}
+
+/// The second answer's spans would be refused without the first too, so the pair's own rule is asked.
+#[test]
+fn broken_spans_of_pairs_are_refused() {
+    const BROKEN: &[Break] = &[
+        (|a| a.spans[0].first = 1, "k + 1: span entry 0 changed"),
+        (|a| a.spans[2].end = 3, "k + 1: span entry 2 changed"),
+        (|a| a.spans.swap(3, 4), "do not share"),
+    ];
+    let run = |limit, answer| Run {
+        deepens: false,
+        job: job(limit),
+        answer,
+    };
+    for (breaks, why) in BROKEN {
+        let mut answer = three_leaves();
+        breaks(&mut answer);
+        let said = pairs::check(&run(2, two_leaves()), &run(3, answer));
+        let said = said.err().unwrap_or_else(|| panic!("not refused: {why}"));
+        assert!(said.contains(why), "{said:?}, where due is {why:?}");
     }
 }
 
