@@ -12,6 +12,7 @@ ghost use Rattle.rows.specs.Cells.{span};
 ghost use Rattle.rows.specs.Parted.{Divisible, Partitioned};
 ghost use Rattle.mode.specs.Column.{mode_at, tokens_at};
 ghost use Rattle.mode.specs.Lent.{Rebasable};
+ghost use Rattle.distinct.specs.Marks.{Walkable, Places, marked_keys};
 ghost use Rattle.candidates.specs.Column.{column};
 ghost use Rattle.candidates.specs.Plan.{Pickable};
 ghost use Rattle.cost.specs.Counted.{Counted};
@@ -93,7 +94,7 @@ pub extern "C" fn ostrovuc_mode_step(
     mode::rebase_zero(tok, res, counts, first, end)
 }
 
-// How many candidates stand at the front of `cands` then. The first 4,096 flags are 0, before and after.
+// How many candidates stand at the front of `cands` then. The first 4,096 numbers of `flags` are 0, before and after.
 // Stays: an export takes its lists one by one, since a struct of slices does not cross over to C.
 #[unsafe(no_mangle)]
 pub extern "C" fn ostrovuc_pick_candidates(
@@ -120,6 +121,17 @@ pub extern "C" fn ostrovuc_pick_candidates(
     let picked = candidates::pick_candidates(probe, flags, max_candidates);
     cands[..picked.len()].copy_from_slice(&picked);
     picked.len()
+}
+
+// The places of the set marks of words, ascending, at the front of `places`, and how many they are.
+#[unsafe(no_mangle)]
+pub extern "C" fn ostrovuc_mark_places(words: &[u64], places: &mut [u32]) -> usize
+    requires { Walkable 0 words.now (length places.old) }
+    ensures count { result ≡ length (marked_keys 0 words.now) }
+    ensures places { places.new ≡ written_over (marked_keys 0 words.now) places.old }
+    ensures law { Places 0 words.now (take result places.new) }
+{
+    distinct::walk_words(words, 0, places)
 }
 
 // Counts each predictor's tokens in the rows from first to end; the counts are 0 before.

@@ -12,10 +12,11 @@ pub enum Kind {
     ModeStep,
     Candidates,
     Partition,
+    Marks,
 }
 
 // In the order in which they are reported.
-pub const KINDS: [Kind; 8] = [
+pub const KINDS: [Kind; 9] = [
     Kind::Contexts,
     Kind::Sampling,
     Kind::Pack,
@@ -24,6 +25,7 @@ pub const KINDS: [Kind; 8] = [
     Kind::ModeStep,
     Kind::Candidates,
     Kind::Partition,
+    Kind::Marks,
 ];
 
 impl TryFrom<u32> for Kind {
@@ -39,6 +41,7 @@ impl TryFrom<u32> for Kind {
             16 => Ok(Kind::ModeStep),
             17 => Ok(Kind::Candidates),
             18 => Ok(Kind::Partition),
+            49 => Ok(Kind::Marks),
             _ => Err(Fault::UnknownKind),
         }
     }
@@ -55,6 +58,7 @@ impl fmt::Display for Kind {
             Kind::ModeStep => "mode step",
             Kind::Candidates => "candidates",
             Kind::Partition => "partition",
+            Kind::Marks => "marks",
         })
     }
 }

@@ -31,6 +31,7 @@ fn replayed(alloc: Global, kind: Kind, job: Stored, answer: &mut Stored) -> Resu
         Kind::ModeStep => parts::mode_step(alloc, job, answer),
         Kind::Candidates => parts::pick_candidates(alloc, job, answer),
         Kind::Partition => parts::partition(alloc, job, answer),
+        Kind::Marks => parts::marks(alloc, job, answer),
     }
 }
 
@@ -79,8 +80,8 @@ fn hold(alloc: Global, kind: Kind, case: Case) -> Result<(), Fault> {
 }
 
 // Replays all cases; what is left to read is nothing unless the input is damaged.
-fn replay(alloc: Global, cases: &mut Cases) -> [Tally; 8] {
-    let mut tallies = [Tally::none(); 8];
+fn replay(alloc: Global, cases: &mut Cases) -> [Tally; 9] {
+    let mut tallies = [Tally::none(); 9];
     for (number, case) in (0..u32::MAX).zip(cases) {
         if let Ok(kind) = Kind::try_from(case.asked) {
             let right = hold(alloc, kind, case).is_ok();

@@ -1,4 +1,4 @@
-// Single parts of the learner on one column: mode step, candidates, partition.
+// Single parts of the learner: mode step, candidates and partition on one column, and the walk of marks.
 ghost use Rattle.std.specs.Prelude.{◌≡◌, ◌*◌, ◌≤◌, ◌<◌, IfOk, vec_len};
 
 use crate::rooms;
@@ -10,6 +10,9 @@ use std::alloc::Global;
 
 // Most rows of these jobs.
 const MOST_ROWS: usize = 4096;
+
+// Most words of marks.
+const MOST_WORDS: usize = 4096;
 
 pub fn mode_step(alloc: Global, mut job: Stored, answer: &mut Stored) -> Result<(), Fault> {
     let count = job.word()?;
@@ -85,4 +88,15 @@ pub fn partition(alloc: Global, mut job: Stored, answer: &mut Stored) -> Result<
         answer.expect(row[5].cast_unsigned())?;
     }
     Ok(())
+}
+
+pub fn marks(alloc: Global, mut job: Stored, answer: &mut Stored) -> Result<(), Fault> {
+    let count = job.word()?;
+    let words = job.longs(alloc, count)?;
+    if words.len() > MOST_WORDS {
+        return Err(Fault::TooLarge);
+    }
+    let mut places = vec![in alloc; 0u32; words.len() * 64]?;
+    let found = distinct::walk_words(&words, 0, &mut places);
+    answer.expect_list(&places[..found])
 }

@@ -78,6 +78,15 @@ impl<'a> Stored<'a> {
         Ok(list)
     }
 
+    // So many words of 64 bits.
+    pub fn longs(&mut self, alloc: Global, count: u32) -> Result<Vec<u64>, Fault> {
+        let mut list = vec![in alloc]?;
+        for _ in 0..count {
+            list.push(self.long()?)?;
+        }
+        Ok(list)
+    }
+
     // The kind of a message, and its body.
     pub fn message(&mut self) -> Result<(u32, Stored<'a>), Fault>
         ensures { IfOk result (λ _. length self.new.rest.now < length self.old.rest.now) }
