@@ -20,6 +20,7 @@ pub fn answer(job: Job, counts: &mut Counts) -> Answer {
         Job::Partition(column, threshold) => partition(&column, threshold),
         Job::Prune(job) => Answer::Pruned(pruning::prune(&job)),
         Job::Score(job) => Answer::Scored(scoring::score(&job)),
+        Job::Marks(words) => Answer::Places(places(&words)),
     }
 }
 
@@ -98,4 +99,19 @@ fn partition(column: &[i32], threshold: i32) -> Answer {
     assert_eq!((rows.res[0], rows.res[count + 1]), (0, count as i32 + 1));
     let after = rows.res[1..=count].iter().map(|&from| value(from as usize));
     Answer::Partitioned((at - 1) as u32, after.collect())
+}
+
+/// The lent list has an entry for each set mark, and by turns up to two more, whose pattern must stay.
+fn places(words: &[u64]) -> Vec<u32> {
+    let entries = port::count_set(words) + words.len() % 3;
+    let lent: Vec<u32> = (0..entries as u32).map(|at| !at).collect();
+    let mut list = lent.clone();
+    let found = port::mark_places(words, &mut list).len();
+    assert_eq!(
+        list[found..],
+        lent[found..],
+        "an entry past the places changed"
+    );
+    list.truncate(found);
+    list
 }

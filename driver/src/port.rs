@@ -14,6 +14,8 @@ const COUNTS: usize = 4_096;
 pub const CANDIDATES: usize = 32;
 /// Most rows.
 pub const ROWS: usize = 65_536;
+/// Most words of marks.
+const MARK_WORDS: usize = 1 << 26;
 
 /// How many nodes pruning leaves, and their estimated bits.
 #[repr(C)]
@@ -117,6 +119,12 @@ mod c {
             flags_length: usize,
             cands: *mut i32,
             cands_length: usize,
+        ) -> usize;
+        pub fn ostrovuc_mark_places(
+            words: *const u64,
+            words_length: usize,
+            places: *mut u32,
+            places_length: usize,
         ) -> usize;
         pub fn ostrovuc_count_tokens(
             tok: *const u8,
@@ -263,6 +271,26 @@ pub fn pick_candidates<'a>(
         )
     };
     &cands[..found]
+}
+
+/// How many marks of these words are set.
+pub fn count_set(words: &[u64]) -> usize {
+    words.iter().map(|word| word.count_ones() as usize).sum()
+}
+
+/// The places of the set marks of any words, ascending, written to the front of `places`.
+pub fn mark_places<'a>(words: &[u64], places: &'a mut [u32]) -> &'a [u32] {
+    assert!(words.len() <= MARK_WORDS && count_set(words) <= places.len());
+    // SAFETY: the pointers and the lengths are slices'; that places have 32 bits and there is room for all is asserted.
+    let found = unsafe {
+        c::ostrovuc_mark_places(
+            words.as_ptr(),
+            words.len(),
+            places.as_mut_ptr(),
+            places.len(),
+        )
+    };
+    &places[..found]
 }
 
 /// Counts each predictor's tokens in the rows from first to end.

@@ -5,7 +5,7 @@ use crate::shrink::{Number, Shrinker};
 use crate::trees;
 use std::ops::Range;
 use stream::{
-    ContextsJob, Learning, LookupJob, PREDICTORS, PROPERTIES, PruneJob, SampleJob, ScoreJob,
+    ContextsJob, Learning, LookupJob, MARKS, PREDICTORS, PROPERTIES, PruneJob, SampleJob, ScoreJob,
 };
 
 /// Learning and deepening: rows, settings, the seed, room, then what the rows hold.
@@ -167,6 +167,21 @@ fn drop_scored_rows(job: &mut ScoreJob, rows: Range<usize>) {
     cut(&mut job.column, &rows, 1);
     cut(&mut job.tokens, &rows, PREDICTORS);
     job.logarithms.truncate(job.column.len() + 1);
+}
+
+/// Marks: fewer words of them, then fewer that are set.
+pub fn marks(s: &mut Shrinker<'_, Vec<u64>>) -> Result<()> {
+    s.pieces(|words| words.len(), |words, piece| drop(words.drain(piece)))?;
+    s.pieces(
+        |words| MARKS * words.len(),
+        |words, piece| clear_marks(words, piece),
+    )
+}
+
+fn clear_marks(words: &mut [u64], places: Range<usize>) {
+    for place in places {
+        words[place / MARKS] &= !(1 << (place % MARKS));
+    }
 }
 
 /// A list of numbers: fewer of them, then nearer to 0.

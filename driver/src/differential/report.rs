@@ -13,7 +13,7 @@ const SHOWN: usize = 40;
 /// Without a terminal, a line after so much time.
 const PAUSE: Duration = Duration::from_secs(15);
 
-const KINDS: [(u32, &str); 13] = [
+const KINDS: [(u32, &str); 14] = [
     (1, "learning"),
     (2, "deepening"),
     (3, "lookup"),
@@ -27,6 +27,7 @@ const KINDS: [(u32, &str); 13] = [
     (18, "partition"),
     (19, "pruning"),
     (48, "scoring"),
+    (49, "marks"),
 ];
 
 /// 1234567 as 1,234,567.

@@ -41,6 +41,7 @@ pub fn smallest(job: &Message, differs: Differs<'_>) -> Result<Shrunk> {
         }
         Job::Prune(job) => rounds(job, Job::Prune, differs, edits::prune),
         Job::Score(job) => rounds(job, Job::Score, differs, edits::score),
+        Job::Marks(words) => rounds(words, Job::Marks, differs, edits::marks),
     }
 }
 

@@ -107,6 +107,12 @@ pub(crate) fn candidates(column: &[i32], limit: usize, scratch: &mut CoderScratc
     }
 }
 
+/// Sorts probed values and drops repeats. Where 32 or more lie within 4,096 that is a walk over marks: the place of a
+/// value's mark is its distance from the lowest.
+pub(crate) fn sort_unique(probe: &mut Vec<i32>, scratch: &mut CoderScratch) {
+    sort_unique_probe(probe, &mut scratch.ma_property.probe_bitmap);
+}
+
 /// Moves what lies above the threshold to the front and counts it.
 pub(crate) fn partition(column: &mut [i32], threshold: i32) -> usize {
     partition_by(column, |&v| v > threshold, |_, _| {})

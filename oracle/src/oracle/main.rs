@@ -12,6 +12,7 @@ mod lossless;
 #[allow(dead_code, unused_imports)]
 #[path = "../../target/generated/ma_tree/mod.rs"]
 mod ma_tree;
+mod marks;
 mod operations;
 mod refusals;
 mod thread_pool;

@@ -7,6 +7,7 @@ use crate::coder_scratch::CoderScratch;
 use crate::entropy::{pack_signed, uint_encode};
 use crate::lossless::leaf_contexts;
 use crate::ma_tree::{MaProperties, MaSamples, hooks};
+use crate::marks;
 use crate::refusals::{self, Refusal};
 use stream::{
     Answer, Contexts, ContextsJob, Damaged, Found, Job, Learned, Learning, LookupJob, PREDICTORS,
@@ -34,6 +35,7 @@ pub(crate) fn answer(job: Job, scratch: &mut CoderScratch) -> Result<Answer, Dam
         }
         Job::Prune(job) => Answer::Pruned(prune(job)?),
         Job::Score(job) => Answer::Scored(score(&job, scratch)),
+        Job::Marks(words) => Answer::Places(marks::places(&words, scratch)),
     })
 }
 

@@ -1,5 +1,5 @@
 //! Jobs and answers in words. Properties that are 0 are left out, and so are
-//! entries that only a fill pattern holds.
+//! words without a mark and entries that only a fill pattern holds.
 
 use std::fmt::Write;
 use stream::{
@@ -24,6 +24,7 @@ pub fn job(job: &Job) -> String {
         }
         Job::Prune(job) => prune(job),
         Job::Score(job) => score(job),
+        Job::Marks(words) => marks(words),
     }
 }
 
@@ -60,6 +61,7 @@ pub fn answer(answer: &Answer) -> String {
         Answer::Partitioned(above, list) => format!("{above} rows above, column {list:?}\n"),
         Answer::Pruned(answer) => pruned(answer),
         Answer::Scored(answer) => scored(answer),
+        Answer::Places(list) => format!("places {list:?}\n"),
     }
 }
 
@@ -170,6 +172,15 @@ fn scored(answer: &Scored) -> String {
     } = answer;
     let found = if *found { "found" } else { "nothing found" };
     format!("{found}: threshold {threshold}, cost {cost:?}, {below} rows at or under it\n")
+}
+
+fn marks(words: &[u64]) -> String {
+    let mut text = format!("marks in {} words\n", words.len());
+    let set = words.iter().enumerate().filter(|&(_, &word)| word != 0);
+    for (at, word) in set {
+        text += &format!("word {at}: {word:#018x}\n");
+    }
+    text
 }
 
 fn logarithms(list: &[f32]) -> String {

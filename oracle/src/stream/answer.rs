@@ -201,6 +201,8 @@ pub enum Answer {
     Partitioned(u32, Vec<i32>),
     Pruned(Pruned),
     Scored(Scored),
+    /// The place of each set mark, ascending.
+    Places(Vec<u32>),
 }
 
 impl Answer {
@@ -220,6 +222,7 @@ impl Answer {
             18 => Self::Partitioned(body.get()?, body.get()?),
             19 => Self::Pruned(body.get()?),
             48 => Self::Scored(body.get()?),
+            49 => Self::Places(body.get()?),
             other => return damaged(format!("no answer has kind {other}")),
         };
         body.done()?;
@@ -241,6 +244,7 @@ impl Answer {
             Self::Partitioned(..) => 18,
             Self::Pruned(_) => 19,
             Self::Scored(_) => 48,
+            Self::Places(_) => 49,
         }
     }
 
@@ -265,6 +269,7 @@ impl Answer {
             }
             Self::Pruned(answer) => answer.write(&mut body),
             Self::Scored(answer) => answer.write(&mut body),
+            Self::Places(list) => list.write(&mut body),
         }
         Message {
             kind: self.kind(),

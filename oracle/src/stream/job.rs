@@ -1,5 +1,6 @@
 //! Jobs.
 
+use crate::MOST_MARK_WORDS;
 use crate::record::{NodeList, Record, Span};
 use crate::score::ScoreJob;
 use crate::wire::{Message, Reader, Result, Wire, damaged, wire_struct};
@@ -140,6 +141,8 @@ pub enum Job {
     Partition(Vec<i32>, i32),
     Prune(PruneJob),
     Score(ScoreJob),
+    /// Words of 64 marks each, the lowest bit first.
+    Marks(Vec<u64>),
 }
 
 impl Job {
@@ -159,13 +162,14 @@ impl Job {
             18 => Self::Partition(body.get()?, body.get()?),
             19 => Self::Prune(body.get()?),
             48 => Self::Score(body.get()?),
+            49 => Self::Marks(body.get()?),
             other => return damaged(format!("no job has kind {other}")),
         };
         body.done()?;
         job.shaped()
     }
 
-    /// Three things that fields alone cannot say.
+    /// Four things that fields alone cannot say.
     fn shaped(self) -> Result<Self> {
         match &self {
             Self::Learn(job) if job.seed_count != 0 => damaged("learning takes no seed"),
@@ -173,6 +177,9 @@ impl Job {
                 damaged("pruning wants a span for each node")
             }
             Self::Score(job) if !job.is_sound() => damaged("scoring of what no learner has"),
+            Self::Marks(words) if words.len() > MOST_MARK_WORDS => {
+                damaged("marks whose places pass 32 bits")
+            }
             _ => Ok(self),
         }
     }
@@ -192,6 +199,7 @@ impl Job {
             Self::Partition(..) => 18,
             Self::Prune(_) => 19,
             Self::Score(_) => 48,
+            Self::Marks(_) => 49,
         }
     }
 
@@ -215,10 +223,33 @@ impl Job {
             }
             Self::Prune(job) => job.write(&mut body),
             Self::Score(job) => job.write(&mut body),
+            Self::Marks(words) => words.write(&mut body),
         }
         Message {
             kind: self.kind(),
             body,
         }
+    }
+}
+
+#[cfg(test)]
+mod tests {
+    use super::*;
+
+    #[test]
+    fn marks_travel_low_word_first() {
+        let job = Job::Marks(vec![1, 1 << 63]);
+        let words = [2u32, 1, 0, 0, 1 << 31];
+        let message = job.message();
+        assert_eq!(message.kind, 49);
+        assert_eq!(message.body, words.map(u32::to_le_bytes).as_flattened());
+        assert_eq!(Job::read(&message).expect("a sound job"), job);
+    }
+
+    #[test]
+    fn places_have_32_bits() {
+        let job = |words| Job::Marks(vec![0; words]);
+        assert!(job(MOST_MARK_WORDS).shaped().is_ok());
+        assert!(job(MOST_MARK_WORDS + 1).shaped().is_err());
     }
 }

@@ -24,3 +24,7 @@ pub const PREDICTORS: usize = 14;
 pub const MOST_ROWS: usize = 65_536;
 /// Candidates of a property, at most.
 pub const MOST_CANDIDATES: usize = 32;
+/// Marks of a word of them.
+pub const MARKS: usize = 64;
+/// Words of marks, at most: every place is below 2^32.
+pub const MOST_MARK_WORDS: usize = 1 << 26;

@@ -5,7 +5,7 @@ use crate::wire::{Message, Reader, Result, damaged, read_message, write_message}
 use std::io::{Read, Write};
 
 /// The state of this format: the base with so many of the requests that came after it.
-pub const STATE: u32 = 1;
+pub const STATE: u32 = 2;
 
 const VERSION: u32 = 30;
 
@@ -130,7 +130,7 @@ mod tests {
 
     #[test]
     fn the_answer_names_this_state_whatever_was_asked_for() {
-        for asked in [0, STATE, STATE + 1, u32::MAX] {
+        for asked in [0, STATE - 1, STATE, STATE + 1, u32::MAX] {
             let bytes = stream([version(asked)].into_iter().chain(jobs()));
             let mut answers = Vec::new();
             let left = Messages::greet(&bytes[..], &mut answers).expect("a sound stream");

@@ -4,8 +4,8 @@ use crate::rules;
 use crate::{Checked, ensure};
 use std::collections::BTreeSet;
 use stream::{
-    Answer, Contexts, ContextsJob, Found, Job, LookupJob, PROPERTIES, PruneJob, Pruned, Record,
-    Runs, SampleJob, Sampled, ScoreJob, Scored, Span, TokenOf, ValueOf,
+    Answer, Contexts, ContextsJob, Found, Job, LookupJob, MARKS, PROPERTIES, PruneJob, Pruned,
+    Record, Runs, SampleJob, Sampled, ScoreJob, Scored, Span, TokenOf, ValueOf,
 };
 
 pub fn check(job: &Job, answer: &Answer) -> Checked {
@@ -34,6 +34,7 @@ pub fn check(job: &Job, answer: &Answer) -> Checked {
         }
         (Job::Prune(job), Answer::Pruned(answer)) => prune(job, answer),
         (Job::Score(job), Answer::Scored(answer)) => score(job, answer),
+        (Job::Marks(words), Answer::Places(places)) => marks(words, places),
         _ => Err("an answer of another kind".into()),
     }
 }
@@ -242,4 +243,18 @@ fn score(job: &ScoreJob, answer: &Scored) -> Checked {
     )?;
     ensure((1..rows).contains(&count), "a side is empty")?;
     ensure(!answer.cost.is_nan(), "the cost is no number")
+}
+
+/// Ascending places of set marks, as many as are set: each of them once.
+fn marks(words: &[u64], places: &[u32]) -> Checked {
+    let ascend = places.is_sorted_by(|a, b| a < b);
+    ensure(ascend, "the places do not ascend")?;
+    for place in places.iter().map(|&place| place as usize) {
+        let word = words.get(place / MARKS);
+        let word = word.ok_or("a place beyond the words")?;
+        let is_set = word >> (place % MARKS) & 1 == 1;
+        ensure(is_set, "a place whose mark is not set")?;
+    }
+    let set: usize = words.iter().map(|word| word.count_ones() as usize).sum();
+    ensure(places.len() == set, "not as many places as set marks")
 }

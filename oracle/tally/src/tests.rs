@@ -451,9 +451,33 @@ fn scorings() -> Vec<(Job, Answer, Answer, &'static str)> {
     ]
 }
 
+/// Places that are not those of marks 1, 63 and 64, of 128.
+#[rustfmt::skip]
+const BROKEN_PLACES: &[(&[u32], &str)] = &[
+    (&[63, 1, 64], "the places do not ascend"),
+    (&[1, 63, 63, 64], "the places do not ascend"),
+    (&[1, 63, 64, 128], "a place beyond the words"),
+    (&[1, 63, u32::MAX], "a place beyond the words"),
+    (&[0, 63, 64], "a place whose mark is not set"),
+    (&[1, 62, 64], "a place whose mark is not set"),
+    (&[1, 63, 127], "a place whose mark is not set"),
+    (&[63, 64], "not as many places as set marks"),
+    (&[1, 63], "not as many places as set marks"),
+    (&[], "not as many places as set marks"),
+];
+
+/// A job of marks, its answer, and a broken one.
+fn markings() -> impl Iterator<Item = (Job, Answer, Answer, &'static str)> {
+    let marks = || Job::Marks(vec![1 << 63 | 2, 1]);
+    let places = |list: &[u32]| Answer::Places(list.to_vec());
+    let broken = BROKEN_PLACES.iter();
+    broken.map(move |&(broken, why)| (marks(), places(&[1, 63, 64]), places(broken), why))
+}
+
 #[test]
 fn broken_answers_to_the_other_jobs_are_refused() {
-    for (job, right, broken, why) in others().into_iter().chain(scorings()) {
+    let all = others().into_iter().chain(scorings()).chain(markings());
+    for (job, right, broken, why) in all {
         passes(std::slice::from_ref(&job), &[right]);
         refuses(&[job], &[broken], why);
     }

@@ -119,6 +119,7 @@ fn check_start(bytes: &[u8]) -> Result<(), WrongInput> {
         19 => "pruning",
         30 => "a stream's state",
         48 => "scoring",
+        49 => "marks",
         _ => return Err(WrongInput::NoKind(kind)),
     };
     Err(WrongInput::OtherKind(name))

@@ -231,6 +231,22 @@ fn scoring() {
     assert_eq!(column, [0, 10]);
 }
 
+/// Two neighbours are left, and of each the mark that counts.
+#[test]
+fn marks() {
+    let differs = |job: &Job| {
+        let Job::Marks(words) = job else { return false };
+        words
+            .windows(2)
+            .any(|pair| pair[0] >> 63 == 1 && pair[1] & 4 == 4)
+    };
+    let words = (0..70).map(|at| u64::MAX >> (at % 2) << (at % 3)).collect();
+    assert_eq!(
+        shrunk(Job::Marks(words), differs),
+        Job::Marks(vec![1 << 63, 4])
+    );
+}
+
 /// Negative numbers come up to 0, and the ends of 32 bits do not run over.
 #[test]
 fn numbers() {
