@@ -14,6 +14,7 @@ mod draft;
 mod kinds;
 mod learn;
 mod logs;
+mod marks;
 mod pairs;
 mod parts;
 mod refusals;
@@ -118,6 +119,8 @@ const FAMILIES: &[Family] = &[
     family("score-ties", "scoring alone, thresholds of equal costs", scores::ties),
     family("score-long", "scoring alone, 1,023 to 20,000 rows", scores::long),
     family("score-65536", "scoring alone, 65,535 and 65,536 rows", scores::longest),
+    family("marks", "the places of set marks alone, of none to 65,600 marks", marks::marks),
+    family("probes", "candidates of 31 to 2,047 probed values, at every edge of their marks' range", marks::probes),
     family("agree", "63 tiny jobs fit for a proof checker, again and again", agree::agree),
 ];
 
