@@ -5,7 +5,9 @@ use mathlib.Core.List.Memᴰ
 use mathlib.Core.List.{List, [], ◌∷◌, ◌++◌, map, map-append, append_assoc, append-nil, Memᴰ}
 use mathlib.Core.Logic.{◌⊎◌, inl, inr}
 use Prim.Native.Nat.{ℕ, zero, suc, ◌+◌, ◌-◌, ◌*◌, ◌/◌, ◌%◌, ◌≤◌, ◌<◌, max}
-use native.Mathlib.Nat.{mul-le-mul_right}
+use native.Mathlib.Nat.{mul-le-mul_right, suc-mul}
+use Rattle.std.specs.Int.{div_ceil}
+use Rattle.std.proofs.lemmas.Grind.{div_ceil_times}
 use native.Mathlib.Numerals.{add-one}
 use native.Mathlib.Decide.{dec_lt}
 use native.Mathlib.Omega.{arith}
@@ -171,3 +173,14 @@ module _ (ps : List ℤ) (prop first row end step n : ℕ) (keys : List ℕ) (st
 pub probe_start : (ps : List ℤ) (prop first end step : ℕ) (keys : List ℕ) → step ≡ stride (end - first) → values 0 keys ++ every step 0 (column ps prop first end) ≡ probe_of ps prop first end
 unfolding values probe_of
 probe_start ps prop first end step keys e = rw e
+
+-- as many steps as cover all rows: each begins at one of them
+module _ (rows step n : ℕ) (some : 0 < step) (count : n ≡ div_ceil rows step) where
+  times : (rows ≤ n * step) × (n * step < rows + step)
+  times = rw count (div_ceil_times rows step some)
+
+  pub probe_begins : (i : ℕ) → i < n → i * step < rows
+  probe_begins i h = omega (arith, times, mul-le-mul_right {m = suc i} {n = n} step h, suc-mul i step)
+
+  pub probe_over : rows ≤ n * step
+  probe_over = times.0
