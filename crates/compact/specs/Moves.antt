@@ -6,8 +6,7 @@ use Rattle.model.specs.Single.{singles}
 use Rattle.model.specs.Tree.{Node, split, leaf}
 use Rattle.model.specs.Lent.{Stored, stored_node}
 use Rattle.model.specs.Grow.{Entry, no_entry}
-use Rattle.layout.specs.Tree.{NodeLists, HasRoom}
-use Rattle.layout.specs.Kept.{info_at}
+use Rattle.layout.specs.Tree.{NodeLists, HasRoom, info_at}
 use Rattle.layout.specs.Values.{info_is}
 use Rattle.layout.specs.Records.{stored_of, record_of, no_record, gt_at, le_at, span_is, no_span_record}
 use Rattle.layout.specs.declared.MaNode.{MaNode}

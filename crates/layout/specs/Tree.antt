@@ -42,6 +42,10 @@ pub record HasRoom (n : ℕ) (x : NodeLists) : Type 0 where
 unfoldable pub put : ℕ → Entry singles → NodeLists → NodeLists
 put i e x = node_lists (set x.nodes i (entry_record e)) (set x.spans i (entry_span e))
 
+-- what stands beside node i
+abbrev pub info_at : NodeLists → ℕ → Info singles
+info_at x i = info_is (get_or x.nodes i no_record).info
+
 -- a leaf as the node lists have it: what stands beside it and its span
 abbrev pub leaf_beside : {M : Meter} → Info M → ℕ → ℕ → Entry M
 leaf_beside i first end = record { node = leaf; info = i; span = record { first = first; end = end }; depth = 0; offer = none }

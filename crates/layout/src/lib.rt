@@ -5,10 +5,10 @@
 
 ghost use Rattle.std.specs.Prelude.{◌≡◌, ◌+◌, ◌/◌, ◌≤◌, ◌<◌, eqb, length};
 ghost use Rattle.model.specs.Settings.{max_nodes};
+ghost use Rattle.model.specs.Deepen.{rowless};
 ghost use Rattle.layout.specs.Records.{node_is, node_at, leaf_record};
-ghost use Rattle.layout.specs.Tree.{HasRoom, put, leaf_with, put_split, entry_record};
+ghost use Rattle.layout.specs.Tree.{HasRoom, put, info_at, leaf_with, put_split, entry_record};
 ghost use Rattle.layout.specs.Values.{info_is};
-ghost use Rattle.layout.specs.Kept.{info_at, kept_node};
 ghost use Rattle.layout.specs.Lent.{lists_in, SameNodesLent};
 
 // Most nodes of a tree.
@@ -61,7 +61,7 @@ impl MaNode {
     // A seed's node that stays without rows: a split keeps its fields, costs without end, and has predictor and offset
     // 0; a leaf keeps its predictor and offset and costs nothing.
     pub fn kept(&self) -> MaNode
-        ensures { result ≡ entry_record (kept_node (node_is self.now) (info_is self.now.info)) }
+        ensures { result ≡ entry_record (rowless (node_is self.now) (info_is self.now.info) 0) }
     {
         let node = *self;
         if !node.is_split() {
@@ -172,8 +172,8 @@ impl<'a> Nodes<'a> {
         requires { HasRoom (i + 1) (lists_in self.old) }
         ensures lent { SameNodesLent self.old self.new }
         ensures lists { lists_in self.new
-            ≡ put i (kept_node (node_at self.old.nodes.now i)
-            (info_at (lists_in self.old) i)) (lists_in self.old) }
+            ≡ put i (rowless (node_at self.old.nodes.now i)
+            (info_at (lists_in self.old) i) 0) (lists_in self.old) }
     {
         self.nodes[i] = self.nodes[i].kept();
         self.spans[i] = Span::default();

@@ -1,9 +1,9 @@
--- What the code's refusals and answers say in document 01's numbers and values ("Which number comes back"). Assumes nothing.
+-- What the code's refusals and answers say in document 01's numbers and values ("Which number comes back"), and in those that document 02 adds. Assumes nothing.
 use Rattle.std.specs.Prelude.{Result, Ok, Err}
 use Rattle.model.specs.Refuse.{Refusal}
 use Rattle.model.specs.Operations.{Outcome, refused, accepted}
 use Rattle.model.specs.declared.Refusal.{Refusal as Cause}
-use Rattle.model.specs.declared.Refusal.TheVariants.{BadSetting, NoPredictor, UnevenRows, BadToken, ShortAlphabet, BadLogarithms, ShortOfRoom, UnsoundTree, UnevenProperties, BadCode}
+use Rattle.model.specs.declared.Refusal.TheVariants.{BadSetting, NoPredictor, UnevenRows, BadToken, ShortAlphabet, BadLogarithms, ShortOfRoom, UnsoundTree, UnevenProperties, BadCode, BadSymbols}
 
 -- the number of a refusal, and the named place, else 0
 abbrev pub refusal_of : Cause → Refusal
@@ -17,6 +17,7 @@ refusal_of ShortOfRoom = record { number = 7; place = 0 }
 refusal_of (UnsoundTree node) = record { number = 8; place = node }
 refusal_of UnevenProperties = record { number = 9; place = 0 }
 refusal_of BadCode = record { number = 10; place = 0 }
+refusal_of BadSymbols = record { number = 11; place = 0 }
 
 -- an answer, or why there is none
 abbrev pub outcome_of_result : {A : Type 0} → Result A Cause → Outcome A

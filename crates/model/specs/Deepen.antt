@@ -32,6 +32,11 @@ module _ {M : Meter} where
   abbrev pub empty_leaf : Info M → ℕ → Entry M
   empty_leaf i depth = record { node = leaf; info = record { cost = M.nought; pred = i.pred; offset = i.offset }; span = no_span; depth = depth; offer = none }
 
+  -- a seed's node that no row reaches
+  abbrev pub rowless : Node → Info M → ℕ → Entry M
+  rowless (split prop val gt le) i depth = seed_split (split prop val gt le) depth
+  rowless leaf i depth = empty_leaf i depth
+
   -- a seed's leaf with its rows, which start at row `first`
   abbrev pub seed_leaf : Job M → Info M → ℕ → ℕ → List Row → Entry M
   seed_leaf j i depth first [] = empty_leaf i depth

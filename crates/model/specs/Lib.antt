@@ -20,6 +20,7 @@ pub mod Settle
 pub mod Learn
 pub mod Deepen
 pub mod Contexts
+pub mod Symbols
 pub mod Sampling
 pub mod Single
 pub mod Profile

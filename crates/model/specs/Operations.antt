@@ -1,19 +1,21 @@
--- The public operations on trees and rows: what each answers, and what each lent list holds afterwards (document 01, "Which number comes back").
+-- The public operations on trees and rows: what each answers, and what each lent list holds afterwards (document 01, "Which number comes back"; document 02, c).
 -- A refusal leaves each lent list as it was. Packing and the token of a value, which refuse nothing, stand in Pack and Token. Assumes nothing.
-use Rattle.std.specs.Prelude.{ℕ, List, length, get_or, replicate, ℤ}
+use Rattle.std.specs.Prelude.{ℕ, List, [], map, length, get_or, replicate, ℤ}
 use Rattle.std.proofs.Math.Option.{Option, none, some}
 use Rattle.model.specs.Lists.{written_over}
 use Rattle.model.specs.Meter.{Meter}
 use Rattle.model.specs.Settings.{Settings}
 use Rattle.model.specs.Token.{value_of}
-use Rattle.model.specs.Tree.{blank_record, nodes_of, leaf_reached}
+use Rattle.model.specs.Tree.{Record, blank_record, nodes_of, leaf_reached}
 use Rattle.model.specs.Contexts.{contexts_of}
+use Rattle.model.specs.Symbols.{symbols_of, tree_read}
 use Rattle.model.specs.Learn.{Result, leaf_count, learned}
 use Rattle.model.specs.Deepen.{deepened}
 use Rattle.model.specs.Sampling.{even_sample}
 use Rattle.model.specs.Profile.{Profile, job_of}
-use Rattle.model.specs.Lent.{Stored, Lent, rows_in, uses_modes, tree_in, lent_after}
-use Rattle.model.specs.Refuse.{Refusal, learn_refusal, deepen_refusal, lookup_refusal, contexts_refusal, sample_refusal, token_refusal}
+use Rattle.model.specs.Lent.{Stored, stored, Lent, rows_in, uses_modes, tree_in, lent_after}
+use Rattle.model.specs.Refuse.{Refusal, learn_refusal, deepen_refusal, lookup_refusal, contexts_refusal, write_refusal, read_refusal, sample_refusal, token_refusal}
+use Rattle.model.specs.declared.Symbol.{Symbol}
 
 pub data Outcome (A : Type 0) : Type 0 where
   refused : Refusal → Outcome A
@@ -83,6 +85,30 @@ leaf_contexts nodes count x =
     let answer = leaf_count tree in
     let exit : ContextLists = record { contexts = written_over (contexts_of tree) x.contexts; queue = replicate (length x.queue) 0 } in
     unless (contexts_refusal nodes count x.contexts x.queue) x answer exit
+
+-- ---- symbols: how many there are; the symbols written, the queue space zero
+pub record SymbolLists : Type 0 where
+  pub symbols : List Symbol
+  pub queue : List ℕ
+
+unfoldable pub write_symbols : {M : Meter} → List (Stored M) → ℕ → SymbolLists → After ℕ SymbolLists
+write_symbols nodes count x =
+    let said = symbols_of (tree_in count nodes) in
+    let answer = length said in
+    let exit : SymbolLists = record { symbols = written_over said x.symbols; queue = replicate (length x.queue) 0 } in
+    unless (write_refusal nodes count x.symbols x.queue) x answer exit
+
+-- the tree that symbols are: how many nodes it has; its records written
+abbrev pub nodes_in : {M : Meter} → Option (List (Record M)) → List (Record M)
+nodes_in none = []
+nodes_in (some tree) = tree
+
+unfoldable pub read_symbols : {M : Meter} → List Symbol → List (Stored M) → After ℕ (List (Stored M))
+read_symbols symbols nodes =
+    let read = tree_read symbols in
+    let answer = length (nodes_in read) in
+    let exit = written_over (map stored (nodes_in read)) nodes in
+    unless (read_refusal read nodes) nodes answer exit
 
 -- ---- even sampling: how many are picked; their row numbers
 unfoldable pub sample : ℕ → ℕ → List ℕ → After ℕ (List ℕ)

@@ -1,14 +1,16 @@
--- Which number comes back, and the named place (document 01, "Which number comes back"): the first condition that holds. Assumes nothing.
-use Rattle.std.specs.Prelude.{ℕ, zero, suc, ◌+◌, ◌-◌, ◌*◌, ◌%◌, min, max, Bool, false, cond, not, ◌&&◌, ◌||◌, List, length, take, drop, ℤ, eqb, leb, ltb}
+-- Which number comes back, and the named place (document 01, "Which number comes back"; document 02): the first condition that holds. Assumes nothing.
+use Rattle.std.specs.Prelude.{ℕ, zero, suc, ◌+◌, ◌-◌, ◌*◌, ◌%◌, min, max, Bool, true, false, cond, not, ◌&&◌, ◌||◌, List, length, take, drop, ℤ, eqb, leb, ltb}
 use Rattle.std.proofs.Math.Option.{Option, none, some}
 use Rattle.model.specs.Lists.{all, is_empty}
 use Rattle.model.specs.Meter.{Meter}
 use Rattle.model.specs.Settings.{Settings, props_per_row, toks_per_row, max_rows, max_leaves}
 use Rattle.model.specs.Token.{readable}
 use Rattle.model.specs.Cost.{usable}
-use Rattle.model.specs.Tree.{fault_of, fault_on_way}
+use Rattle.model.specs.Tree.{Record, fault_of, fault_on_way}
+use Rattle.model.specs.Symbols.{symbols_of}
 use Rattle.model.specs.Profile.{Profile}
 use Rattle.model.specs.Lent.{Stored, Lent, row_count, has_residuals, tree_in}
+use Rattle.model.specs.declared.Symbol.{Symbol}
 
 -- the number, and the named place, else 0
 pub record Refusal : Type 0 where
@@ -130,12 +132,25 @@ module _ {M : Meter} where
       (refuse_if (eqb count 0 || ltb (length nodes) count) 8
       (refuse_at (fault_on_way count (tree_in count nodes) ps 0) 8 none))
 
-  -- 8 as for deepening, also when the count exceeds the list; then 7
+  -- the node to name of the tree of the first `count` nodes, as for deepening; 0 also when the count exceeds the list
+  abbrev pub fault_in : ℕ → List (Stored M) → Option ℕ
+  fault_in count nodes = cond (ltb (length nodes) count) (some 0) (fault_of (tree_in count nodes))
+
+  -- 8; then 7
   unfoldable pub contexts_refusal : List (Stored M) → ℕ → List ℕ → List ℕ → Option Refusal
   contexts_refusal nodes count contexts queue =
-      refuse_if (ltb (length nodes) count) 8
-      (refuse_at (fault_of (tree_in count nodes)) 8
-      (refuse_if (ltb (length contexts) count || ltb (length queue) count) 7 none))
+      refuse_at (fault_in count nodes) 8 (refuse_if (ltb (length contexts) count || ltb (length queue) count) 7 none)
+
+  -- 8 as contexts do; then 7: the symbols, or a queue of the node count, don't fit (document 02, c)
+  unfoldable pub write_refusal : List (Stored M) → ℕ → List Symbol → List ℕ → Option Refusal
+  write_refusal nodes count symbols queue =
+      refuse_at (fault_in count nodes) 8
+      (refuse_if (ltb (length symbols) (length (symbols_of (tree_in count nodes))) || ltb (length queue) count) 7 none)
+
+  -- 11: the symbols are no tree; then 7: its nodes don't fit (document 02, c)
+  unfoldable pub read_refusal : Option (List (Record M)) → List (Stored M) → Option Refusal
+  read_refusal none nodes = refuse_if true 11 none
+  read_refusal (some tree) nodes = refuse_if (ltb (length nodes) (length tree)) 7 none
 
 -- 3, then 7: output shorter than min(rows, target)
 unfoldable pub sample_refusal : ℕ → ℕ → List ℕ → Option Refusal

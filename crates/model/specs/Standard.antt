@@ -1,6 +1,7 @@
 -- How ISO/IEC 18181-1 reads signed numbers, hybrid integers and MA trees, and finds a leaf. Assumes nothing.
 use Rattle.std.specs.Prelude.{◌≡◌, ℕ, suc, ◌+◌, ◌-◌, ◌*◌, ◌/◌, ◌%◌, ◌^◌, cond, List, [], ◌∷◌, ◌++◌, get_or, ltb, eqb, ℤ, pos, neg_ℤ}
 use Rattle.std.specs.Int.Signed.{lt_z}
+use Rattle.model.specs.declared.Symbol.{Symbol}
 
 -- UnpackSigned: an even u is u / 2, an odd u is -(u + 1) / 2
 unfoldable pub unpack_signed : ℕ → ℤ
@@ -61,3 +62,43 @@ pub data ReadFrom : ℕ → List MaTree → Type 0 where
 -- the leaves have the contexts that a decoder gives them: it starts with the root alone in its queue, and has read no leaf
 abbrev pub IsDecoded : MaTree → Type 0
 IsDecoded tree = ReadFrom 0 (tree ∷ [])
+
+-- ---- how an MA tree is transmitted: as numbers, each coded in one of six contexts
+abbrev pub split_val_context : ℕ
+split_val_context = 0
+
+abbrev pub property_context : ℕ
+property_context = 1
+
+abbrev pub predictor_context : ℕ
+predictor_context = 2
+
+abbrev pub offset_context : ℕ
+offset_context = 3
+
+abbrev pub multiplier_log_context : ℕ
+multiplier_log_context = 4
+
+abbrev pub multiplier_bits_context : ℕ
+multiplier_bits_context = 5
+
+abbrev pub symbol : ℕ → ℕ → Symbol
+symbol context value = record { context = context; value = value }
+
+-- a decision: its property + 1, then its value, which is read by UnpackSigned
+abbrev pub decision_symbols : ℕ → ℕ → List Symbol
+decision_symbols property value = symbol property_context (suc property) ∷ symbol split_val_context value ∷ []
+
+-- a leaf: 0 in a property's place, its predictor, its offset, which is read by UnpackSigned, and two numbers that say its multiplier, (bits + 1) × 2 ^ log
+abbrev pub leaf_symbols : ℕ → ℕ → ℕ → ℕ → List Symbol
+leaf_symbols predictor offset log bits =
+    symbol property_context 0 ∷ symbol predictor_context predictor ∷ symbol offset_context offset ∷ symbol multiplier_log_context log ∷ symbol multiplier_bits_context bits ∷ []
+
+-- What a decoder makes of symbols: the trees that wait in its queue, in the order of `ReadFrom`. A leaf's multiplier is 1, so log and bits are 0
+pub data Transmits : List Symbol → List MaTree → Type 0 where
+  all-read : Transmits [] []
+  leaf-read : {offset : ℕ} {l : MaLeaf} {xs : List Symbol} {queue : List MaTree} → unpack_signed offset ≡ l.offset → Transmits xs queue
+      → Transmits (leaf_symbols l.predictor offset 0 0 ++ xs) (leaf_node l ∷ queue)
+  decision-read : {k v : ℕ} {value : ℤ} {left right : MaTree} {xs : List Symbol} {queue : List MaTree} → unpack_signed v ≡ value
+      → Transmits xs (queue ++ (left ∷ right ∷ []))
+      → Transmits (decision_symbols k v ++ xs) (decision k value left right ∷ queue)

@@ -26,6 +26,15 @@ pub struct Encoded {
     pub bits: u32,
 }
 
+// A symbol of a tree as ISO/IEC 18181-1 transmits it: a context number of the standard, and the number that is coded in
+// that context. It crosses over to C.
+#[repr(C)]
+#[derive(Clone, Copy, PartialEq, Eq, Debug)]
+pub struct Symbol {
+    pub context: u32,
+    pub value: u32,
+}
+
 // A refusal: why a job is not done, with the row or the node that is named.
 #[derive(Clone, Copy, PartialEq, Eq, Debug)]
 pub enum Refusal {
@@ -39,6 +48,7 @@ pub enum Refusal {
     UnsoundTree(u32),
     UnevenProperties,
     BadCode,
+    BadSymbols,
 }
 
 impl Refusal {
@@ -57,6 +67,7 @@ impl Refusal {
             Refusal::UnsoundTree(_) => 8,
             Refusal::UnevenProperties => 9,
             Refusal::BadCode => 10,
+            Refusal::BadSymbols => 11,
         }
     }
 

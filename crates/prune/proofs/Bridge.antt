@@ -20,8 +20,7 @@ use Rattle.model.proofs.Folding.{Folded, folds, length-pruned}
 use Rattle.model.proofs.Pruned.{closed, length-kept, entry_kept, order-short, old-number}
 use Rattle.model.specs.Lent.{stored_node}
 use Rattle.layout.specs.Records.{record_of, stored_of, no_record, no_span_record, span_is, kind_at, gt_at, le_at}
-use Rattle.layout.specs.Tree.{NodeLists, holding, HasRoom, entry_record, entry_span}
-use Rattle.layout.specs.Kept.{info_at}
+use Rattle.layout.specs.Tree.{NodeLists, holding, HasRoom, entry_record, entry_span, info_at}
 use Rattle.layout.specs.Values.{info_is}
 use Rattle.layout.specs.declared.MaNode.{MaNode}
 use Rattle.preorder.specs.Order.{ShownAs, ShowsNodes, Walkable, Ordered}

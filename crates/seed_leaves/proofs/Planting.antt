@@ -21,7 +21,7 @@ use Rattle.model.specs.Profile.{single, job_of}
 use Rattle.model.specs.Tree.{Node, split, leaf, Info}
 use Rattle.model.specs.Job as model
 use Rattle.model.specs.Grow.{Entry, State, leaf_over}
-use Rattle.model.specs.Deepen.{seed_split, empty_leaf, seed_leaf, with_seed_node}
+use Rattle.model.specs.Deepen.{seed_split, empty_leaf, rowless, seed_leaf, with_seed_node}
 use Rattle.model.proofs.Fresh.{fresh-none}
 use Rattle.model.proofs.Tests.{neither}
 use Rattle.refuse.specs.Given.{settings_of}
@@ -29,7 +29,7 @@ use Rattle.refuse.specs.declared.Job.{Job}
 use Rattle.layout.specs.Values.{info_is, offer_is}
 use Rattle.layout.specs.Records.{no_record, node_at}
 use Rattle.layout.specs.declared.Tree.{Tree}
-use Rattle.layout.specs.Tree.{NodeLists, HasRoom, put, leaf_with}
+use Rattle.layout.specs.Tree.{NodeLists, HasRoom, put, leaf_with, info_at}
 use Rattle.layout.specs.Waiting.{Queued, queue_of, waits, waiting_from}
 use Rattle.queue.specs.declared.Queue.{Queue}
 use Rattle.queue.specs.Lent.{queue_in}
@@ -38,7 +38,6 @@ use Rattle.layout.proofs.Queue.{same-itself, waiting_append, few-waits}
 use Rattle.rows.specs.Cells.{span}
 use Rattle.rows.specs.Flat.{Flat, held_in}
 use Rattle.rows.proofs.Shapes.{size_same}
-use Rattle.layout.specs.Kept.{info_at, kept_node}
 use Rattle.lent.specs.Lists.{work}
 use Rattle.lent.specs.Fitting.{uses_of, Fitting}
 use Rattle.leaf.specs.Made.{settled_at}
@@ -81,7 +80,7 @@ with_node tree = record { nodes = tree.nodes + 1; bits = tree.bits }
 module _ {job : Job} {counts : List ℕ} {x : Flat} {n n' : NodeLists} {q : Queue} {tree : Tree} {scored uses : Bool}
     {lent : NodeLists} {st : State singles} {left : List Row}
     (sown : Sown job (work counts x n q) tree scored uses lent st left) (depth : ℕ) (info : Info singles) (room : HasRoom (length st.tree + 1) lent) where
-  kept_in : (m : Node) → n' ≡ put (length st.tree) (kept_node m info) n
+  kept_in : (m : Node) → n' ≡ put (length st.tree) (rowless m info 0) n
       → Sown job (work counts x n' q) (with_node tree) scored uses lent (with_seed_node (job_of single (settings_of job.settings) job.logs.now uses) m info depth [] st) left
   kept_in (split prop val gt le) e =
       let entry : Entry singles = seed_split (split prop val gt le) depth in
@@ -113,7 +112,7 @@ module _ {job : Job} {counts : List ℕ} {x : Flat} {n n' : NodeLists} {q : Queu
 
 pub kept-planted : {job : Job} {counts : List ℕ} {x : Flat} {n n' : NodeLists} {q : Queue} {tree : Tree} (depth : ℕ) {scored : Bool}
     → (eqb (get_or n.nodes tree.nodes no_record).kind 1 || eqb (span_at n.spans tree.nodes).first (span_at n.spans tree.nodes).end) ≡ true
-    → n' ≡ put tree.nodes (kept_node (node_at n.nodes tree.nodes) (info_at n tree.nodes)) n
+    → n' ≡ put tree.nodes (rowless (node_at n.nodes tree.nodes) (info_at n tree.nodes) 0) n
     → NodePlanted job (work counts x n q) (work counts x n' q) tree (with_node tree) depth scored
 kept-planted {job} {counts} {x} {n} {n'} {q} {tree} depth {scored} test is =
     record { size = size_same x; queue = same-itself (queue_in q); zeros = refl; counted = refl; risen = omega arith; sown = gains }
@@ -129,7 +128,7 @@ kept-planted {job} {counts} {x} {n} {n'} {q} {tree} depth {scored} test is =
         let w' : Sown job (work counts x n q) tree scored uses lent st left = subst
         (λ (l : List Row). Sown job (work counts x n q) tree scored uses lent st (l ++ left)) empty w in
         let room : HasRoom (length st.tree + 1) lent = subst (λ (k : ℕ). HasRoom (k + 1) lent) (sym here) next.room in
-        let is' : n' ≡ put (length st.tree) (kept_node m (info_at n tree.nodes)) n = is ∙ ap (λ (k : ℕ). put k (kept_node m (info_at n tree.nodes)) n) (sym here) in
+        let is' : n' ≡ put (length st.tree) (rowless m (info_at n tree.nodes) 0) n = is ∙ ap (λ (k : ℕ). put k (rowless m (info_at n tree.nodes) 0) n) (sym here) in
         subst (λ (l : List Row). Sown job (work counts x n' q) (with_node tree) scored uses lent
         (with_seed_node (job_of single (settings_of job.settings) job.logs.now uses) m (info_at n tree.nodes) depth l st) left) (sym empty)
         (kept_in w' depth (info_at n tree.nodes) room m is')

@@ -27,7 +27,7 @@ use Rattle.layout.specs.Records.{node_is, no_record, node_at, span_is, no_span_r
 use Rattle.layout.specs.Values.{info_is}
 use Rattle.layout.specs.declared.MaNode.{MaNode}
 use Rattle.layout.specs.declared.Tree.{Tree}
-use Rattle.layout.specs.Tree.{NodeLists, HasRoom, holding}
+use Rattle.layout.specs.Tree.{NodeLists, HasRoom, holding, info_at}
 use Rattle.layout.specs.Waiting.{QueueListsOf, QueueLists, Queued, QueueRoom, SameQueue, waiting_from, words_per_leaf}
 use Rattle.queue.specs.declared.Queue.{Queue}
 use Rattle.queue.specs.Lent.{queue_in}
@@ -39,7 +39,6 @@ use Rattle.rows.specs.Cells.{span}
 use Rattle.rows.specs.Flat.{Flat, held_in, row_count}
 use Rattle.rows.proofs.Cells.{length-held}
 use Rattle.rows.proofs.Shapes.{size_same, size-then, count_still}
-use Rattle.layout.specs.Kept.{info_at}
 use Rattle.lent.specs.Lists.{Lists, Work, lists, work}
 use Rattle.lent.specs.Fitting.{uses_of}
 use Rattle.seed_rows.specs.Ordered.{seed_in}

@@ -22,14 +22,13 @@ use Rattle.layout.specs.Values.{offer_is}
 use Rattle.layout.specs.Records.{no_record, node_at, span_is, no_span_record}
 use Rattle.layout.specs.declared.Span as layout
 use Rattle.layout.specs.declared.Tree.{Tree}
-use Rattle.layout.specs.Tree.{NodeLists, holding, HasRoom, put, leaf_with}
+use Rattle.layout.specs.Tree.{NodeLists, holding, HasRoom, put, leaf_with, info_at}
 use Rattle.layout.specs.Waiting.{Queued, QueueRoom, SameQueue, queue_of, waits}
 use Rattle.queue.specs.Lent.{queue_in}
 use Rattle.order.specs.Order.{ordered_by, first_of}
 use Rattle.order.specs.Leaves.{leaf_numbers}
 use Rattle.rows.specs.Cells.{span}
 use Rattle.rows.specs.Flat.{held_in, row_count, Spanned, SameSize}
-use Rattle.layout.specs.Kept.{info_at}
 use Rattle.lent.specs.Fitting.{uses_of, Fitting}
 use Rattle.lent.specs.Lists.{Lists, Work}
 use Rattle.leaf.specs.Made.{MadeLeaf}
