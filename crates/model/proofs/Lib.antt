@@ -21,6 +21,7 @@ pub mod Sound
 pub mod Tally
 pub mod Health
 pub mod Seeds
+pub mod Renumbered
 pub mod Folding
 pub mod Pruned
 pub mod Placed

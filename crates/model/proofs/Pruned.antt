@@ -23,6 +23,7 @@ use Rattle.model.proofs.Family.{leaf_no_child, child-forward, towards-child}
 use Rattle.model.proofs.Preorder.{place_at, place-of, mem_get_d, pre-range, root_in, pre-closed, pre-parent, pre_no_repeat, place-forward}
 use Rattle.model.proofs.Sound.{Rooted}
 use Rattle.model.proofs.Tally.{short}
+use Rattle.model.proofs.Renumbered as R
 use Rattle.model.proofs.Folding.{Folded, folds, length-pruned}
 
 -- more steps than nodes are left change nothing
@@ -156,32 +157,13 @@ module _ {M : Meter} where
     no_repeat = pre_no_repeat pn pn-family n 0 in_n
 
     new-at : (q : ℕ) → q < length order → get_or new q leaf ≡ as_new (get_or order q 0)
-    new-at q h = ap (λ (l : List Node). get_or l q leaf) new_is ∙ get_d_any (map as_new order) q leaf (as_new 0) (rw (length-map order as_new) h) ∙ get_or-map as_new order q 0
+    new-at q h = rw new_is (R.new-at pn order closed q h)
 
     new-place : (c : ℕ) → Memᴰ c order → get_or new (place_of c order) leaf ≡ as_new c
-    new-place c m = let p = place_at c order m in new-at (place_of c order) p.0 ∙ ap as_new p.1
-
-    towards-place : (ps : List ℤ) (prop : ℕ) (val : ℤ) (g l : ℕ) → towards ps prop val (place_of g order) (place_of l order) ≡ place_of (towards ps prop val g l) order
-    towards-place ps prop val g l = search arith
-
-    reach_in : (ps : List ℤ) (fuel c : ℕ) → Memᴰ c order → Memᴰ (reach fuel pn ps c) order
-    unfolding reach
-    reach_in ps zero c m = m
-    reach_in ps (suc fuel) c m = go (get_or pn c leaf) refl (λ d md. reach_in ps fuel d md)
-      where
-        go : (q : Node) → get_or pn c leaf ≡ q → ((d : ℕ) → Memᴰ d order → Memᴰ (reach fuel pn ps d) order) → Memᴰ (follow ps c (λ (d : ℕ). reach fuel pn ps d) q) order
-        go leaf z ih = m
-        go (split p v g l) z ih = ih (towards ps p v g l) (closed c (towards ps p v g l) m (rw z (towards-child ps p v g l)))
+    new-place c m = rw new_is (R.new-place pn order closed c m)
 
     reach-new : (ps : List ℤ) (fuel c : ℕ) → Memᴰ c order → reach fuel new ps (place_of c order) ≡ place_of (reach fuel pn ps c) order
-    unfolding reach
-    reach-new ps zero c m = refl
-    reach-new ps (suc fuel) c m = rw (new-place c m) (go (get_or pn c leaf) refl (λ d md. reach-new ps fuel d md))
-      where
-        go : (q : Node) → get_or pn c leaf ≡ q → ((d : ℕ) → Memᴰ d order → reach fuel new ps (place_of d order) ≡ place_of (reach fuel pn ps d) order)
-            → follow ps (place_of c order) (λ (d : ℕ). reach fuel new ps d) (renumbered order q) ≡ place_of (follow ps c (λ (d : ℕ). reach fuel pn ps d) q) order
-        go leaf z ih = refl
-        go (split p v g l) z ih = ap (λ (d : ℕ). reach fuel new ps d) (towards-place ps p v g l) ∙ ih (towards ps p v g l) (closed c (towards ps p v g l) m (rw z (towards-child ps p v g l)))
+    reach-new ps fuel c m = rw new_is (R.reach-new pn order closed ps fuel c m)
 
     new-forward : AllForward new
     new-forward q h = rw (length-new, new-at q h') (go (get_or pn i leaf) refl)
@@ -237,7 +219,7 @@ module _ {M : Meter} where
         y = reach n pn ps 0
 
         my : Memᴰ y order
-        my = reach_in ps n 0 root-there
+        my = R.reach_in pn order closed ps n 0 root-there
 
         same : eqb (place_of y order) q ≡ eqb y i
         same = elim (ℕ_discrete y i) [
@@ -290,7 +272,7 @@ module _ {M : Meter} where
         go i (split p v g l) z (inr e) = let w = subst (λ (m : Node). ChildOf m l) (sym z) (inr refl) in (l, w, closed (get_or order q 0) l (mem_get_d order q i) w, e)
 
     pub same_place : (c d : ℕ) → Memᴰ c order → Memᴰ d order → place_of c order ≡ place_of d order → c ≡ d
-    same_place c d mc md e = sym (place_at c order mc).1 ∙ ap (λ (k : ℕ). get_or order k 0) e ∙ (place_at d order md).1
+    same_place = R.same_place pn order closed
 
     new_one_parent : (a b d : ℕ) → Child new a d → Child new b d → a ≡ b
     new_one_parent a b d h k =
