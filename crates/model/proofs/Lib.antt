@@ -56,6 +56,7 @@ pub mod Demand3
 pub mod Vacated
 pub mod BreadthFirst
 pub mod ContextNumbers
+pub mod SymbolsRead
 pub mod OperationLaws
 pub mod StandardContexts
 pub mod SeedSplits
