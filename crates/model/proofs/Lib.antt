@@ -57,6 +57,7 @@ pub mod Vacated
 pub mod BreadthFirst
 pub mod ContextNumbers
 pub mod SymbolsRead
+pub mod SymbolsWritten
 pub mod OperationLaws
 pub mod StandardContexts
 pub mod SeedSplits

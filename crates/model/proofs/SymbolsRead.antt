@@ -4,33 +4,33 @@ use mathlib.Core.Path.{◌≡◌, refl, ap, ◌∙◌}
 use mathlib.Core.Logic.{inl, inr}
 use Prim.Native.Nat.{ℕ, zero, suc, ◌+◌, ◌≤◌, ◌<◌}
 use native.Mathlib.Nat.{lt_irrefl, add-zero}
+use native.Mathlib.Numerals.{add-one}
 use native.Mathlib.Omega.{arith}
+use native.Mathlib.Decide.{ℕ_discrete}
 use mathlib.Core.Bool.{true}
 use mathlib.Core.List.{List, [], ◌∷◌, ◌++◌, map, append-nil}
 use mathlib.Core.Option.{Option, none, some}
 use lib.ListN.{length, get_or, length-append}
+use lib.Seq.{append_snoc, get_or-append_seam}
 use lib.IntN.{ℤ}
 use lib.Dec.{lt→ltb}
 use borrow.Author.Tests.{eqb-true, ltb-true}
+use Rattle.model.specs.Lists.{range}
 use Rattle.model.specs.Meter.{Meter}
 use Rattle.model.specs.Settings.{props_per_row, toks_per_row, max_nodes}
 use Rattle.model.specs.Standard.{property_context, symbol, decision_symbols, leaf_symbols}
 use Rattle.model.specs.Pack.{packed}
-use Rattle.model.specs.Tree.{Node, split, leaf, Record, no_info, Info, nodes_of, blank_record, fault_of}
-use Rattle.model.specs.Symbols.{symbols_along, symbols_of, record_symbols, rowless_record}
+use Rattle.model.specs.Tree.{Node, split, leaf, Info, Record, no_info, blank_record, nodes_of, fault_of}
+use Rattle.model.specs.Contexts.{breadth_from, breadth_order}
+use Rattle.model.specs.Symbols.{record_symbols, symbols_along, symbols_of, rowless_record}
 use Rattle.model.specs.Symbols.{FirstNode, no_node, first_split, first_leaf, is_in, split_from, leaf_from, first_node, with_first, at_end, read_on, nodes_read, tree_read}
+use Rattle.model.specs.Family.{Forward, ChildOf, Child, Twins}
+use Rattle.model.specs.Kept.{FieldsFit}
 use Rattle.model.specs.declared.Symbol.{Symbol}
-use Rattle.model.proofs.Packing.{packed_unpack}
-use Rattle.model.proofs.Tests.{and-true}
 use Rattle.model.proofs.Invariant.{none_is_no_some}
 use Rattle.model.proofs.Sound.{Rooted, same_length, sound-faultless}
-use Rattle.model.specs.Contexts.{breadth_from, breadth_order}
-use Rattle.model.specs.Family.{Child, ChildOf, Forward, Twins}
-use Rattle.model.specs.Kept.{FieldsFit}
-use Rattle.model.specs.Lists.{range}
-use native.Mathlib.Decide.{ℕ_discrete}
-use lib.Seq.{append_snoc, get_or-append_seam}
-use native.Mathlib.Numerals.{add-one}
+use Rattle.model.proofs.Tests.{and-true}
+use Rattle.model.proofs.Packing.{packed_unpack}
 
 -- ---- more nodes due than may come
 module _ {M : Meter} where
