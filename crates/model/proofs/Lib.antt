@@ -58,6 +58,7 @@ pub mod BreadthFirst
 pub mod ContextNumbers
 pub mod SymbolsRead
 pub mod SymbolsWritten
+pub mod SymbolsSame
 pub mod OperationLaws
 pub mod StandardContexts
 pub mod SeedSplits
