@@ -3,7 +3,7 @@ use mathlib.Core.Path.{◌≡◌, refl, sym, ap, subst}
 use Prim.Native.Nat.{ℕ, zero, suc, ◌*◌, ◌≤◌, ◌<◌}
 use native.Mathlib.Omega.{arith}
 use mathlib.Core.Bool.{Bool, false}
-use mathlib.Core.List.{List, [], ◌∷◌, ◌++◌}
+use mathlib.Core.List.{List, [], ◌∷◌, ◌++◌, map}
 use mathlib.Core.Option.{Option, none, some}
 use lib.ListN.{length, take, drop, replicate, take-append-drop, length-drop}
 use lib.Dec.{T, ltb}
@@ -13,12 +13,15 @@ use Rattle.model.specs.Settings.{Settings, toks_per_row}
 use Rattle.model.specs.Profile.{Profile, job_of}
 use Rattle.model.specs.Learn.{Result, leaf_count, learned}
 use Rattle.model.specs.Deepen.{deepened}
-use Rattle.model.specs.Tree.{nodes_of, fault_of}
+use Rattle.model.specs.Tree.{Record, nodes_of, fault_of}
 use Rattle.model.specs.Contexts.{contexts_of}
-use Rattle.model.specs.Operations.{Outcome, refused, accepted, After, unless, Tree, tree_of, learn, deepen, ContextLists, leaf_contexts, sample}
-use Rattle.model.specs.Refuse.{Refusal, Besides, is_outside, has_no_predictor, is_uneven, bad_row_from, is_short_alphabet, is_bad_logs, is_short_of_room, is_short_of_seed_room, refused_before, learn_refusal, deepen_refusal, contexts_refusal, sample_refusal}
-use Rattle.model.specs.Lent.{Stored, Lent, row_count, rows_in, uses_modes, tree_in, lent_after}
+use Rattle.model.specs.Symbols.{symbols_of, tree_read}
+use Rattle.model.specs.Operations.{Outcome, refused, accepted, After, unless, Tree, tree_of, learn, deepen, ContextLists, leaf_contexts, SymbolLists, write_symbols, read_symbols, sample}
+use Rattle.model.specs.Refuse.{Refusal, Besides, is_outside, has_no_predictor, is_uneven, bad_row_from, is_short_alphabet, is_bad_logs, is_short_of_room, is_short_of_seed_room, refused_before, learn_refusal, deepen_refusal, contexts_refusal, write_refusal, read_refusal, sample_refusal}
+use Rattle.model.specs.Lent.{Stored, stored, Lent, row_count, rows_in, uses_modes, tree_in, lent_after}
 use Rattle.model.specs.Accepting.{InRange, Even, Rooms, SeedRooms, Passed}
+use Rattle.model.specs.declared.Symbol.{Symbol}
+use Rattle.model.proofs.Invariant.{none_is_no_some}
 use Rattle.model.proofs.Tests.{and_both, neither, holds, not-below, passed, named, unasked, unnamed}
 
 -- ---- read off the checks
@@ -141,6 +144,39 @@ pub contexts-passed : {M : Meter} (nodes : List (Stored M)) (count : ℕ) (x y :
     × (y ≡ record { contexts = written_over (contexts_of (nodes_of (tree_in count nodes))) x.contexts; queue = replicate (length x.queue) 0 })
 unfolding leaf_contexts contexts_refusal
 contexts-passed nodes count x y leaves e = search arith
+
+pub write-refused : {M : Meter} (nodes : List (Stored M)) (count : ℕ) (x y : SymbolLists) (r : Refusal)
+    → write_symbols nodes count x ≡ record { outcome = refused r; lent = y } → (write_refusal nodes count x.symbols x.queue ≡ some r) × (y ≡ x)
+unfolding write_symbols
+write-refused nodes count x y r e = refused-by x _ _ y (write_refusal nodes count x.symbols x.queue) r e
+
+-- the tree is sound, the lists have room, and its symbols are written into them
+pub write-passed : {M : Meter} (nodes : List (Stored M)) (count : ℕ) (x y : SymbolLists) (n : ℕ)
+    → write_symbols nodes count x ≡ record { outcome = accepted n; lent = y }
+    → (count ≤ length nodes) × (fault_of (tree_in count nodes) ≡ none) × (length (symbols_of (tree_in count nodes)) ≤ length x.symbols) × (count ≤ length x.queue)
+    × (n ≡ length (symbols_of (tree_in count nodes))) × (y ≡ record { symbols = written_over (symbols_of (tree_in count nodes)) x.symbols; queue = replicate (length x.queue) 0 })
+unfolding write_symbols write_refusal
+write-passed nodes count x y n e = search arith
+
+pub read-refused : {M : Meter} (symbols : List Symbol) (nodes y : List (Stored M)) (r : Refusal)
+    → read_symbols symbols nodes ≡ record { outcome = refused r; lent = y } → (read_refusal (tree_read symbols) nodes ≡ some r) × (y ≡ nodes)
+unfolding read_symbols
+read-refused symbols nodes y r e = refused-by nodes _ _ y (read_refusal (tree_read symbols) nodes) r e
+
+-- symbols that are not refused are a tree, which has room
+tree-there : {M : Meter} (read : Option (List (Record M))) (nodes : List (Stored M)) → read_refusal read nodes ≡ none → (t : List (Record M)) × (read ≡ some t) × (length t ≤ length nodes)
+unfolding read_refusal
+tree-there none nodes e = absurd (none_is_no_some _ (sym e))
+tree-there (some t) nodes e = (t, refl, (simp (passed, not-below) at e).0)
+
+-- and this is written into the list
+pub read-passed : {M : Meter} (symbols : List Symbol) (nodes y : List (Stored M)) (n : ℕ) → read_symbols symbols nodes ≡ record { outcome = accepted n; lent = y }
+    → (t : List (Record M)) × (tree_read symbols ≡ some t) × (length t ≤ length nodes) × (n ≡ length t) × (y ≡ written_over (map stored t) nodes)
+unfolding read_symbols
+read-passed symbols nodes y n e =
+    let (clear, answer, exit) = accepted-by nodes _ _ y (read_refusal (tree_read symbols) nodes) n e in
+    let (t, q, room) = tree-there (tree_read symbols) nodes clear in
+    (t, q, room, rw q at answer, rw q at exit)
 
 pub sample-refused : (rows target : ℕ) (out y : List ℕ) (r : Refusal)
     → sample rows target out ≡ record { outcome = refused r; lent = y } → (sample_refusal rows target out ≡ some r) × (y ≡ out)

@@ -3,26 +3,31 @@ use mathlib.Core.Path.{◌≡◌, refl, sym, ap, ◌∙◌}
 use Prim.Native.Nat.{ℕ, suc, ◌+◌, ◌*◌, ◌/◌, ◌-◌, ◌≤◌, ◌<◌, min, max}
 use native.Mathlib.Omega.{arith}
 use mathlib.Core.List.{List, map}
+use mathlib.Core.Option.{some}
 use lib.ListN.{length, get_or, take, drop, replicate, length-map}
-use lib.Seq.{length-take-le, take_at}
+use lib.Seq.{length-take-le, take_at, take-length}
+use Rattle.model.specs.Lists.{written_over}
 use Rattle.model.specs.Meter.{Meter}
 use Rattle.model.specs.Settings.{Settings}
+use Rattle.model.specs.Standard.{symbol}
 use Rattle.model.specs.Rows.{no_span}
 use Rattle.model.specs.Tree.{Record, blank_record, nodes_of}
 use Rattle.model.specs.Learn.{Result, leaf_count}
 use Rattle.model.specs.Contexts.{contexts_of}
+use Rattle.model.specs.Symbols.{symbols_of, tree_read}
 use Rattle.model.specs.Sampling.{even_sample}
 use Rattle.model.specs.Profile.{Profile, job_of}
 use Rattle.model.specs.Lent.{Stored, stored, Lent, no_waiting, rows_in, uses_modes, tree_in, lent_after}
 use Rattle.model.specs.Refuse.{sample_refusal}
-use Rattle.model.specs.Operations.{accepted, Tree, tree_of, learn, deepen, ContextLists, leaf_contexts, sample}
+use Rattle.model.specs.Operations.{accepted, Tree, tree_of, learn, deepen, ContextLists, leaf_contexts, SymbolLists, write_symbols, read_symbols, sample}
 use Rattle.model.specs.Promise.{span_at, record_at, Unpruned}
+use Rattle.model.specs.declared.Symbol.{Symbol}
 use Rattle.model.proofs.Lawful.{Lawful}
 use Rattle.model.proofs.Places.{length-each, each_at}
 use Rattle.model.proofs.Results.{ResultLaws}
-use Rattle.model.proofs.Accepted.{learn-accepted, deepen-accepted, contexts-passed}
+use Rattle.model.proofs.Accepted.{learn-accepted, deepen-accepted, contexts-passed, write-passed, read-passed}
 use Rattle.model.proofs.Written.{length-written, get_d_written, get_d_unwritten}
-use Rattle.model.proofs.NodeEntries.{length-tree, entry-written, record_written}
+use Rattle.model.proofs.NodeEntries.{length-tree, tree-written, entry-written, record_written}
 use Rattle.model.proofs.AtExit.{AsLong, Fits, tree_at, as_long}
 use Rattle.model.proofs.Vacated.{EntriesOf, learned-entries, deepened-entries}
 use Rattle.model.proofs.Tally.{tree-count}
@@ -108,6 +113,55 @@ contexts-accepted nodes count x y leaves e =
       as_long = length-written contexts x.contexts (omega arith);
       queue = refl;
     })
+
+-- ---- symbols
+-- The answer is how many symbols the tree has, and these are written; those past them are unchanged, the queue space holds zeros
+pub record SymbolsPut {M : Meter} (nodes : List (Stored M)) (count : ℕ) (x : SymbolLists) (n : ℕ) (y : SymbolLists) : Type 0 where
+  pub answer : n ≡ length (symbols_of (tree_in count nodes))
+  pub written : take n y.symbols ≡ symbols_of (tree_in count nodes)
+  pub past : (i : ℕ) → n ≤ i → get_or y.symbols i (symbol 0 0) ≡ get_or x.symbols i (symbol 0 0)
+  pub as_long : length y.symbols ≡ length x.symbols
+  pub queue : y.queue ≡ replicate (length x.queue) 0
+
+pub write-accepted : {M : Meter} (nodes : List (Stored M)) (count : ℕ) (x y : SymbolLists) (n : ℕ)
+    → write_symbols nodes count x ≡ record { outcome = accepted n; lent = y } → SymbolsPut nodes count x n y
+write-accepted nodes count x y n e =
+    let said = symbols_of (tree_in count nodes) in
+    let (inside, faultless, room, _, answer, exit) = write-passed nodes count x y n e in
+    rw (exit, answer) (record {
+      answer = refl;
+      written = take_at said (drop (length said) x.symbols) (length said) refl;
+      past = λ i l. get_d_unwritten said x.symbols (symbol 0 0) i l;
+      as_long = length-written said x.symbols room;
+      queue = refl;
+    })
+
+-- The answer is how many nodes the tree has that the symbols are, and its records are written; entries past them are unchanged
+pub record TreeGot {M : Meter} (symbols : List Symbol) (nodes : List (Stored M)) (n : ℕ) (y : List (Stored M)) : Type 0 where
+  pub tree : List (Record M)
+  pub is_read : tree_read symbols ≡ some tree
+  pub answer : n ≡ length tree
+  pub written : tree_in n y ≡ tree
+  pub clean : (k : ℕ) → k < n → get_or y k (stored blank_record) ≡ stored (get_or tree k blank_record)
+  pub past : (k : ℕ) → n ≤ k → get_or y k (stored blank_record) ≡ get_or nodes k (stored blank_record)
+  pub as_long : length y ≡ length nodes
+
+pub read-accepted : {M : Meter} (symbols : List Symbol) (nodes y : List (Stored M)) (n : ℕ)
+    → read_symbols symbols nodes ≡ record { outcome = accepted n; lent = y } → TreeGot symbols nodes n y
+read-accepted {M} symbols nodes y n e = let (t, is_read, room, answer, exit) = read-passed symbols nodes y n e in got t is_read room answer exit
+  where
+    got : (t : List (Record M)) → tree_read symbols ≡ some t → length t ≤ length nodes → n ≡ length t → y ≡ written_over (map stored t) nodes → TreeGot symbols nodes n y
+    got t is_read room answer exit =
+        let m = length-map t stored in
+        rw (answer, exit) (record {
+          tree = t;
+          is_read = is_read;
+          answer = refl;
+          written = tree-written t nodes (length t) (omega arith) ∙ take-length t;
+          clean = entry-written t nodes;
+          past = λ k l. get_d_unwritten (map stored t) nodes (stored blank_record) k (omega arith);
+          as_long = length-written (map stored t) nodes (omega arith);
+        })
 
 -- ---- even sampling
 -- the row numbers picked: so many, evenly spread, ascending; entries past them are unchanged
