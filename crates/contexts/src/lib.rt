@@ -69,17 +69,13 @@ pub fn leaf_contexts(
         (record { contexts = contexts.old; queue = queue.old }) }
 {
     let n = count as usize;
-    if nodes.len() < n {
-        return Err(Refusal::UnsoundTree(0));
-    }
-    let tree = &nodes[..n];
-    if let Some(node) = tree::fault_of(tree) {
+    if let Some(node) = tree::fault_in(nodes, n) {
         return Err(Refusal::UnsoundTree(node));
     }
     if (contexts.len() < n) | (queue.len() < n) {
         return Err(Refusal::ShortOfRoom);
     }
-    let leaves = number_leaves(tree, &mut contexts[..n], &mut queue[..n]);
+    let leaves = number_leaves(&nodes[..n], &mut contexts[..n], &mut queue[..n]);
     queue.fill(0);
     Ok(leaves)
 }

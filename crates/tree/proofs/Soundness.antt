@@ -1,19 +1,25 @@
--- What the records of a sound tree say. Assumes nothing.
-use mathlib.Core.Path.{◌≡◌}
+-- What the records of a sound tree say, and when the first nodes of a list are one. Assumes nothing.
+use mathlib.Core.Path.{◌≡◌, refl}
 use Prim.Native.Nat.{ℕ, ◌≤◌, ◌<◌}
 use native.Mathlib.Omega.{arith}
-use mathlib.Core.Bool.{true}
-use mathlib.Core.List.{List}
-use lib.ListN.{length, get_or}
-use lib.Dec.{eqb, ltb→lt}
+use mathlib.Core.Bool.{Bool, true, false, cond}
+use mathlib.Core.List.{List, map}
+use mathlib.Core.Option.{none, some}
+use lib.ListN.{length, get_or, take}
+use lib.Dec.{eqb, ltb, ltb→lt}
+use borrow.Author.Tests.{ltb-false}
+use Rattle.std.proofs.Math.Option.{some-ne-none}
+use Rattle.std.proofs.lemmas.List.{length-map}
 use Rattle.model.specs.Settings.{props_per_row, max_nodes}
-use Rattle.model.specs.Tree.{split, blank_record, nodes_of}
+use Rattle.model.specs.Tree.{split, blank_record, nodes_of, fault_of}
+use Rattle.model.specs.Lent.{tree_in}
+use Rattle.model.specs.Refuse.{fault_in}
 use Rattle.model.specs.Family.{Forward}
 use Rattle.model.proofs.Sound as model
-use Rattle.layout.specs.Records.{no_record}
+use Rattle.layout.specs.Records.{stored_of, no_record}
 use Rattle.layout.specs.declared.MaNode.{MaNode}
 use Rattle.tree.specs.Trees.{records_in, IsSound, AtMost, Deepens}
-use Rattle.tree.proofs.Entries.{records-length, record_at_lem, nodes-length, node_at_lem}
+use Rattle.tree.proofs.Entries.{records-length, record_at_lem, nodes-length, node_at_lem, tree-is}
 
 module _ (t : List MaNode) (is : IsSound t) where
   pub all_sound : model.Sound (records_in t)
@@ -40,3 +46,12 @@ module _ (t : List MaNode) (is : IsSound t) where
         shallow = omega (arith, low i place);
         children = λ is. let fits = (node_fits i inside is).1 in (omega arith, omega arith);
       }
+
+-- ---- the tree of the first nodes: no fault is named, so the list has them, and they are sound
+pub no_fault_named : (nodes : List MaNode) (count : ℕ) → fault_in count (map stored_of nodes) ≡ none → (count ≤ length nodes) × IsSound (take count nodes)
+no_fault_named nodes count e = go (ltb (length (map stored_of nodes)) count) refl e
+  where
+    go : (b : Bool) → ltb (length (map stored_of nodes)) count ≡ b → cond b (some 0) (fault_of (tree_in count (map stored_of nodes))) ≡ none
+        → (count ≤ length nodes) × IsSound (take count nodes)
+    go true beyond h = absurd (some-ne-none 0 h)
+    go false held h = (rw (length-map nodes stored_of) at (ltb-false _ _ held), rw (tree-is nodes count) at h)

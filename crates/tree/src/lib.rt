@@ -2,13 +2,15 @@
 // of its nodes.
 #![tactic(auto)]
 
-ghost use Rattle.std.specs.Prelude.{◌≡◌, true, ℕ, ◌+◌, ◌-◌, ◌≤◌, ◌<◌, cond, List, length, get_or, replicate, ℤ, eqb};
+ghost use Rattle.std.specs.Prelude.{◌≡◌, true, ℕ, ◌+◌, ◌-◌, ◌≤◌, ◌<◌, cond, ℤ, eqb};
+ghost use Rattle.std.specs.Prelude.{List, map, length, get_or, replicate};
 ghost use Rattle.model.specs.Settings.{max_nodes};
 ghost use Rattle.model.specs.Rows.{rows_of};
 ghost use Rattle.model.specs.Tree.{nodes_of, is_orderly, has_child, has_two_children, fault_from, fault_of};
 ghost use Rattle.model.specs.Tree.{towards, leaf_reached};
 ghost use Rattle.model.specs.Deepen.{depths_of};
-ghost use Rattle.layout.specs.Records.{node_is};
+ghost use Rattle.model.specs.Refuse.{fault_in};
+ghost use Rattle.layout.specs.Records.{stored_of, node_is};
 ghost use Rattle.tree.specs.Trees.{records_in, is_fine_in, Routable, leaf_numbers, AllRoutable};
 ghost use Rattle.tree.specs.Trees.{AtMost, Counted, deeper, Deepens, Measurable};
 ghost use Rattle.tree.specs.Answers.{fault_named};
@@ -154,6 +156,16 @@ pub fn fault_of(tree: &[MaNode]) -> Option<u32>
     let parents = &mut counted[..count];
     count_parents(tree, parents);
     lowest_fault(tree, parents)
+}
+
+// The node to name of the tree of the first `count` nodes: as above, and 0 also where the list is shorter.
+pub fn fault_in(nodes: &[MaNode], count: usize) -> Option<u32>
+    ensures { fault_named result ≡ fault_in count (map stored_of nodes.now) }
+{
+    if nodes.len() < count {
+        return Some(0);
+    }
+    fault_of(&nodes[..count])
 }
 
 // The children of a split lie one deeper than it.
