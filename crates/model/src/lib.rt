@@ -35,6 +35,20 @@ pub struct Symbol {
     pub value: u32,
 }
 
+// The context numbers, in their order: of a split's value; of a property + 1, or 0 for a leaf; of a leaf's predictor,
+// of its offset, and of the two numbers that tell its multiplier.
+pub const SPLIT_VAL_CONTEXT: u32 = 0;
+
+pub const PROPERTY_CONTEXT: u32 = 1;
+
+pub const PREDICTOR_CONTEXT: u32 = 2;
+
+pub const OFFSET_CONTEXT: u32 = 3;
+
+pub const MULTIPLIER_LOG_CONTEXT: u32 = 4;
+
+pub const MULTIPLIER_BITS_CONTEXT: u32 = 5;
+
 // A refusal: why a job is not done, with the row or the node that is named.
 #[derive(Clone, Copy, PartialEq, Eq, Debug)]
 pub enum Refusal {
