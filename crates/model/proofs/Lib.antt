@@ -55,6 +55,7 @@ pub mod SameJob
 pub mod Demand3
 pub mod Vacated
 pub mod BreadthFirst
+pub mod SymbolCount
 pub mod ContextNumbers
 pub mod SymbolsRead
 pub mod SymbolsWritten
