@@ -1,11 +1,11 @@
--- What the queue holds while a breadth-first walk of a sound tree goes on: the nodes visited, then those that wait. Assumes nothing.
-use mathlib.Core.Path.{◌≡◌, refl, sym, ap, ◌∙◌}
+-- What the queue holds while a breadth-first walk of a sound tree goes on: the nodes visited, then those that wait; and the order at its end. Assumes nothing.
+use mathlib.Core.Path.{◌≡◌, refl, sym, ap, ◌∙◌, subst}
 use Prim.Native.Nat.{ℕ, suc, ◌+◌, ◌≤◌, ◌<◌}
 use native.Mathlib.Numerals.{add-one}
 use native.Mathlib.Omega.{arith}
 use mathlib.Core.Bool.{Bool, true, false}
 use mathlib.Core.List.Memᴰ
-use mathlib.Core.List.{List, [], ◌∷◌, ◌++◌, append-nil}
+use mathlib.Core.List.{List, [], ◌∷◌, ◌++◌, append-nil, Memᴰ}
 use lib.ListN.{length, get_or, set, take, length-set, length-append}
 use lib.Seq.{slice, slice-cons, slice_empty, take_all, take-suc, take-suc-set, length-take-le, get_or-set_same, get_or-set_other}
 use lib.Dec.{eqb}
@@ -13,7 +13,8 @@ use Rattle.model.specs.Tree.{Node, nodes_of}
 use Rattle.model.specs.Contexts.{breadth_order}
 use Rattle.model.proofs.Sound.{Rooted}
 use Rattle.model.proofs.Slices.{slice-join, slice_ext}
-use Rattle.model.proofs.BreadthFirst.{children_of, Breadth, begun, order-done, inside, few, visit, all-visited}
+use Rattle.model.proofs.Preorder.{mem_get_d}
+use Rattle.model.proofs.BreadthFirst.{children_of, Breadth, begun, order-done, inside, few, visit, all-visited, order-inside}
 use Rattle.layout.specs.Records.{no_record, node_is}
 use Rattle.layout.specs.declared.MaNode.{MaNode}
 use Rattle.tree.specs.Trees.{records_in, IsSound}
@@ -156,3 +157,9 @@ module _ (t : List MaNode) (is : IsSound t) where
       let all = all-visited nodes rooted some (take head order) done in
       let whole : length order ≤ head = omega (arith, all, long, w.there, w.within, length-take-le head order (omega (arith, w.there, w.within))) in
       sym (take_all head order whole) ∙ order-done nodes (take head order) done
+
+  -- each place of the order holds a node's number
+  pub order_inside : (order : List ℕ) → order ≡ breadth_order nodes → (k : ℕ) → k < length order → get_or order k 0 < length t
+  order_inside order e k h =
+      let i = get_or order k 0 in
+      rw long at (order-inside nodes rooted some i (subst (λ (l : List ℕ). Memᴰ i l) e (mem_get_d order k h)))

@@ -1,11 +1,11 @@
 -- The contexts that the leaves are given along the breadth-first order, node by node. Assumes nothing.
-use mathlib.Core.Path.{◌≡◌, refl, sym, ap, ◌∙◌, subst}
+use mathlib.Core.Path.{◌≡◌, refl, sym, ap, ◌∙◌}
 use Prim.Native.Nat.{ℕ, ◌+◌, ◌≤◌, ◌<◌}
 use native.Mathlib.Nat.{zero-add}
 use native.Mathlib.Numerals.{add-one}
 use native.Mathlib.Omega.{arith}
 use mathlib.Core.Bool.{Bool, true, false, cond}
-use mathlib.Core.List.{List, [], ◌∷◌, Memᴰ}
+use mathlib.Core.List.{List, [], ◌∷◌}
 use lib.ListN.{length, get_or, drop, replicate, length-set, length-replicate}
 use lib.Seq.{drop-cons, drop-length}
 use lib.Dec.{eqb}
@@ -14,14 +14,14 @@ use Rattle.model.specs.Tree.{Node, leaf, is_leaf, nodes_of}
 use Rattle.model.specs.Learn.{leaf_count}
 use Rattle.model.specs.Contexts.{no_context, contexts_of, breadth_order}
 use Rattle.model.proofs.Sound.{Rooted}
-use Rattle.model.proofs.Preorder.{mem_get_d}
 use Rattle.model.proofs.Tally.{tree-count}
-use Rattle.model.proofs.BreadthFirst.{leaf_at, numbered_along, along_end, along_split, along_leaf, contexts_along, order-inside, order-leaves}
+use Rattle.model.proofs.BreadthFirst.{leaf_at, numbered_along, along_end, along_split, along_leaf, contexts_along, order-leaves}
 use Rattle.layout.specs.Records.{no_record, node_is}
 use Rattle.layout.specs.declared.MaNode.{MaNode}
 use Rattle.tree.specs.Trees.{records_in, IsSound}
 use Rattle.tree.proofs.Entries.{nodes-length, node_at_lem}
 use Rattle.tree.proofs.Soundness.{all_sound, some_nodes}
+use Rattle.breadth.proofs.Walking.{order_inside}
 use Rattle.contexts.specs.Numbering.{Numbering, numbering, given, Giveable}
 
 -- the first k nodes of the order have their contexts, and what is left of it gives the rest
@@ -61,7 +61,7 @@ module _ (t : List MaNode) (is : IsSound t) (order : List ℕ) (long : length or
     left = drop-cons order k 0 more ∙ rw (add-one k)
 
     pub next_inside : i < length t
-    next_inside = rw many at (order-inside nodes rooted some i (subst (λ (l : List ℕ). Memᴰ i l) n.ordered (mem_get_d order k more)))
+    next_inside = order_inside t is order n.ordered k more
 
     next_few : next ≤ length t
     next_few = omega (arith, n.leaves, many, tree-count nodes rooted some, (some_nodes t is).0)

@@ -17,6 +17,10 @@ use Rattle.model.proofs.Tests.{neither}
 pub in_range : (count n : ℕ) → (eqb count 0 || ltb n count) ≡ false → (0 < count) × (count ≤ n)
 in_range count n e = let p = (neither (eqb count 0) (ltb n count)).0 e in let ne = eqb-false count 0 p.0 in (omega arith, ltb-false n count p.1)
 
+-- neither of two lists is too short
+pub both_long : (a m b n : ℕ) → (ltb a m || ltb b n) ≡ false → (m ≤ a) × (n ≤ b)
+both_long a m b n e = let p = (neither (ltb a m) (ltb b n)).0 e in (ltb-false a m p.0, ltb-false b n p.1)
+
 -- ---- a list that is a function of the place
 module _ {A : Type 0} (f : ℕ → A) where
   pub take-each : (first m n : ℕ) → m ≤ n → take m (map f (range first n)) ≡ map f (range first m)

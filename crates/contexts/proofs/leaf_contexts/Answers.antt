@@ -1,19 +1,12 @@
 -- `contexts::leaf_contexts` meets its contract: each refusal is the definition's, and the walk gives what the definition gives. Assumes nothing.
-use Rattle.std.proofs.Common.{◌≡◌, ◌≤◌, List, ℕ, length, replicate, false, ◌||◌, ◌∙◌, ap, sym}
+use Rattle.std.proofs.Common.{ℕ, length, replicate, ◌∙◌, ap, sym}
 use lib.Seq.{length-take-le, length_front}
-use lib.Dec.{ltb}
-use borrow.Author.Tests.{ltb-false}
-use Rattle.model.proofs.Tests.{neither}
 use Rattle.tree.specs.Answers.{fault_named}
+use Rattle.tree.proofs.Lists.{both_long}
 use Rattle.tree.proofs.Entries.{tree-is}
 use Rattle.tree.proofs.Soundness.{no_fault_named}
 use Rattle.contexts.proofs.Refusals.{faulty, cramped, counted}
 use Rattle.contexts.proofs.leaf_contexts.Goals as goal
-
--- there is room
-room : (contexts queue : List ℕ) (count : ℕ) → (ltb (length contexts) count || ltb (length queue) count) ≡ false
-    → (count ≤ length contexts) × (count ≤ length queue)
-room contexts queue count enough = let p = (neither _ _).0 enough in (ltb-false _ _ p.0, ltb-false _ _ p.1)
 
 pub returns-in-Some : goal.returns-in-Some
 returns-in-Some c = sym (faulty c.args.nodes.now c.args.count _ _ (sym c.fault_in.ensures ∙ ap fault_named c.in-Some.is))
@@ -23,7 +16,7 @@ returns-then-contexts-n c = sym (cramped c.args.nodes.now c.args.count _ (sym c.
 
 pub number_leaves-leaves-requires : goal.number_leaves-leaves-requires
 number_leaves-leaves-requires c = let a = c.args in
-    let r = room a.contexts.now a.queue.now a.count c.if-contexts-n.false in
+    let r = both_long (length a.contexts.now) a.count (length a.queue.now) a.count c.if-contexts-n.false in
     let f = no_fault_named a.nodes.now a.count (sym c.fault_in.ensures ∙ ap fault_named c.in_default.is) in
     let long = length-take-le a.count a.nodes.now f.0 in
     record {
@@ -34,7 +27,7 @@ number_leaves-leaves-requires c = let a = c.args in
 
 pub returns : goal.returns
 returns c = let a = c.args in
-    let one = length-take-le a.count a.contexts.now (room a.contexts.now a.queue.now a.count c.if-contexts-n.false).0 in
+    let one = length-take-le a.count a.contexts.now (both_long (length a.contexts.now) a.count (length a.queue.now) a.count c.if-contexts-n.false).0 in
     sym (counted a.nodes.now a.count _ (sym c.fault_in.ensures ∙ ap fault_named c.in_default.is) _ _ _ c.if-contexts-n.false
     (rw (← tree-is a.nodes.now a.count) at c.number_leaves-leaves.ensures) (c.number_leaves-leaves.auto.contexts ∙ one)
     (c.fill.ensures.after (λ y e. e) ∙ ap (λ (n : ℕ). replicate n 0) (length_front a.queue.now c.number_leaves-leaves.new.queue a.count c.number_leaves-leaves.auto.queue)))
