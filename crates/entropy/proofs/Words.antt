@@ -1,5 +1,7 @@
 -- What the machine's operations on 32-bit words make of the definitions. Assumes nothing.
-use Rattle.std.proofs.Common.{◌≡◌, ℕ, suc, ◌+◌, ◌-◌, ◌*◌, ◌/◌, ◌%◌, ◌^◌, ◌<◌, ◌≤◌, true, false, not, ltb, ℤ, pos, negsuc, refl, mod-eq_of_lt, one-mul, arith, pow_pos, w32, Fits, SFits, to_z, of_z, le-ltb, lt-ltb}
+use Rattle.std.proofs.Common.{◌≡◌, ◌≢◌, ◌∙◌, ◌-ℤ◌, eq-eqb, ne_eqb, ℕ, suc, ◌+◌, ◌-◌, ◌*◌, ◌/◌, ◌%◌, ◌^◌, ◌<◌, ◌≤◌, true, false, not, ltb, ℤ, pos, negsuc, refl, mod-eq_of_lt, one-mul, arith, pow_pos, w32, Fits, SFits, to_z, of_z, le-ltb, lt-ltb}
+use Rattle.std.proofs.lemmas.Int.{ints}
+use Rattle.std.proofs.Math.Facts.{to_z_pos}
 use lib.Bits.{bit_and, and_mask}
 use lib.Count.{count_leading_zeros, leading_top}
 use lib.Pow.{pow-lt}
@@ -7,6 +9,7 @@ use lib.Signed.{lt_z}
 use mir.ValLaws.{to_z-of_z}
 use Rattle.model.specs.declared.Encoded.{Encoded}
 use Rattle.model.specs.Pack.{packed, pattern, packed_pattern}
+use Rattle.model.specs.Standard.{unpack_signed}
 use Rattle.model.specs.Token.{top_bit, token_of, extra_count, extra_bits, value_of, encoded_of}
 use Rattle.model.proofs.Packing.{packed-pattern}
 use Rattle.model.proofs.Tokens.{top_bit_lem, top_least, large-count, value-fits, large-value}
@@ -43,6 +46,27 @@ module _ (z : ℤ) (h : SFits w32 z) (bits doubled : ℕ) (b : bits ≡ pattern 
   pub packed-negative : lt_z (read z) (pos 0) ≡ true → 4294967295 - doubled ≡ packed z
   unfolding packed_pattern
   packed-negative e = rw (d, b, to_z-of_z w32 z h) (rw (sign, e) at (packed-pattern z h.sfits))
+
+-- ---- unpacking
+
+module _ (v : ℕ) (h : Fits w32 v) (half : ℤ) (is : half ≡ to_z w32 (v / 2)) where
+  half-is : half ≡ pos (v / 2)
+  half-is = is ∙ to_z_pos w32 (omega (arith, h.fits))
+
+  -- below zero
+  below : negsuc 0 -ℤ pos (v / 2) ≡ negsuc (v / 2)
+  below = omega (arith, ints)
+
+  pub unpacked_even : v % 2 ≡ 0 → read half ≡ unpack_signed v
+  unfolding unpack_signed
+  unpacked_even e = rw (half-is, eq-eqb (v % 2) 0 e) (to_z-of_z w32 (pos (v / 2)) (record { sfits = omega (arith, h.fits) }))
+
+  pub unpacked_odd : (v % 2 ≢ 0) → read (negsuc 0 -ℤ read half) ≡ unpack_signed v
+  unfolding unpack_signed
+  unpacked_odd o =
+      let up : (v + 1) / 2 ≡ suc (v / 2) = omega arith in
+      let again : read (pos (v / 2)) ≡ pos (v / 2) = to_z-of_z w32 (pos (v / 2)) (record { sfits = omega (arith, h.fits) }) in
+      rw (half-is, again, below, ne_eqb (v % 2) 0 o, up) (to_z-of_z w32 (negsuc (v / 2)) (record { sfits = omega (arith, h.fits) }))
 
 -- ---- tokens
 

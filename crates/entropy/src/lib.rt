@@ -2,6 +2,7 @@
 #![tactic(auto)]
 
 ghost use Rattle.std.specs.Prelude.{◌≡◌};
+ghost use Rattle.model.specs.Standard.{unpack_signed};
 ghost use Rattle.model.specs.Pack.{packed, pattern as Pack·pattern};
 ghost use Rattle.model.specs.Token.{extra_count, encoded_of};
 ghost use Rattle.model.specs.Operations.{token_answer};
@@ -27,6 +28,14 @@ pub fn pack_signed(value: i32) -> u32
     } else {
         doubled
     }
+}
+
+// The signed number that was packed so: 0, 1, 2, 3 .. give 0, -1, 1, -2 ..
+pub fn unpack_signed(value: u32) -> i32
+    ensures { result ≡ unpack_signed value }
+{
+    let half = (value / 2).cast_signed();
+    if value % 2 == 0 { half } else { -1 - half }
 }
 
 // The token of a value, how many extra bits follow it, and those bits.
