@@ -6,7 +6,8 @@ use Rattle.model.specs.Pack.{packed}
 use Rattle.model.specs.Token.{encoded_of}
 use Rattle.model.specs.declared.Encoded.{Encoded}
 use Rattle.model.specs.Profile.{single}
-use Rattle.model.specs.Operations.{ContextLists, learn, deepen, lookup, leaf_contexts, sample, token_answer}
+use Rattle.model.specs.declared.Symbol.{Symbol}
+use Rattle.model.specs.Operations.{ContextLists, SymbolLists, learn, deepen, lookup, leaf_contexts, write_symbols, read_symbols, sample, token_answer}
 use Rattle.refuse.specs.Given.{settings_of}
 use Rattle.refuse.specs.declared.Settings.{Settings}
 use Rattle.layout.specs.Records.{stored_of}
@@ -45,6 +46,18 @@ LookingUp nodes count ps r = r ≡ found_in (lookup (map stored_of nodes) count 
 pub record Numbering (nodes : List MaNode) (count : ℕ) (x : ContextLists) (r : Count) (y : ContextLists) : Type 0 where
   pub answers : r ≡ count_in (leaf_contexts (map stored_of nodes) count x).outcome
   pub leaves : y ≡ (leaf_contexts (map stored_of nodes) count x).lent
+
+-- ---- the tree of the first `count` nodes as symbols; and the tree that symbols are, in a node list
+abbrev pub symbol_lists : List Symbol → List ℕ → SymbolLists
+symbol_lists symbols queue = record { symbols = symbols; queue = queue }
+
+pub record WritingSymbols (nodes : List MaNode) (count : ℕ) (x : SymbolLists) (r : Count) (y : SymbolLists) : Type 0 where
+  pub answers : r ≡ count_in (write_symbols (map stored_of nodes) count x).outcome
+  pub leaves : y ≡ (write_symbols (map stored_of nodes) count x).lent
+
+pub record ReadingSymbols (symbols : List Symbol) (x : List MaNode) (r : Count) (y : List MaNode) : Type 0 where
+  pub answers : r ≡ count_in (read_symbols symbols (map stored_of x)).outcome
+  pub leaves : map stored_of y ≡ (read_symbols symbols (map stored_of x)).lent
 
 -- ---- even sampling of so many rows into a list
 pub record Sampling (rows target : ℕ) (x : List ℕ) (r : Count) (y : List ℕ) : Type 0 where

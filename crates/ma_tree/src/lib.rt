@@ -12,12 +12,13 @@ ghost use Rattle.model.specs.Operations.{lookup, token_answer};
 ghost use Rattle.layout.specs.Records.{stored_of};
 ghost use Rattle.answers.specs.Answers.{value_in, found_in};
 ghost use Rattle.border.specs.Lists.{contexts_now};
-ghost use Rattle.ma_tree.specs.Runs.{records_now, Learning, Deepening, Numbering, Sampling};
+ghost use Rattle.ma_tree.specs.Runs.{records_now, symbol_lists, Learning, Deepening, Numbering};
+ghost use Rattle.ma_tree.specs.Runs.{WritingSymbols, ReadingSymbols, Sampling};
 
 use answers::{Count, FoundLeaf, LearnedTree, Read};
 use layout::{MaNode, Nodes, Span};
 use lent::Lists;
-use model::Encoded;
+use model::{Encoded, Symbol};
 use queue::Queue;
 use refuse::{Job, Settings};
 use rows::Rows;
@@ -152,4 +153,27 @@ pub fn ostrovuc_leaf_contexts<'n, 'a>(
         (contexts_now contexts.entry queue.entry) result (contexts_now contexts.exit queue.exit) }
 {
     Count::from(contexts::leaf_contexts(nodes, contexts, queue, count))
+}
+
+// ---- a tree as JPEG XL symbols
+
+// The tree of the first `count` nodes as ISO/IEC 18181-1 transmits it, and how many symbols that takes. The queue is
+// room for the walk, and holds zeros afterwards.
+pub fn ostrovuc_write_symbols(
+    nodes: &[MaNode],
+    count: u32,
+    symbols: &mut [Symbol],
+    queue: &mut [u32],
+) -> Count
+    ensures { WritingSymbols nodes.now count (symbol_lists symbols.old queue.old) result
+        (symbol_lists symbols.new queue.new) }
+{
+    Count::from(symbol_writer::write_symbols(nodes, symbols, queue, count))
+}
+
+// The tree that symbols are, its nodes numbered breadth first, and how many these are.
+pub fn ostrovuc_read_symbols(symbols: &[Symbol], nodes: &mut [MaNode]) -> Count
+    ensures { ReadingSymbols symbols.now nodes.old result nodes.new }
+{
+    Count::from(symbol_reader::read_symbols(symbols, nodes))
 }

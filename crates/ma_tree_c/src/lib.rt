@@ -11,11 +11,12 @@ ghost use Rattle.model.specs.Operations.{lookup, token_answer};
 ghost use Rattle.layout.specs.Records.{stored_of};
 ghost use Rattle.answers.specs.Answers.{value_in, found_in};
 ghost use Rattle.border.specs.Lists.{contexts_now};
-ghost use Rattle.ma_tree.specs.Runs.{records_now, Learning, Deepening, Numbering, Sampling};
+ghost use Rattle.ma_tree.specs.Runs.{records_now, symbol_lists, Learning, Deepening, Numbering};
+ghost use Rattle.ma_tree.specs.Runs.{WritingSymbols, ReadingSymbols, Sampling};
 
 use answers::{Count, FoundLeaf, LearnedTree, Read};
 use layout::{MaNode, Span};
-use model::Encoded;
+use model::{Encoded, Symbol};
 use refuse::Settings;
 
 #[unsafe(no_mangle)]
@@ -152,4 +153,27 @@ pub extern "C" fn ostrovuc_leaf_contexts<'n, 'a>(
         (contexts_now contexts.entry queue.entry) result (contexts_now contexts.exit queue.exit) }
 {
     ma_tree::ostrovuc_leaf_contexts(nodes, count, contexts, queue)
+}
+
+// The tree of the first `count` nodes as ISO/IEC 18181-1 transmits it, and how many symbols that takes. The queue is
+// room for the walk, and holds zeros afterwards.
+#[unsafe(no_mangle)]
+pub extern "C" fn ostrovuc_write_symbols(
+    nodes: &[MaNode],
+    count: u32,
+    symbols: &mut [Symbol],
+    queue: &mut [u32],
+) -> Count
+    ensures { WritingSymbols nodes.now count (symbol_lists symbols.old queue.old) result
+        (symbol_lists symbols.new queue.new) }
+{
+    ma_tree::ostrovuc_write_symbols(nodes, count, symbols, queue)
+}
+
+// The tree that symbols are, its nodes numbered breadth first, and how many these are.
+#[unsafe(no_mangle)]
+pub extern "C" fn ostrovuc_read_symbols(symbols: &[Symbol], nodes: &mut [MaNode]) -> Count
+    ensures { ReadingSymbols symbols.now nodes.old result nodes.new }
+{
+    ma_tree::ostrovuc_read_symbols(symbols, nodes)
 }
