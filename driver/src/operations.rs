@@ -1,7 +1,7 @@
 //! From a job to the port's answer. The public operations are crate `jobs`'s; a single part's job is laid out here as
 //! the part wants it.
 
-use crate::{pruning, scoring};
+use crate::{pruning, scoring, symbols};
 use driver::port::{self, CANDIDATES, Counts, Rows};
 use stream::{Answer, Job, PREDICTORS, PROPERTIES};
 
@@ -19,6 +19,8 @@ pub fn answer(job: Job, counts: &mut Counts) -> Answer {
         Job::Candidates(column, limit) => candidates(&column, limit, counts),
         Job::Partition(column, threshold) => partition(&column, threshold),
         Job::Prune(job) => Answer::Pruned(pruning::prune(&job)),
+        Job::WriteSymbols(job) => Answer::SymbolsWritten(symbols::write(&job)),
+        Job::ReadSymbols(job) => Answer::SymbolsRead(symbols::read(&job)),
         Job::Score(job) => Answer::Scored(scoring::score(&job)),
         Job::Marks(words) => Answer::Places(places(&words)),
     }

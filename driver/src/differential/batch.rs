@@ -85,11 +85,16 @@ fn short() -> Failure {
     Failure("the oracle's answers end early".into())
 }
 
-/// The answers of learning, deepening, lookup, contexts and sampling begin with document 01's number.
+/// The answers of learning, deepening, lookup, contexts and sampling begin with document 01's number, those of the
+/// symbols' writer and reader with 02's.
+pub fn begins_with_a_number(kind: u32) -> bool {
+    matches!(kind, 1..=5 | 32 | 33)
+}
+
 fn count(tally: &mut Tally, job: &Message, answer: &Message) {
     let counts = tally.entry(job.kind).or_default();
     counts.jobs += 1;
-    if job.kind <= 5 && answer.body.first_chunk() != Some(&[0; 4]) {
+    if begins_with_a_number(job.kind) && answer.body.first_chunk() != Some(&[0; 4]) {
         counts.refused += 1;
     }
 }

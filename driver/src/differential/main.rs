@@ -13,6 +13,7 @@ mod programs;
 mod record;
 mod report;
 mod shrink;
+mod symbols;
 mod trees;
 
 use batch::Difference;

@@ -1,6 +1,6 @@
 //! What is said on the way, and at the end.
 
-use crate::batch::{Counts, Tally};
+use crate::batch::{self, Counts, Tally};
 use crate::plan::Batch;
 use crate::record::Record;
 use std::collections::BTreeMap;
@@ -13,7 +13,7 @@ const SHOWN: usize = 40;
 /// Without a terminal, a line after so much time.
 const PAUSE: Duration = Duration::from_secs(15);
 
-const KINDS: [(u32, &str); 14] = [
+const KINDS: [(u32, &str); 16] = [
     (1, "learning"),
     (2, "deepening"),
     (3, "lookup"),
@@ -26,6 +26,8 @@ const KINDS: [(u32, &str); 14] = [
     (17, "candidates"),
     (18, "partition"),
     (19, "pruning"),
+    (32, "symbols written"),
+    (33, "symbols read"),
     (48, "scoring"),
     (49, "marks"),
 ];
@@ -202,8 +204,8 @@ pub fn totals(record: &Record, last: Option<(&Batch, &Tally)>) {
 
 /// Lists of values hold refused ones and others, so theirs are not counted.
 fn refusals(kind: u32, refused: u64) -> String {
-    match kind {
-        ..=5 => format!(", {} of them refused", grouped(refused)),
-        _ => String::new(),
+    match batch::begins_with_a_number(kind) {
+        true => format!(", {} of them refused", grouped(refused)),
+        false => String::new(),
     }
 }

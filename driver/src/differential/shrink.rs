@@ -2,7 +2,7 @@
 //! until one of them keeps nothing.
 
 use crate::Result;
-use crate::edits;
+use crate::{edits, symbols};
 use std::ops::Range;
 use std::time::{Duration, Instant};
 use stream::{Job, Message};
@@ -40,6 +40,8 @@ pub fn smallest(job: &Message, differs: Differs<'_>) -> Result<Shrunk> {
             rounds((column, threshold), wrap, differs, edits::column)
         }
         Job::Prune(job) => rounds(job, Job::Prune, differs, edits::prune),
+        Job::WriteSymbols(job) => rounds(job, Job::WriteSymbols, differs, symbols::write),
+        Job::ReadSymbols(job) => rounds(job, Job::ReadSymbols, differs, symbols::read),
         Job::Score(job) => rounds(job, Job::Score, differs, edits::score),
         Job::Marks(words) => rounds(words, Job::Marks, differs, edits::marks),
     }

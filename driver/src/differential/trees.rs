@@ -2,7 +2,7 @@
 
 use crate::Result;
 use crate::shrink::Shrinker;
-use stream::{ContextsJob, Learning, LookupJob, PruneJob, Record};
+use stream::{ContextsJob, Learning, LookupJob, PruneJob, Record, WriteSymbolsJob};
 
 /// A job with a tree in it.
 pub trait Tree: Clone {
@@ -32,7 +32,7 @@ macro_rules! counted {
     )*};
 }
 
-counted!(Learning: seed_count, LookupJob: count, ContextsJob: count);
+counted!(Learning: seed_count, LookupJob: count, ContextsJob: count, WriteSymbolsJob: count);
 
 impl Tree for PruneJob {
     fn nodes(&mut self) -> &mut Vec<Record> {
@@ -66,7 +66,7 @@ pub fn tree<J: Tree>(s: &mut Shrinker<'_, J>) -> Result<()> {
 }
 
 /// Makes a node a leaf, and drops what then has no way to it.
-fn fold<J: Tree>(job: &mut J, at: usize) {
+pub fn fold<J: Tree>(job: &mut J, at: usize) {
     let nodes = job.nodes();
     if nodes[at].is_split() {
         let Record {
@@ -82,7 +82,7 @@ fn fold<J: Tree>(job: &mut J, at: usize) {
 }
 
 /// Keeps the tree below a node alone.
-fn keep_from<J: Tree>(job: &mut J, root: usize) {
+pub fn keep_from<J: Tree>(job: &mut J, root: usize) {
     let reached = reached_from(job.nodes(), root);
     keep_only(job, |node| reached[node]);
 }

@@ -15,6 +15,7 @@ mod ma_tree;
 mod marks;
 mod operations;
 mod refusals;
+mod symbols;
 mod thread_pool;
 mod ties;
 mod util;

@@ -9,6 +9,7 @@ use crate::lossless::leaf_contexts;
 use crate::ma_tree::{MaProperties, MaSamples, hooks};
 use crate::marks;
 use crate::refusals::{self, Refusal};
+use crate::symbols;
 use stream::{
     Answer, Contexts, ContextsJob, Damaged, Found, Job, Learned, Learning, LookupJob, PREDICTORS,
     PROPERTIES, PruneJob, Pruned, Record, Runs, SampleJob, Sampled, ScoreJob, Scored, Span,
@@ -34,6 +35,8 @@ pub(crate) fn answer(job: Job, scratch: &mut CoderScratch) -> Result<Answer, Dam
             Answer::Partitioned(above as u32, column)
         }
         Job::Prune(job) => Answer::Pruned(prune(job)?),
+        Job::WriteSymbols(job) => Answer::SymbolsWritten(symbols::write(&job)),
+        Job::ReadSymbols(job) => Answer::SymbolsRead(symbols::read(&job)),
         Job::Score(job) => Answer::Scored(score(&job, scratch)),
         Job::Marks(words) => Answer::Places(marks::places(&words, scratch)),
     })

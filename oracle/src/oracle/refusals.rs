@@ -1,12 +1,14 @@
-//! Document 01, "Which number comes back", sentence by sentence. Nothing of
-//! this is in the original, which trusts its callers. Each operation's checks
-//! run in the order written; the first true condition gives its number.
+//! Document 01, "Which number comes back", sentence by sentence, and what the
+//! requests of 02 add to it. Nothing of this is in the original, which trusts
+//! its callers. Each operation's checks run in the order written; the first
+//! true condition gives its number.
 
 use stream::{
     ContextsJob, Learning, LookupJob, PREDICTORS, PROPERTIES, Record, SampleJob, Settings,
+    WriteSymbolsJob,
 };
 
-/// A number of document 01, and the place that it names (else 0).
+/// A number of documents 01 and 02, and the place that it names (else 0).
 #[derive(Debug, Eq, PartialEq)]
 pub(crate) struct Refusal {
     pub(crate) number: u32,
@@ -16,7 +18,7 @@ pub(crate) struct Refusal {
 pub(crate) type Verdict = Result<(), Refusal>;
 
 const MOST_ROWS: usize = 65_536;
-const MOST_NODES: usize = 8_191;
+pub(crate) const MOST_NODES: usize = 8_191;
 
 fn refuse_if(condition: bool, number: u32) -> Verdict {
     refuse_at(condition.then_some(0), number)
@@ -61,12 +63,39 @@ pub(crate) fn lookup(job: &LookupJob, nodes: &[Record]) -> Verdict {
 }
 
 pub(crate) fn contexts(job: &ContextsJob, nodes: &[Record]) -> Verdict {
-    refuse_if(job.count as usize > nodes.len(), 8)?;
-    refuse_at(fault_of_seed(&nodes[..job.count as usize]), 8)?;
+    no_sound_tree(job.count as usize, nodes)?;
     refuse_if(
         job.context_entries < job.count || job.queue_entries < job.count,
         7,
     )
+}
+
+/// "Writers, here and later, refuse 8 as contexts do."
+pub(crate) fn write_symbols(job: &WriteSymbolsJob, nodes: &[Record]) -> Verdict {
+    let count = job.count as usize;
+    no_sound_tree(count, nodes)?;
+    let pairs: usize = nodes[..count].iter().map(pairs_of).sum();
+    refuse_if(
+        (job.pair_entries as usize) < pairs || job.queue_entries < job.count,
+        7,
+    )
+}
+
+/// `tree` is what a list of symbols is, if it is one; `entries` are those of the node list.
+pub(crate) fn read_symbols(tree: Option<&[Record]>, entries: usize) -> Verdict {
+    refuse_if(tree.is_none(), 11)?;
+    refuse_if(tree.is_some_and(|tree| entries < tree.len()), 7)
+}
+
+/// A node's symbols: property and value, or 0, predictor, offset and two of the multiplier.
+fn pairs_of(node: &Record) -> usize {
+    if node.is_split() { 2 } else { 5 }
+}
+
+/// Number 8 where a whole tree is asked for: the count is beyond the list, or a node is at fault.
+fn no_sound_tree(count: usize, nodes: &[Record]) -> Verdict {
+    refuse_if(count > nodes.len(), 8)?;
+    refuse_at(fault_of_seed(&nodes[..count]), 8)
 }
 
 pub(crate) fn sample(job: &SampleJob) -> Verdict {

@@ -4,7 +4,8 @@
 use std::fmt::Write;
 use stream::{
     Answer, Contexts, ContextsJob, Job, Learned, Learning, LookupJob, NodeList, PREDICTORS,
-    PROPERTIES, PruneJob, Pruned, Record, SampleJob, Sampled, ScoreJob, Scored, Settings, Span,
+    PROPERTIES, PruneJob, Pruned, ReadSymbolsJob, Record, SampleJob, Sampled, ScoreJob, Scored,
+    Settings, Span, Symbol, SymbolsRead, SymbolsWritten, WriteSymbolsJob,
 };
 
 pub fn job(job: &Job) -> String {
@@ -23,6 +24,8 @@ pub fn job(job: &Job) -> String {
             format!("partition of column {list:?} above {threshold}\n")
         }
         Job::Prune(job) => prune(job),
+        Job::WriteSymbols(job) => write_symbols(job),
+        Job::ReadSymbols(job) => read_symbols(job),
         Job::Score(job) => score(job),
         Job::Marks(words) => marks(words),
     }
@@ -60,6 +63,8 @@ pub fn answer(answer: &Answer) -> String {
         Answer::Candidates(list) => format!("candidates {list:?}\n"),
         Answer::Partitioned(above, list) => format!("{above} rows above, column {list:?}\n"),
         Answer::Pruned(answer) => pruned(answer),
+        Answer::SymbolsWritten(answer) => symbols_written(answer),
+        Answer::SymbolsRead(answer) => symbols_read(answer),
         Answer::Scored(answer) => scored(answer),
         Answer::Places(list) => format!("places {list:?}\n"),
     }
@@ -148,6 +153,59 @@ fn pruned(answer: &Pruned) -> String {
         answer.estimated_bits,
         spanned(&answer.nodes, &answer.spans)
     )
+}
+
+fn write_symbols(job: &WriteSymbolsJob) -> String {
+    format!(
+        "write symbols, room for {} pairs, queue {}, of {}",
+        job.pair_entries,
+        job.queue_entries,
+        list_of(job.count, &job.nodes, job.fill)
+    )
+}
+
+fn symbols_written(answer: &SymbolsWritten) -> String {
+    let written = answer.symbols.get(..answer.pair_count as usize);
+    format!(
+        "number {}, place {}, {} pairs written, queue {:?}\n{}",
+        answer.number,
+        answer.place,
+        answer.pair_count,
+        answer.queue.0,
+        pairs(written.unwrap_or(&answer.symbols))
+    )
+}
+
+fn read_symbols(job: &ReadSymbolsJob) -> String {
+    format!(
+        "read {} pairs, room for {} nodes, fill {}\n{}",
+        job.symbols.len(),
+        job.node_entries,
+        job.fill,
+        pairs(&job.symbols)
+    )
+}
+
+fn symbols_read(answer: &SymbolsRead) -> String {
+    let read = answer.nodes.get(..answer.node_count as usize);
+    format!(
+        "number {}, place {}, {} nodes read\n{}",
+        answer.number,
+        answer.place,
+        answer.node_count,
+        given(read.unwrap_or(&answer.nodes))
+    )
+}
+
+/// A line for each node, which begins with a symbol in context 1.
+fn pairs(symbols: &[Symbol]) -> String {
+    let node = |symbols: &[Symbol]| {
+        let pair = |&Symbol { context, value }: &Symbol| format!("{context}:{value}");
+        let pairs: Vec<String> = symbols.iter().map(pair).collect();
+        format!("pairs {}\n", pairs.join(" "))
+    };
+    let nodes = symbols.chunk_by(|_, next| next.context != 1);
+    nodes.map(node).collect()
 }
 
 fn score(job: &ScoreJob) -> String {

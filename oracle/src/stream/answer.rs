@@ -2,6 +2,7 @@
 
 use crate::record::{Record, Span};
 use crate::score::Scored;
+use crate::symbol::{SymbolsRead, SymbolsWritten};
 use crate::wire::{Message, Reader, Result, Wire, damaged, wire_struct};
 
 /// A list as runs of equal entries: (value, length) each.
@@ -200,6 +201,8 @@ pub enum Answer {
     /// Rows above, and the column.
     Partitioned(u32, Vec<i32>),
     Pruned(Pruned),
+    SymbolsWritten(SymbolsWritten),
+    SymbolsRead(SymbolsRead),
     Scored(Scored),
     /// The place of each set mark, ascending.
     Places(Vec<u32>),
@@ -221,6 +224,8 @@ impl Answer {
             17 => Self::Candidates(body.get()?),
             18 => Self::Partitioned(body.get()?, body.get()?),
             19 => Self::Pruned(body.get()?),
+            32 => Self::SymbolsWritten(body.get()?),
+            33 => Self::SymbolsRead(body.get()?),
             48 => Self::Scored(body.get()?),
             49 => Self::Places(body.get()?),
             other => return damaged(format!("no answer has kind {other}")),
@@ -243,6 +248,8 @@ impl Answer {
             Self::Candidates(_) => 17,
             Self::Partitioned(..) => 18,
             Self::Pruned(_) => 19,
+            Self::SymbolsWritten(_) => 32,
+            Self::SymbolsRead(_) => 33,
             Self::Scored(_) => 48,
             Self::Places(_) => 49,
         }
@@ -268,6 +275,8 @@ impl Answer {
                 column.write(&mut body);
             }
             Self::Pruned(answer) => answer.write(&mut body),
+            Self::SymbolsWritten(answer) => answer.write(&mut body),
+            Self::SymbolsRead(answer) => answer.write(&mut body),
             Self::Scored(answer) => answer.write(&mut body),
             Self::Places(list) => list.write(&mut body),
         }

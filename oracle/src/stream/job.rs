@@ -3,6 +3,7 @@
 use crate::MOST_MARK_WORDS;
 use crate::record::{NodeList, Record, Span};
 use crate::score::ScoreJob;
+use crate::symbol::{ReadSymbolsJob, WriteSymbolsJob};
 use crate::wire::{Message, Reader, Result, Wire, damaged, wire_struct};
 
 #[derive(Clone, Debug, PartialEq)]
@@ -140,6 +141,8 @@ pub enum Job {
     /// A column and the threshold.
     Partition(Vec<i32>, i32),
     Prune(PruneJob),
+    WriteSymbols(WriteSymbolsJob),
+    ReadSymbols(ReadSymbolsJob),
     Score(ScoreJob),
     /// Words of 64 marks each, the lowest bit first.
     Marks(Vec<u64>),
@@ -161,6 +164,8 @@ impl Job {
             17 => Self::Candidates(body.get()?, body.get()?),
             18 => Self::Partition(body.get()?, body.get()?),
             19 => Self::Prune(body.get()?),
+            32 => Self::WriteSymbols(body.get()?),
+            33 => Self::ReadSymbols(body.get()?),
             48 => Self::Score(body.get()?),
             49 => Self::Marks(body.get()?),
             other => return damaged(format!("no job has kind {other}")),
@@ -198,6 +203,8 @@ impl Job {
             Self::Candidates(..) => 17,
             Self::Partition(..) => 18,
             Self::Prune(_) => 19,
+            Self::WriteSymbols(_) => 32,
+            Self::ReadSymbols(_) => 33,
             Self::Score(_) => 48,
             Self::Marks(_) => 49,
         }
@@ -222,6 +229,8 @@ impl Job {
                 threshold.write(&mut body);
             }
             Self::Prune(job) => job.write(&mut body),
+            Self::WriteSymbols(job) => job.write(&mut body),
+            Self::ReadSymbols(job) => job.write(&mut body),
             Self::Score(job) => job.write(&mut body),
             Self::Marks(words) => words.write(&mut body),
         }

@@ -6,6 +6,7 @@ mod answer;
 mod job;
 mod record;
 mod score;
+mod symbol;
 mod version;
 mod wire;
 
@@ -13,6 +14,7 @@ pub use answer::{Answer, Contexts, Found, Learned, Pruned, Runs, Sampled, TokenO
 pub use job::{ContextsJob, Job, Learning, LookupJob, PruneJob, SampleJob, Settings};
 pub use record::{NodeList, Record, Span};
 pub use score::{ScoreJob, Scored};
+pub use symbol::{ReadSymbolsJob, Symbol, SymbolsRead, SymbolsWritten, WriteSymbolsJob};
 pub use version::{Messages, STATE, version};
 pub use wire::{Damaged, Message, read_message, write_message};
 

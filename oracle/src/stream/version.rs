@@ -5,7 +5,7 @@ use crate::wire::{Message, Reader, Result, damaged, read_message, write_message}
 use std::io::{Read, Write};
 
 /// The state of this format: the base with so many of the requests that came after it.
-pub const STATE: u32 = 2;
+pub const STATE: u32 = 3;
 
 const VERSION: u32 = 30;
 

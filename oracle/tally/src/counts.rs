@@ -48,6 +48,8 @@ impl Tally {
             Answer::Found(answer) => self.verdict(answer.number),
             Answer::Contexts(answer) => self.verdict(answer.number),
             Answer::Sampled(answer) => self.verdict(answer.number),
+            Answer::SymbolsWritten(answer) => self.verdict(answer.number),
+            Answer::SymbolsRead(answer) => self.verdict(answer.number),
             _ => self.verdict(0),
         }
     }

@@ -6,6 +6,7 @@ mod pairs;
 mod parts;
 mod rules;
 mod runs;
+mod symbols;
 #[cfg(test)]
 mod tests;
 

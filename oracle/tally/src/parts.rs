@@ -1,7 +1,7 @@
 //! What holds of every answer to the other jobs.
 
-use crate::rules;
 use crate::{Checked, ensure};
+use crate::{rules, symbols};
 use std::collections::BTreeSet;
 use stream::{
     Answer, Contexts, ContextsJob, Found, Job, LookupJob, MARKS, PROPERTIES, PruneJob, Pruned,
@@ -33,6 +33,8 @@ pub fn check(job: &Job, answer: &Answer) -> Checked {
             partition(column, *threshold, *above as usize, moved)
         }
         (Job::Prune(job), Answer::Pruned(answer)) => prune(job, answer),
+        (Job::WriteSymbols(job), Answer::SymbolsWritten(answer)) => symbols::written(job, answer),
+        (Job::ReadSymbols(job), Answer::SymbolsRead(answer)) => symbols::read(job, answer),
         (Job::Score(job), Answer::Scored(answer)) => score(job, answer),
         (Job::Marks(words), Answer::Places(places)) => marks(words, places),
         _ => Err("an answer of another kind".into()),

@@ -6,6 +6,16 @@ use std::collections::BTreeMap;
 use std::ops::Range;
 use stream::{Learned, Learning, PREDICTORS, PROPERTIES, Record, Span};
 
+/// Twice the number, or as much below 0 as that is odd.
+pub fn packed(value: i64) -> u64 {
+    let packed = if value >= 0 {
+        2 * value
+    } else {
+        -2 * value - 1
+    };
+    packed as u64
+}
+
 /// Packing's inverse.
 pub fn unpacked(value: u32) -> i32 {
     let half = (value / 2) as i32;
@@ -29,15 +39,10 @@ pub fn read_token(token: u32, extra: u32) -> (u64, u32) {
 /// The zero predictor's token of a residual against a mode: the token below
 /// whose successor's first value the packed difference lies.
 pub fn zero_token(residual: i32, mode: i32) -> u8 {
-    let difference = i64::from(residual) - i64::from(mode);
-    let packed = if difference >= 0 {
-        2 * difference
-    } else {
-        -2 * difference - 1
-    };
+    let packed = packed(i64::from(residual) - i64::from(mode));
     let first = |token: u32| read_token(token, 0).0;
     (0..128)
-        .rfind(|&token| first(token) <= packed as u64)
+        .rfind(|&token| first(token) <= packed)
         .expect("token 0 starts at 0") as u8
 }
 

@@ -1,6 +1,7 @@
 //! Right answers pass, and each of many broken ones is refused for what is broken in it.
 
 mod small;
+mod symbols;
 
 use crate::{Run, Tally, pairs, runs, tally};
 use small::{deepening, folded, job, one_leaf, refused, settled, three_leaves, two_leaves};

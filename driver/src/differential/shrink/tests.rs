@@ -2,7 +2,8 @@
 
 use super::*;
 use stream::{
-    Learning, NodeList, PREDICTORS, PROPERTIES, PruneJob, Record, ScoreJob, Settings, Span,
+    Learning, NodeList, PREDICTORS, PROPERTIES, PruneJob, ReadSymbolsJob, Record, ScoreJob,
+    Settings, Span, Symbol, WriteSymbolsJob,
 };
 
 const ROWS: usize = 37;
@@ -244,6 +245,173 @@ fn marks() {
     assert_eq!(
         shrunk(Job::Marks(words), differs),
         Job::Marks(vec![1 << 63, 4])
+    );
+}
+
+/// The seed above, written, with room to spare but for one pair.
+fn writing() -> WriteSymbolsJob {
+    let given = seed();
+    WriteSymbolsJob {
+        count: 7,
+        nodes: NodeList { entries: 9, given },
+        fill: 77,
+        pair_entries: 25,
+        queue_entries: 8,
+    }
+}
+
+fn pairs_of(nodes: &[Record]) -> u32 {
+    let pairs = |node: &Record| if node.is_split() { 2 } else { 5 };
+    nodes.iter().map(pairs).sum()
+}
+
+/// Of a tree to be written the split that counts is left, as the root, with two leaves.
+#[test]
+fn symbols_to_write() {
+    let differs = |job: &Job| {
+        let Job::WriteSymbols(job) = job else {
+            return false;
+        };
+        let nodes = &job.nodes.given;
+        let is_leaf = |child: u32| nodes.get(child as usize).is_some_and(|c| !c.is_split());
+        let is_due = |node: &&Record| node.is_split() && node.prop == 12 && node.val > 20;
+        let has_leaves = |s: &Record| s.gt != s.le && is_leaf(s.gt) && is_leaf(s.le);
+        job.count as usize == nodes.len()
+            && nodes.iter().find(is_due).is_some_and(has_leaves)
+            && job.pair_entries >= pairs_of(nodes) - 1
+    };
+    let expected = WriteSymbolsJob {
+        count: 3,
+        nodes: NodeList {
+            entries: 3,
+            given: vec![
+                Record::split(12, 21, 1, 2),
+                Record::leaf(0, 0),
+                Record::leaf(0, 0),
+            ],
+        },
+        fill: 0,
+        pair_entries: 11,
+        queue_entries: 0,
+    };
+    assert_eq!(
+        shrunk(Job::WriteSymbols(writing()), differs),
+        Job::WriteSymbols(expected)
+    );
+}
+
+/// Where one pair too few is what differs, room goes with the nodes.
+#[test]
+fn room_for_symbols() {
+    let differs = |job: &Job| {
+        let Job::WriteSymbols(job) = job else {
+            return false;
+        };
+        job.count as usize == job.nodes.given.len()
+            && job.count < job.queue_entries
+            && job.pair_entries + 1 == pairs_of(&job.nodes.given)
+    };
+    let expected = WriteSymbolsJob {
+        count: 1,
+        nodes: NodeList {
+            entries: 1,
+            given: vec![Record::leaf(0, 0)],
+        },
+        fill: 0,
+        pair_entries: 4,
+        queue_entries: 2,
+    };
+    assert_eq!(
+        shrunk(Job::WriteSymbols(writing()), differs),
+        Job::WriteSymbols(expected)
+    );
+}
+
+fn symbols(nodes: &[&[(u32, u32)]]) -> Vec<Symbol> {
+    let symbol = |&(context, value): &(u32, u32)| Symbol { context, value };
+    nodes.iter().copied().flatten().map(symbol).collect()
+}
+
+const LEAF: &[(u32, u32)] = &[(1, 0), (2, 9), (3, 77), (4, 0), (5, 0)];
+const PLAIN: &[(u32, u32)] = &[(1, 0), (2, 0), (3, 0), (4, 0), (5, 0)];
+
+/// Three splits, the second of them by property 12, and four leaves; one node too few.
+fn reading() -> ReadSymbolsJob {
+    let splits: [&[(u32, u32)]; 3] = [&[(1, 2), (0, 5)], &[(1, 13), (0, 99)], &[(1, 7), (0, 0)]];
+    ReadSymbolsJob {
+        symbols: symbols(&[splits[0], LEAF, splits[1], splits[2], LEAF, LEAF, LEAF]),
+        node_entries: 6,
+        fill: 77,
+    }
+}
+
+/// How many nodes there are, if each is whole and as many as are due.
+fn nodes_read(symbols: &[Symbol]) -> Option<usize> {
+    let nodes: Vec<_> = symbols.chunk_by(|_, next| next.context != 1).collect();
+    let contexts = |node: &[Symbol]| node.iter().map(|s| s.context).collect::<Vec<_>>();
+    let is_whole = |node: &&[Symbol]| match node[0].value {
+        0 => contexts(node) == [1, 2, 3, 4, 5],
+        _ => contexts(node) == [1, 0],
+    };
+    let splits = nodes.iter().filter(|node| node[0].value != 0).count();
+    (nodes.iter().all(is_whole) && nodes.len() == 2 * splits + 1).then_some(nodes.len())
+}
+
+/// The split that counts is left as the root, with two leaves.
+#[test]
+fn symbols_to_read() {
+    let differs = |job: &Job| {
+        let Job::ReadSymbols(job) = job else {
+            return false;
+        };
+        let values = job.symbols.windows(2).map(|pair| [pair[0], pair[1]]);
+        let mut values = values.map(|pair| pair.map(|symbol| symbol.value));
+        nodes_read(&job.symbols).is_some() && values.any(|[a, b]| a == 13 && b > 40)
+    };
+    let expected = ReadSymbolsJob {
+        symbols: symbols(&[&[(1, 13), (0, 41)], PLAIN, PLAIN]),
+        node_entries: 0,
+        fill: 0,
+    };
+    assert_eq!(
+        shrunk(Job::ReadSymbols(reading()), differs),
+        Job::ReadSymbols(expected)
+    );
+}
+
+/// Where one node too few is what differs, room goes with the nodes; a list that is none loses pair after pair.
+#[test]
+fn room_for_nodes() {
+    let differs = |job: &Job| {
+        let Job::ReadSymbols(job) = job else {
+            return false;
+        };
+        nodes_read(&job.symbols).is_some_and(|nodes| job.node_entries as usize + 1 == nodes)
+    };
+    let expected = ReadSymbolsJob {
+        symbols: symbols(&[PLAIN]),
+        node_entries: 0,
+        fill: 0,
+    };
+    assert_eq!(
+        shrunk(Job::ReadSymbols(reading()), differs),
+        Job::ReadSymbols(expected)
+    );
+    let differs = |job: &Job| {
+        let Job::ReadSymbols(job) = job else {
+            return false;
+        };
+        let is_due = |symbol: &Symbol| symbol.context > 2 && symbol.value > 9;
+        job.symbols.iter().any(is_due) && job.node_entries > 4
+    };
+    let expected = ReadSymbolsJob {
+        symbols: symbols(&[&[(3, 10)]]),
+        node_entries: 5,
+        fill: 0,
+    };
+    assert_eq!(
+        shrunk(Job::ReadSymbols(reading()), differs),
+        Job::ReadSymbols(expected)
     );
 }
 
