@@ -6,7 +6,7 @@ use crate::{Failure, Result};
 pub const SEED: u64 = 1;
 
 /// Jobs of all shares together, which `tests/differential` asks for by default.
-const WHOLE: u64 = 250_000;
+const WHOLE: u64 = 270_000;
 
 #[derive(Debug, Eq, PartialEq)]
 pub struct Family {
@@ -39,6 +39,8 @@ const FAMILIES: &[Family] = &[
     // The small operations.
     family("lookup", 10_000, 90), family("contexts", 8_000, 280), family("sampling", 8_000, 200), family("pack", 6_000, 50),
     family("token", 6_000, 35), family("value", 6_000, 35),
+    family("symbols", 6_000, 50), family("symbol-faults", 4_000, 40), family("symbol-reads", 4_700, 60),
+    family("unreadable", 4_900, 40), family("symbols-large", 400, 5_000),
     // Deepening and two of these by turns.
     family("kinds", 6_000, 200),
     // Single parts of the learner.

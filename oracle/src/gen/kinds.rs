@@ -37,7 +37,7 @@ fn nodes_of(job: &mut Job) -> &mut [Record] {
 }
 
 /// A leaf's kind; near a split's, or with one in its low bytes.
-fn any_kind(rng: &mut Rng) -> u32 {
+pub fn any_kind(rng: &mut Rng) -> u32 {
     let any = rng.word() & !1;
     rng.pick(&[0, 2, 3, 0x100, 0x101, 0x1_0001, 0x8000_0001, u32::MAX, any])
 }

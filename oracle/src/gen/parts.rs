@@ -27,7 +27,7 @@ fn any_tree(rng: &mut Rng, leaves: usize, tests: &Tests) -> Vec<Record> {
     nodes
 }
 
-fn any_word(rng: &mut Rng) -> u32 {
+pub fn any_word(rng: &mut Rng) -> u32 {
     match rng.below(4) {
         0 => rng.below(40) as u32,
         1 => rng.pick(&EXTREMES) as u32,

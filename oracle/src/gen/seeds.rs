@@ -70,9 +70,9 @@ pub fn seeds_large(at: At) -> Job {
 }
 
 /// One way to spoil a sound tree; the node that it strikes is drawn.
-type Fault = fn(&mut Rng, &mut Vec<Record>);
+pub type Fault = fn(&mut Rng, &mut Vec<Record>);
 
-const FAULTS: [Fault; 19] = [
+pub const FAULTS: [Fault; 19] = [
     |rng, seed| any_split(rng, seed).prop = 24,
     |rng, seed| any_split(rng, seed).prop = 255,
     |rng, seed| set_child(rng, seed, |node, _| node),
@@ -149,15 +149,22 @@ fn set_child(rng: &mut Rng, seed: &mut [Record], child: fn(u32, u32) -> u32) {
     }
 }
 
+/// A sound tree for faults to strike.
+pub fn to_be_spoilt(rng: &mut Rng) -> Vec<Record> {
+    let (leaves, shape) = (2 + rng.below(7), any_shape(rng));
+    let seed = tree(rng, leaves, shape, &Tests { rows: None });
+    if rng.one_in(2) {
+        renumbered(rng, &seed)
+    } else {
+        seed
+    }
+}
+
 /// Each fault alone, then each two at once, in deepening and contexts by turns;
 /// wrong counts, and entries that the job does not give, now and then.
 pub fn seed_faults(at: At) -> Job {
     let mut rng = at.rng();
-    let (leaves, shape) = (2 + rng.below(7), any_shape(&mut rng));
-    let mut seed = tree(&mut rng, leaves, shape, &Tests { rows: None });
-    if rng.one_in(2) {
-        seed = renumbered(&mut rng, &seed);
-    }
+    let mut seed = to_be_spoilt(&mut rng);
     for fault in alone_then_two(at.index / 2, FAULTS.len()) {
         FAULTS[fault](&mut rng, &mut seed);
     }

@@ -76,6 +76,24 @@ pub fn renumbered(rng: &mut Rng, nodes: &[Record]) -> Vec<Record> {
             open.extend([nodes[node].gt as usize, nodes[node].le as usize]);
         }
     }
+    in_order(nodes, &order)
+}
+
+/// The same tree numbered as pruning numbers: from the root on, all of gt before le.
+pub fn preordered(nodes: &[Record]) -> Vec<Record> {
+    let mut order = Vec::with_capacity(nodes.len());
+    let mut open = vec![0];
+    while let Some(node) = open.pop() {
+        order.push(node);
+        if nodes[node].is_split() {
+            open.extend([nodes[node].le as usize, nodes[node].gt as usize]);
+        }
+    }
+    in_order(nodes, &order)
+}
+
+/// The nodes in this order of their old numbers.
+fn in_order(nodes: &[Record], order: &[usize]) -> Vec<Record> {
     let mut number = vec![0; nodes.len()];
     for (new, &old) in order.iter().enumerate() {
         number[old] = new as u32;
@@ -89,6 +107,50 @@ pub fn renumbered(rng: &mut Rng, nodes: &[Record]) -> Vec<Record> {
         },
     };
     order.iter().map(moved).collect()
+}
+
+/// A tree as learning leaves it, numbered as growth numbers: each split parts rows at a value that one of them has,
+/// and beside it stands what it was as a leaf. It has fewer leaves where no rows are left to part.
+pub fn learned(rng: &mut Rng, leaves: usize, rows: &Rows) -> Vec<Record> {
+    let mut nodes = vec![evaluated(rng)];
+    let mut open = vec![(0, Vec::from_iter(0..rows.len()))];
+    while nodes.len() < 2 * leaves - 1 && !open.is_empty() {
+        let (node, own) = open.swap_remove(rng.below(open.len()));
+        let Some((property, value)) = (0..8).find_map(|_| parting(rng, rows, &own)) else {
+            continue;
+        };
+        let gt = nodes.len();
+        let Record {
+            cost, pred, offset, ..
+        } = nodes[node];
+        nodes[node] = Record {
+            cost,
+            pred,
+            offset,
+            ..Record::split(property as u32, value, gt as u32, gt as u32 + 1)
+        };
+        nodes.extend([evaluated(rng), evaluated(rng)]);
+        let above = |&row: &usize| rows.properties[row][property] > value;
+        let (above, below) = own.into_iter().partition(above);
+        open.extend([(gt, above), (gt + 1, below)]);
+    }
+    nodes
+}
+
+/// A leaf with a cost, and an offset if its predictor is 0.
+fn evaluated(rng: &mut Rng) -> Record {
+    let pred = rng.pick(&[0, 0, 1, 4, 5, 6, 13]);
+    let mode = rng.within(-300..=300);
+    let offset = if pred == 0 { mode } else { 0 };
+    Record::leaf(pred, offset).with_cost(900.0 * rng.single())
+}
+
+/// A property, and a value that one of these rows has and another passes, if there is one.
+fn parting(rng: &mut Rng, rows: &Rows, own: &[usize]) -> Option<(usize, i32)> {
+    let property = rng.below(PROPERTIES);
+    let value = rows.properties[rng.pick(own)][property];
+    let passes = |&row: &usize| rows.properties[row][property] > value;
+    own.iter().any(passes).then_some((property, value))
 }
 
 /// Fills every field that the node has no use for.
