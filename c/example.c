@@ -1,6 +1,7 @@
 /*
  * Learns a tree from the 64 pixels of a small picture: the right half is lit, the left half is not, the top line is brighter, and there are a few specks.
- * Prints the tree, the leaf that each pixel reaches, the leaves' contexts, and what a refusal looks like.
+ * Prints the tree, the leaf that each pixel reaches, the leaves' contexts, the symbols that JPEG XL transmits for the
+ * tree, the tree read back from them, and what refusals look like.
  */
 #include "ostrovuc.h"
 
@@ -84,15 +85,21 @@ static ostrovuc_learned_tree learn(const ostrovuc_settings *s, struct rows *rows
         ostrovuc_queue_gains_length(s->max_leaves), room->counts, ostrovuc_counts_length(s, ROWS, 0));
 }
 
+static void print_node(const ostrovuc_ma_node *node) {
+    if (node->kind == OSTROVUC_SPLIT)
+        printf("property %u > %d leads to %u, else to %u", node->prop, node->val, node->gt, node->le);
+    else
+        printf("leaf, predictor %u, offset %d", node->info.pred, node->info.offset);
+}
+
 static void print_tree(ostrovuc_learned_tree tree, const struct room *room) {
     printf("%d rows: %u nodes, %u leaves, %.2f bits, flat %.2f\n", ROWS, tree.nodes, tree.leaves, tree.bits, tree.flat);
     for (uint32_t n = 0; n < tree.nodes; n++) {
         const ostrovuc_ma_node *node = &room->nodes[n];
         printf("node %u, %u rows: ", n, room->spans[n].end - room->spans[n].first);
-        if (node->kind == OSTROVUC_SPLIT)
-            printf("property %u > %d leads to %u, else to %u\n", node->prop, node->val, node->gt, node->le);
-        else
-            printf("leaf, predictor %u, offset %d, %.2f bits\n", node->info.pred, node->info.offset, node->info.cost);
+        print_node(node);
+        if (node->kind != OSTROVUC_SPLIT) printf(", %.2f bits", node->info.cost);
+        putchar('\n');
     }
 }
 
@@ -118,6 +125,47 @@ static void print_contexts(ostrovuc_learned_tree tree, const struct room *room) 
     free(queue);
 }
 
+/* A node a line: each begins with its property, a leaf's being 0. */
+static void print_symbols(const ostrovuc_symbol *symbols, uint32_t count) {
+    static const char *const names[] = {
+        [OSTROVUC_CONTEXT_SPLIT_VAL] = "split_val",           [OSTROVUC_CONTEXT_PROPERTY] = "property",
+        [OSTROVUC_CONTEXT_PREDICTOR] = "predictor",           [OSTROVUC_CONTEXT_OFFSET] = "offset",
+        [OSTROVUC_CONTEXT_MULTIPLIER_LOG] = "multiplier_log", [OSTROVUC_CONTEXT_MULTIPLIER_BITS] = "multiplier_bits",
+    };
+    printf("%u symbols", count);
+    for (const ostrovuc_symbol *s = symbols; s < symbols + count; s++)
+        printf("%s%s %u", s->context == OSTROVUC_CONTEXT_PROPERTY ? "\n" : ", ", names[s->context], s->value);
+    putchar('\n');
+}
+
+/* Reads a tree from its symbols, and from all but the last one. */
+static void print_read_back(const ostrovuc_symbol *symbols, size_t length) {
+    size_t entries = ostrovuc_read_nodes_length(length);
+    ostrovuc_ma_node *nodes = list(entries, sizeof *nodes);
+    ostrovuc_count read = ostrovuc_read_symbols(symbols, length, nodes, entries);
+    printf("read back: %u nodes\n", read.count);
+    for (uint32_t n = 0; n < read.count; n++) {
+        printf("node %u: ", n);
+        print_node(&nodes[n]);
+        putchar('\n');
+    }
+    read = ostrovuc_read_symbols(symbols, length - 1, nodes, entries);
+    printf("without the last symbol: refusal %u, place %u\n", read.number, read.place);
+    free(nodes);
+}
+
+static void print_transmitted(ostrovuc_learned_tree tree, const struct room *room) {
+    size_t length = ostrovuc_symbols_length(tree.nodes);
+    ostrovuc_symbol *symbols = list(length, sizeof *symbols);
+    uint32_t *queue = list(tree.nodes, sizeof *queue);
+    ostrovuc_count written =
+        ostrovuc_write_symbols(room->nodes, tree.nodes, tree.nodes, symbols, length, queue, tree.nodes);
+    print_symbols(symbols, written.count);
+    print_read_back(symbols, written.count);
+    free(symbols);
+    free(queue);
+}
+
 int main(void) {
     ostrovuc_settings s = {
         .alphabet = 128, .max_leaves = 4, .split_cost_bits = 4, .side_preds = 1, .max_candidates = 16, .allowed_preds = 1, .modal_offsets = true};
@@ -129,6 +177,7 @@ int main(void) {
     print_tree(tree, &room);
     print_leaves(tree, &room);
     print_contexts(tree, &room);
+    print_transmitted(tree, &room);
 
     rows.tok[5 * OSTROVUC_PREDICTORS + 13] = 128;
     tree = learn(&s, &rows, &room);

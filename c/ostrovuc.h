@@ -55,7 +55,8 @@ enum ostrovuc_number {
     OSTROVUC_REFUSED_ROOM = 7,           /* a lent list is too short */
     OSTROVUC_REFUSED_TREE = 8,           /* the nodes are no sound tree; place: the lowest node at fault, 0 for a wrong count */
     OSTROVUC_REFUSED_PROPERTIES = 9,     /* a lookup takes exactly 24 properties */
-    OSTROVUC_REFUSED_TOKEN_VALUE = 10    /* the token is over 127, or its extra bits are too large for their count */
+    OSTROVUC_REFUSED_TOKEN_VALUE = 10,   /* the token is over 127, or its extra bits are too large for their count */
+    OSTROVUC_REFUSED_SYMBOLS = 11        /* the symbols are no tree: see ostrovuc_read_symbols */
 };
 
 /* What stands beside a node: its cost in bits, its predictor and its offset. */
@@ -84,6 +85,22 @@ typedef struct ostrovuc_span {
     uint32_t first;
     uint32_t end;
 } ostrovuc_span;
+
+/* A symbol of a tree as ISO/IEC 18181-1 transmits it: what it tells of a node, by the standard's number, and a value. */
+typedef struct ostrovuc_symbol {
+    uint32_t context;
+    uint32_t value;
+} ostrovuc_symbol;
+
+/* The contexts of symbols, by their numbers in the standard. Those of ostrovuc_leaf_contexts are of residuals. */
+enum ostrovuc_symbol_context {
+    OSTROVUC_CONTEXT_SPLIT_VAL = 0,      /* a split's value, packed */
+    OSTROVUC_CONTEXT_PROPERTY = 1,       /* a split's property + 1; 0 for a leaf */
+    OSTROVUC_CONTEXT_PREDICTOR = 2,      /* a leaf's predictor */
+    OSTROVUC_CONTEXT_OFFSET = 3,         /* a leaf's offset, packed */
+    OSTROVUC_CONTEXT_MULTIPLIER_LOG = 4, /* a leaf's multiplier is (bits + 1) << log, and here always 1: this is 0 */
+    OSTROVUC_CONTEXT_MULTIPLIER_BITS = 5 /* and so is this */
+};
 
 /* The settings of learning, with their ranges. */
 typedef struct ostrovuc_settings {
@@ -144,6 +161,7 @@ OSTROVUC_HOLDS(sizeof(size_t) == 8, "a length is eight bytes");
 OSTROVUC_HOLDS(sizeof(ostrovuc_node_info) == 12, "three words");
 OSTROVUC_HOLDS(sizeof(ostrovuc_ma_node) == 32, "eight words");
 OSTROVUC_HOLDS(sizeof(ostrovuc_span) == 8, "two words");
+OSTROVUC_HOLDS(sizeof(ostrovuc_symbol) == 8, "two words");
 OSTROVUC_HOLDS(sizeof(ostrovuc_settings) == 36, "nine words");
 OSTROVUC_HOLDS(sizeof(ostrovuc_learned_tree) == 32, "four words and two doubles");
 OSTROVUC_HOLDS(sizeof(ostrovuc_leaf) == 16, "four words");
@@ -202,6 +220,16 @@ static inline size_t ostrovuc_logs_length(size_t rows) {
     return rows + 1;
 }
 
+/* Symbols of a tree of `count` nodes: of 2k + 1 nodes k are splits, with two each, k + 1 leaves, with five. */
+static inline size_t ostrovuc_symbols_length(uint32_t count) {
+    return (7 * (size_t)count + 3) / 2;
+}
+
+/* Nodes of a tree of so many symbols. */
+static inline size_t ostrovuc_read_nodes_length(size_t symbols) {
+    return 2 * symbols / 7;
+}
+
 /*
  * Learns a tree from the rows. Refusals 1 to 7, in this order.
  *
@@ -253,6 +281,26 @@ ostrovuc_leaf ostrovuc_lookup(const ostrovuc_ma_node *nodes, size_t nodes_length
 ostrovuc_count ostrovuc_leaf_contexts(
     const ostrovuc_ma_node *nodes, size_t nodes_length, uint32_t count, uint32_t *contexts, size_t contexts_length, uint32_t *queue,
     size_t queue_length);
+
+/*
+ * Writes the tree of `count` nodes as ISO/IEC 18181-1 transmits it, breadth first, gt before le, and gives how many
+ * symbols there are: a split is (1, property + 1), (0, packed value), a leaf is (1, 0), (2, predictor),
+ * (3, packed offset), (4, 0), (5, 0). `symbols` has at least ostrovuc_symbols_length(count) entries and `queue` at least
+ * `count`, with any bytes in them; symbols past those written stay, the queue holds zeros after. Refusals 8, then 7.
+ */
+ostrovuc_count ostrovuc_write_symbols(
+    const ostrovuc_ma_node *nodes, size_t nodes_length, uint32_t count, ostrovuc_symbol *symbols, size_t symbols_length,
+    uint32_t *queue, size_t queue_length);
+
+/*
+ * Reads such symbols back, all of them, and gives how many nodes the tree has. Its nodes are numbered breadth first; a
+ * split has infinite cost, predictor and offset 0, a leaf cost 0. Written again, the tree is the same symbols. `nodes`
+ * has at least ostrovuc_read_nodes_length(symbols_length) entries, with any bytes in them; those past the tree stay.
+ * Refusals 11, then 7. 11: the symbols are cut short or some are left over, one has not the context that is due, a
+ * property is over 23, a predictor over 13, a multiplier not 1, or there are more than 8,191 nodes.
+ */
+ostrovuc_count ostrovuc_read_symbols(
+    const ostrovuc_symbol *symbols, size_t symbols_length, ostrovuc_ma_node *nodes, size_t nodes_length);
 
 /* Picks min(rows, target) rows evenly and writes their numbers to `out`, which is at least as long. Refusals 3, then 7. */
 ostrovuc_count ostrovuc_evenly_sampled_indices(size_t rows, size_t target, uint32_t *out, size_t out_length);
