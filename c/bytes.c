@@ -5,7 +5,8 @@
  */
 #include "lent.h"
 
-static const char *const operation_names[OPERATIONS] = {"learning", "deepening", "lookup", "contexts", "sampling"};
+static const char *const operation_names[OPERATIONS] = {
+    "learning", "deepening", "lookup", "contexts", "writing symbols", "reading symbols", "sampling"};
 
 /* ---- what a job changes in a plain call: a number, the bits of a float, or the length of a list */
 
@@ -28,6 +29,34 @@ static void property(struct call *c, uint32_t value) { c->nodes[0].words[PROP] =
 static void child(struct call *c, uint32_t value) { c->nodes[0].words[GT] = value; }
 static void predictor(struct call *c, uint32_t value) { c->nodes[4].words[PRED] = value; }
 static void bare(struct call *c, uint32_t node) { c->nodes[node].given = 0; }
+
+/* A symbol with another value. */
+static void other_value(struct call *c, size_t at, uint32_t value) {
+    c->symbols.other = (ostrovuc_symbol){symbol(&c->symbols, at).context, value};
+    c->symbols.at = at;
+}
+
+/* The symbols of the first split's property and value, and the first leaf's. */
+static void split_property(struct call *c, uint32_t value) { other_value(c, 0, value); }
+static void split_value(struct call *c, uint32_t value) { other_value(c, 1, value); }
+static void leaf_predictor(struct call *c, uint32_t value) { other_value(c, 2 * SPLITS + 1, value); }
+static void leaf_offset(struct call *c, uint32_t value) { other_value(c, 2 * SPLITS + 2, value); }
+static void multiplier_log(struct call *c, uint32_t value) { other_value(c, 2 * SPLITS + 3, value); }
+static void multiplier_bits(struct call *c, uint32_t value) { other_value(c, 2 * SPLITS + 4, value); }
+
+/* This symbol has the context after its own. */
+static void next_context(struct call *c, uint32_t at) {
+    ostrovuc_symbol s = symbol(&c->symbols, at);
+    c->symbols.other = (ostrovuc_symbol){s.context + 1, s.value};
+    c->symbols.at = at;
+}
+
+/* A whole tree of so many splits, and room for it. */
+static void splits(struct call *c, uint32_t value) {
+    c->symbols.splits = value;
+    c->length[NODES] = 2 * (size_t)value + 1;
+    c->length[READ_SYMBOLS] = 7 * (size_t)value + 5;
+}
 
 static void target(struct call *c, uint32_t value) { c->target = value; }
 static void total(struct call *c, uint32_t value) { c->rows = value; }
@@ -71,15 +100,21 @@ static void seed(struct call *c, uint32_t value) {
 
 /* ---- jobs */
 
-/* A job's operations. Learning and deepening grow a tree, deepening and contexts want a sound one. */
+/*
+ * A job's operations. Learning and deepening grow a tree; contexts and writing go breadth first; these and deepening
+ * want a sound tree.
+ */
 enum {
     LEARNS = 1 << LEARN,
     DEEPENS = 1 << DEEPEN,
     LOOKS_UP = 1 << LOOKUP,
     NUMBERS_LEAVES = 1 << CONTEXTS,
+    WRITES = 1 << WRITE,
+    READS = 1 << READ,
     SAMPLES = 1 << SAMPLE,
     GROWS = LEARNS | DEEPENS,
-    WANTS_SOUND = DEEPENS | NUMBERS_LEAVES,
+    GOES_BREADTH_FIRST = NUMBERS_LEAVES | WRITES,
+    WANTS_SOUND = DEEPENS | GOES_BREADTH_FIRST,
     WANTS_TREE = WANTS_SOUND | LOOKS_UP
 };
 
@@ -97,10 +132,12 @@ struct job {
 #define REFUSED(number, place) number, place, 0, 0
 
 static const struct job jobs[] = {
-    /* The plain calls, by a number that stays: nodes, a leaf, contexts, rows. */
+    /* The plain calls, by a number that stays: nodes, a leaf, contexts, symbols, nodes, rows. */
     {JOB(GROWS, limit, 4), ACCEPTED(7, 7)},
     {JOB(LOOKS_UP, count, 5), ACCEPTED(4, 0)},
     {JOB(NUMBERS_LEAVES, count, 5), ACCEPTED(3, 5)},
+    {JOB(WRITES, count, 5), ACCEPTED(19, 19)},
+    {JOB(READS, split_property, 4), ACCEPTED(5, 5)},
     {JOB(SAMPLES, target, 3), ACCEPTED(3, 3)},
     /* Trees that end early, that are folded, that have no rows, no residuals or no modes. */
     {JOB(LEARNS, limit, 1), ACCEPTED(1, 1)},
@@ -113,12 +150,24 @@ static const struct job jobs[] = {
     {JOB(DEEPENS, rows, 0), ACCEPTED(5, 5)},
     {JOB(GROWS, absent, RES), ACCEPTED(7, 7)},
     {JOB(GROWS, modes, 0), ACCEPTED(7, 7)},
-    /* More records than a tree can have; nodes that a lookup does not meet; fewer rows to pick. */
+    /*
+     * More records than a tree can have; nodes that a lookup does not meet; the ends of what a symbol may say, and of
+     * how many nodes are read; fewer rows to pick.
+     */
     {JOB(GROWS, records, 8200), ACCEPTED(7, 7)},
     {JOB(LOOKS_UP, records, 8200), ACCEPTED(4, 0)},
     {JOB(NUMBERS_LEAVES, records, 8200), ACCEPTED(3, 5)},
+    {JOB(WRITES, records, 8200), ACCEPTED(19, 19)},
+    {JOB(READS, records, 8200), ACCEPTED(5, 5)},
     {JOB(LOOKS_UP, bare, 1), ACCEPTED(4, 0)},
     {JOB(LOOKS_UP, bare, 3), ACCEPTED(4, 0)},
+    {JOB(READS, split_property, 1), ACCEPTED(5, 5)},
+    {JOB(READS, split_property, 24), ACCEPTED(5, 5)},
+    {JOB(READS, split_value, 0xffffffff), ACCEPTED(5, 5)},
+    {JOB(READS, leaf_predictor, 0), ACCEPTED(5, 5)},
+    {JOB(READS, leaf_offset, 0xfffffffe), ACCEPTED(5, 5)},
+    {JOB(READS, splits, 0), ACCEPTED(1, 1)},
+    {JOB(READS, splits, 4095), ACCEPTED(8191, 8191)},
     {JOB(SAMPLES, target, 0), ACCEPTED(0, 0)},
     {JOB(SAMPLES, total, 2), ACCEPTED(2, 2)},
     /* Any kind but a split's is a leaf: it is a tree by itself, and the children of such a root have no parent. */
@@ -128,6 +177,8 @@ static const struct job jobs[] = {
     {JOB(DEEPENS, lone_kind, 0xffffffff), ACCEPTED(7, 7)},
     {JOB(NUMBERS_LEAVES, lone_kind, 2), ACCEPTED(1, 1)},
     {JOB(NUMBERS_LEAVES, lone_kind, 0x101), ACCEPTED(1, 1)},
+    {JOB(WRITES, lone_kind, 2), ACCEPTED(5, 5)},
+    {JOB(WRITES, lone_kind, 0x101), ACCEPTED(5, 5)},
     {JOB(LOOKS_UP, lone_kind, 2), ACCEPTED(0, 0)},
     {JOB(LOOKS_UP, root_kind, 0), ACCEPTED(0, 0)},
     {JOB(LOOKS_UP, root_kind, 2), ACCEPTED(0, 0)},
@@ -181,17 +232,21 @@ static const struct job jobs[] = {
     {JOB(GROWS, absent, COUNTS), REFUSED(7, 0)},
     {JOB(DEEPENS, count, 13), REFUSED(7, 0)},
     {JOB(NUMBERS_LEAVES, shorter, NUMBERS), REFUSED(7, 0)},
-    {JOB(NUMBERS_LEAVES, shorter, QUEUE), REFUSED(7, 0)},
     {JOB(NUMBERS_LEAVES, absent, NUMBERS), REFUSED(7, 0)},
-    {JOB(NUMBERS_LEAVES, absent, QUEUE), REFUSED(7, 0)},
+    {JOB(WRITES, shorter, SYMBOLS), REFUSED(7, 0)},
+    {JOB(WRITES, absent, SYMBOLS), REFUSED(7, 0)},
+    {JOB(GOES_BREADTH_FIRST, shorter, QUEUE), REFUSED(7, 0)},
+    {JOB(GOES_BREADTH_FIRST, absent, QUEUE), REFUSED(7, 0)},
+    {JOB(READS, shorter, NODES), REFUSED(7, 0)},
+    {JOB(READS, absent, NODES), REFUSED(7, 0)},
     {JOB(SAMPLES, shorter, PICKED), REFUSED(7, 0)},
     {JOB(SAMPLES, absent, PICKED), REFUSED(7, 0)},
     /* 8, a tree: node 2 points at node 4, and node 5 is nobody's child. */
     {JOB(WANTS_TREE, count, 0), REFUSED(8, 0)},
     {JOB(WANTS_TREE, count, 4), REFUSED(8, 2)},
     {JOB(WANTS_SOUND, count, 6), REFUSED(8, 5)},
-    {JOB(NUMBERS_LEAVES | LOOKS_UP, count, 11), REFUSED(8, 0)},
-    {JOB(NUMBERS_LEAVES | LOOKS_UP, absent, NODES), REFUSED(8, 0)},
+    {JOB(GOES_BREADTH_FIRST | LOOKS_UP, count, 11), REFUSED(8, 0)},
+    {JOB(GOES_BREADTH_FIRST | LOOKS_UP, absent, NODES), REFUSED(8, 0)},
     {JOB(DEEPENS, seed, 8192), REFUSED(8, 0)},
     {JOB(WANTS_TREE, property, 24), REFUSED(8, 0)},
     {JOB(WANTS_TREE, child, 0), REFUSED(8, 0)},
@@ -202,10 +257,28 @@ static const struct job jobs[] = {
     {JOB(LOOKS_UP, width, 23), REFUSED(9, 0)},
     {JOB(LOOKS_UP, width, 25), REFUSED(9, 0)},
     {JOB(LOOKS_UP, absent, PROPS), REFUSED(9, 0)},
+    /* 11, symbols: each one of a split and of a leaf, values, too few and too many. */
+    {JOB(READS, next_context, 0), REFUSED(11, 0)},
+    {JOB(READS, next_context, 1), REFUSED(11, 0)},
+    {JOB(READS, next_context, 4), REFUSED(11, 0)},
+    {JOB(READS, next_context, 5), REFUSED(11, 0)},
+    {JOB(READS, next_context, 6), REFUSED(11, 0)},
+    {JOB(READS, next_context, 7), REFUSED(11, 0)},
+    {JOB(READS, next_context, 8), REFUSED(11, 0)},
+    {JOB(READS, split_property, 25), REFUSED(11, 0)},
+    {JOB(READS, split_property, 0xffffffff), REFUSED(11, 0)},
+    {JOB(READS, leaf_predictor, 14), REFUSED(11, 0)},
+    {JOB(READS, multiplier_log, 1), REFUSED(11, 0)},
+    {JOB(READS, multiplier_bits, 1), REFUSED(11, 0)},
+    {JOB(READS, shorter, READ_SYMBOLS), REFUSED(11, 0)},
+    {JOB(READS, longer, READ_SYMBOLS), REFUSED(11, 0)},
+    {JOB(READS, absent, READ_SYMBOLS), REFUSED(11, 0)},
+    {JOB(READS, splits, 4096), REFUSED(11, 0)},
     /* No list at all. */
     {JOB(GROWS, nothing, 0), REFUSED(6, 0)},
     {JOB(LOOKS_UP, nothing, 0), REFUSED(9, 0)},
-    {JOB(NUMBERS_LEAVES, nothing, 0), REFUSED(8, 0)},
+    {JOB(GOES_BREADTH_FIRST, nothing, 0), REFUSED(8, 0)},
+    {JOB(READS, nothing, 0), REFUSED(11, 0)},
     {JOB(SAMPLES, nothing, 0), ACCEPTED(0, 0)},
     {JOB(SAMPLES, nothing, 1), REFUSED(7, 0)},
 };
@@ -221,9 +294,12 @@ static const enum fate grown[LISTS] = {
 };
 static const enum fate looked_up[LISTS] = {KEPT};
 static const enum fate numbered[LISTS] = {[NUMBERS] = WRITTEN, [QUEUE] = CLEARED};
+static const enum fate transmitted[LISTS] = {[SYMBOLS] = WRITTEN, [QUEUE] = CLEARED};
+static const enum fate read_back[LISTS] = {[NODES] = WRITTEN};
 static const enum fate sampled[LISTS] = {[PICKED] = WRITTEN};
 
-static const enum fate *const fates[OPERATIONS] = {grown, grown, looked_up, numbered, sampled};
+static const enum fate *const fates[OPERATIONS] = {
+    grown, grown, looked_up, numbered, transmitted, read_back, sampled};
 
 /* A job tried with an operation and a fill, beside the same over zeros. */
 struct trial {

@@ -1,6 +1,7 @@
 /*
  * Tries the lengths that ostrovuc.h gives for lent lists: with exactly these a call is accepted, and with any one of the lists an entry shorter it is
- * refused with 7, or 6 for the logarithms. Learning and deepening, over settings, rows and seeds of all sizes.
+ * refused with 7, or 6 for the logarithms. Learning and deepening, over settings, rows and seeds of all sizes; symbols
+ * written and read back, over trees of all sizes.
  */
 #include "ostrovuc.h"
 
@@ -96,6 +97,43 @@ static void try_job(const struct job *job) {
     }
 }
 
+/* The number that comes back for a tree written into so many symbols, with so many entries in the queue. */
+static uint32_t answer_to_writing(uint32_t count, ostrovuc_symbol *symbols, size_t length, size_t queue_length) {
+    ostrovuc_ma_node *nodes = zeros(count, sizeof *nodes);
+    uint32_t *queue = zeros(queue_length, sizeof *queue);
+    plant(nodes, count, count);
+    uint32_t number = ostrovuc_write_symbols(nodes, count, count, symbols, length, queue, queue_length).number;
+    free(nodes);
+    free(queue);
+    return number;
+}
+
+/* The number that comes back for symbols read into so many nodes. */
+static uint32_t answer_to_reading(const ostrovuc_symbol *symbols, size_t length, size_t entries) {
+    ostrovuc_ma_node *nodes = zeros(entries, sizeof *nodes);
+    uint32_t number = ostrovuc_read_symbols(symbols, length, nodes, entries).number;
+    free(nodes);
+    return number;
+}
+
+static void expect_of_tree(uint32_t count, const char *which, uint32_t number, uint32_t expected) {
+    if (number == expected) return;
+    printf("a tree of %u nodes, %s: %u came back and not %u\n", count, which, number, expected);
+    exit(1);
+}
+
+/* Tries the lengths for a tree's symbols, and each list an entry shorter. */
+static void try_tree(uint32_t count) {
+    size_t length = ostrovuc_symbols_length(count), entries = ostrovuc_read_nodes_length(length);
+    ostrovuc_symbol *symbols = zeros(length, sizeof *symbols);
+    expect_of_tree(count, "symbols", answer_to_writing(count, symbols, length - 1, count), OSTROVUC_REFUSED_ROOM);
+    expect_of_tree(count, "queue", answer_to_writing(count, symbols, length, count - 1), OSTROVUC_REFUSED_ROOM);
+    expect_of_tree(count, "written", answer_to_writing(count, symbols, length, count), OSTROVUC_ACCEPTED);
+    expect_of_tree(count, "nodes", answer_to_reading(symbols, length, entries - 1), OSTROVUC_REFUSED_ROOM);
+    expect_of_tree(count, "read", answer_to_reading(symbols, length, entries), OSTROVUC_ACCEPTED);
+    free(symbols);
+}
+
 /* One of four choices, by the lowest digit of `number` to base four, which is then taken off. */
 static uint32_t pick(const uint32_t choices[4], unsigned *number) {
     uint32_t choice = choices[*number % 4];
@@ -132,6 +170,12 @@ int main(void) {
         struct job job = job_by_rows(number);
         try_job(&job);
     }
-    printf("%u jobs, with each list as long as is due and an entry shorter\n", by_settings + by_rows);
+    unsigned trees = 0;
+    for (uint32_t count = 1; count <= OSTROVUC_MAX_NODES; count += count < 127 ? 2 : 126) {
+        try_tree(count);
+        trees++;
+    }
+    unsigned jobs = by_settings + by_rows;
+    printf("%u jobs and %u trees, with each list as long as is due and an entry shorter\n", jobs, trees);
     return 0;
 }

@@ -13,12 +13,16 @@
 #include <stdlib.h>
 #include <string.h>
 
-enum operation { LEARN, DEEPEN, LOOKUP, CONTEXTS, SAMPLE, OPERATIONS };
+enum operation { LEARN, DEEPEN, LOOKUP, CONTEXTS, WRITE, READ, SAMPLE, OPERATIONS };
 
-/* The lists of learning and deepening, then those of contexts and of sampling. Lookup has some of the first. */
+/*
+ * The lists of learning and deepening, then those of contexts, of writing and reading symbols, and of sampling. Nodes
+ * are those of every operation but sampling, and the queue is that of contexts and of writing.
+ */
 enum list {
     NODES, SPANS, LOGS, PROPS, TOK, RES, QUEUE_WORDS, QUEUE_VALUES, QUEUE_GAINS, COUNTS,
     NUMBERS, QUEUE,
+    SYMBOLS, READ_SYMBOLS,
     PICKED,
     LISTS
 };
@@ -40,6 +44,8 @@ static const struct {
     [COUNTS] = {"counts", sizeof(uint32_t), 9},
     [NUMBERS] = {"contexts", sizeof(uint32_t), 3},
     [QUEUE] = {"queue", sizeof(uint32_t), 4},
+    [SYMBOLS] = {"symbols", sizeof(ostrovuc_symbol), 3},
+    [READ_SYMBOLS] = {"symbols", sizeof(ostrovuc_symbol), 0},
     [PICKED] = {"out", sizeof(uint32_t), 2},
 };
 
@@ -69,9 +75,21 @@ struct node {
     uint32_t words[NODE_WORDS];
 };
 
+/* The symbols of a tree of so many splits, all of them before the leaves; but symbol `at` is another one. */
+struct symbols {
+    size_t splits, at;
+    ostrovuc_symbol other;
+};
+
+static ostrovuc_symbol symbol(const struct symbols *given, size_t i) {
+    static const ostrovuc_symbol split[2] = {{1, 4}, {0, 7}}, leaf[5] = {{1, 0}, {2, 13}, {3, 5}, {4, 0}, {5, 0}};
+    if (i == given->at) return given->other;
+    return i < 2 * given->splits ? split[i % 2] : leaf[(i - 2 * given->splits) % 5];
+}
+
 /* ---- calls */
 
-enum { TREE = 5, ROWS = 12 };
+enum { TREE = 5, SPLITS = 2, ROWS = 12 };
 
 /* A call that is to be made: its numbers, the lengths of its lists, and what is given in them. */
 struct call {
@@ -80,6 +98,7 @@ struct call {
     uint32_t count;
     size_t rows, target, length[LISTS];
     struct node nodes[TREE];
+    struct symbols symbols;
     int32_t props[ROWS * OSTROVUC_PROPERTIES], res[ROWS];
     uint8_t tok[ROWS * OSTROVUC_PREDICTORS];
     float logs[ROWS + 1];
@@ -126,13 +145,22 @@ static void due_lengths(struct call *c) {
     case DEEPEN: due_for_growing(c); break;
     case LOOKUP: c->length[NODES] = c->count, c->length[PROPS] = OSTROVUC_PROPERTIES; break;
     case CONTEXTS: c->length[NODES] = c->length[NUMBERS] = c->length[QUEUE] = c->count; break;
+    case WRITE:
+        c->length[NODES] = c->length[QUEUE] = c->count;
+        c->length[SYMBOLS] = ostrovuc_symbols_length(c->count);
+        break;
+    case READ: c->length[NODES] = c->count, c->length[READ_SYMBOLS] = ostrovuc_symbols_length(c->count); break;
     default: c->length[PICKED] = c->target;
     }
 }
 
-/* A call that is accepted: it learns from the rows, deepens, numbers or looks up in the tree, or picks 3 rows of 5. */
+/*
+ * A call that is accepted: it learns from the rows, deepens, looks up in, numbers or writes the tree, reads one, or
+ * picks 3 rows of 5.
+ */
 static struct call plain_call(enum operation operation) {
     struct call c = {.operation = operation, .count = operation == LEARN ? 0 : TREE, .rows = 5, .target = 3};
+    c.symbols = (struct symbols){.splits = SPLITS, .at = SIZE_MAX};
     c.settings = (ostrovuc_settings){
         .alphabet = 128, .max_leaves = 4, .side_preds = 2, .max_candidates = 32, .allowed_preds = 0x3fff,
         .modal_offsets = true, .settle = true};
@@ -172,12 +200,20 @@ static void put_nodes(uint8_t *list, size_t bytes, const struct node nodes[TREE]
     }
 }
 
+static void put_symbols(uint8_t *list, size_t bytes, const struct symbols *given) {
+    for (size_t i = 0; i < bytes / sizeof(ostrovuc_symbol); i++) {
+        ostrovuc_symbol s = symbol(given, i);
+        memcpy(list + i * sizeof s, &s, sizeof s);
+    }
+}
+
 /* Of the logarithms entry 0 is not given, nor are those past the rows. */
 static void put_given(const struct call *c, enum list which, uint8_t *list, size_t bytes) {
     switch (which) {
     case NODES:
-        if (c->operation != LEARN) put_nodes(list, bytes, c->nodes);
+        if (c->operation != LEARN && c->operation != READ) put_nodes(list, bytes, c->nodes);
         break;
+    case READ_SYMBOLS: put_symbols(list, bytes, &c->symbols); break;
     case LOGS: put(list + 4, bytes - 4, &c->logs[1], sizeof c->logs - 4); break;
     case PROPS: put(list, bytes, c->props, sizeof c->props); break;
     case TOK: put(list, bytes, c->tok, sizeof c->tok); break;
@@ -230,6 +266,15 @@ static void answer(const struct call *c, void *const at[LISTS], uint32_t words[8
     case CONTEXTS:
         counted = ostrovuc_leaf_contexts(
             at[NODES], length[NODES], c->count, at[NUMBERS], length[NUMBERS], at[QUEUE], length[QUEUE]);
+        memcpy(words, &counted, sizeof counted);
+        break;
+    case WRITE:
+        counted = ostrovuc_write_symbols(
+            at[NODES], length[NODES], c->count, at[SYMBOLS], length[SYMBOLS], at[QUEUE], length[QUEUE]);
+        memcpy(words, &counted, sizeof counted);
+        break;
+    case READ:
+        counted = ostrovuc_read_symbols(at[READ_SYMBOLS], length[READ_SYMBOLS], at[NODES], length[NODES]);
         memcpy(words, &counted, sizeof counted);
         break;
     case SAMPLE:
