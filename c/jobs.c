@@ -1,6 +1,6 @@
 /*
  * Answers a job stream (standard input) through the C interface, on standard output, for comparison with the oracle byte for byte. It has the public
- * operations, kinds 1 to 8. Every list goes into an answer whole, filled beforehand as the job says.
+ * operations, kinds 1 to 8, 32 and 33. Every list goes into an answer whole, filled beforehand as the job says.
  */
 #include "ostrovuc.h"
 #include "wire.h"
@@ -8,7 +8,7 @@
 /* What a queue entry prints as that is neither zero nor untouched. */
 #define OTHER UINT32_C(4294967294)
 
-enum kind { LEARN = 1, DEEPEN, LOOKUP, CONTEXTS, SAMPLING, PACK, TOKEN, VALUE };
+enum kind { LEARN = 1, DEEPEN, LOOKUP, CONTEXTS, SAMPLING, PACK, TOKEN, VALUE, WRITE_SYMBOLS = 32, READ_SYMBOLS };
 
 static uint32_t *filled(size_t length, uint32_t fill) {
     uint32_t *list = new_list(length, sizeof *list);
@@ -40,6 +40,11 @@ static void write_node(struct writer *to, const ostrovuc_ma_node *node) {
     write_bytes(to, &node->info.cost, sizeof node->info.cost);
     write_word(to, node->info.pred);
     write_word(to, (uint32_t)node->info.offset);
+}
+
+static void write_nodes(struct writer *to, const ostrovuc_ma_node *nodes, size_t length) {
+    write_word(to, (uint32_t)length);
+    for (size_t i = 0; i < length; i++) write_node(to, &nodes[i]);
 }
 
 /* What an entry holds beforehand where the job gives none. */
@@ -174,8 +179,7 @@ static uint32_t printed_entry(const struct learning *job, size_t i) {
 }
 
 static void write_lists(struct writer *to, const struct learning *job) {
-    write_word(to, (uint32_t)job->nodes.length);
-    for (size_t i = 0; i < job->nodes.length; i++) write_node(to, &job->nodes.list[i]);
+    write_nodes(to, job->nodes.list, job->nodes.length);
     write_list(to, job->spans, sizeof *job->spans, job->span_entries);
     write_list(to, job->props, sizeof *job->props, job->props_length);
     write_list(to, job->tok, sizeof *job->tok, job->tok_length);
@@ -204,6 +208,19 @@ static void answer_learning(struct reader *from, struct writer *to, bool deepens
 
 /* ---- the other operations */
 
+static void write_count(struct writer *to, ostrovuc_count counted) {
+    write_word(to, counted.number);
+    write_word(to, counted.place);
+    write_word(to, counted.count);
+}
+
+/* A queue of words, each as zero, untouched or neither. */
+static void write_queue(struct writer *to, uint32_t *queue, size_t length, uint32_t fill) {
+    for (size_t i = 0; i < length; i++)
+        if (queue[i] != 0 && queue[i] != fill) queue[i] = OTHER;
+    write_runs(to, queue, length);
+}
+
 static void answer_lookup(struct reader *from, struct writer *to) {
     uint32_t count = read_word(from);
     struct nodes nodes = read_nodes(from);
@@ -227,13 +244,9 @@ static void answer_contexts(struct reader *from, struct writer *to) {
     size_t context_entries = read_word(from), queue_entries = read_word(from);
     uint32_t *contexts = filled(context_entries, fill), *queue = filled(queue_entries, fill);
     ostrovuc_count counted = ostrovuc_leaf_contexts(nodes.list, nodes.length, count, contexts, context_entries, queue, queue_entries);
-    write_word(to, counted.number);
-    write_word(to, counted.place);
-    write_word(to, counted.count);
+    write_count(to, counted);
     write_list(to, contexts, sizeof *contexts, context_entries);
-    for (size_t i = 0; i < queue_entries; i++)
-        if (queue[i] != 0 && queue[i] != fill) queue[i] = OTHER;
-    write_runs(to, queue, queue_entries);
+    write_queue(to, queue, queue_entries, fill);
     free(nodes.list);
     free(contexts);
     free(queue);
@@ -244,9 +257,7 @@ static void answer_sampling(struct reader *from, struct writer *to) {
     size_t length = read_word(from);
     uint32_t *out = filled(length, read_word(from));
     ostrovuc_count picked = ostrovuc_evenly_sampled_indices(rows, target, out, length);
-    write_word(to, picked.number);
-    write_word(to, picked.place);
-    write_word(to, picked.count);
+    write_count(to, picked);
     write_list(to, out, sizeof *out, length);
     free(out);
 }
@@ -280,6 +291,41 @@ static void answer_value(struct reader *from, struct writer *to) {
     }
 }
 
+static void answer_write_symbols(struct reader *from, struct writer *to) {
+    uint32_t count = read_word(from);
+    struct nodes nodes = read_nodes(from);
+    uint32_t fill = read_word(from);
+    fill_nodes(&nodes, fill);
+    size_t symbol_entries = read_word(from), queue_entries = read_word(from);
+    ostrovuc_symbol *symbols = new_list(symbol_entries, sizeof *symbols);
+    for (size_t i = 0; i < symbol_entries; i++) {
+        symbols[i].context = fill + (uint32_t)i;
+        symbols[i].value = fill + (uint32_t)i + 1;
+    }
+    uint32_t *queue = filled(queue_entries, fill);
+    ostrovuc_count written =
+        ostrovuc_write_symbols(nodes.list, nodes.length, count, symbols, symbol_entries, queue, queue_entries);
+    write_count(to, written);
+    write_list(to, symbols, sizeof *symbols, symbol_entries);
+    write_queue(to, queue, queue_entries, fill);
+    free(nodes.list);
+    free(symbols);
+    free(queue);
+}
+
+static void answer_read_symbols(struct reader *from, struct writer *to) {
+    size_t length;
+    ostrovuc_symbol *symbols = read_list(from, sizeof *symbols, &length);
+    struct nodes nodes = {.length = read_word(from)};
+    nodes.list = new_list(nodes.length, sizeof *nodes.list);
+    fill_nodes(&nodes, read_word(from));
+    ostrovuc_count read = ostrovuc_read_symbols(symbols, length, nodes.list, nodes.length);
+    write_count(to, read);
+    write_nodes(to, nodes.list, nodes.length);
+    free(symbols);
+    free(nodes.list);
+}
+
 static void answer(uint32_t kind, struct reader *from, struct writer *to) {
     switch (kind) {
     case LEARN: answer_learning(from, to, false); break;
@@ -290,7 +336,9 @@ static void answer(uint32_t kind, struct reader *from, struct writer *to) {
     case PACK: answer_pack(from, to); break;
     case TOKEN: answer_token(from, to); break;
     case VALUE: answer_value(from, to); break;
-    default: damaged("a job of a kind other than 1 to 8");
+    case WRITE_SYMBOLS: answer_write_symbols(from, to); break;
+    case READ_SYMBOLS: answer_read_symbols(from, to); break;
+    default: damaged("a job of a kind other than 1 to 8, 32 and 33");
     }
 }
 
