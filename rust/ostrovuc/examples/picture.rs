@@ -1,9 +1,11 @@
 //! Learns a tree from the 64 pixels of a small picture: the right half is lit, the left half is not, the top line is brighter, and there are a few specks.
-//! Prints the tree, the leaf that each pixel reaches, the leaves' contexts, and what a refusal looks like.
+//! Prints the tree, the leaf that each pixel reaches, the leaves' contexts, the symbols that JPEG XL transmits for the
+//! tree, the tree read back from them, and what refusals look like.
 
 use ostrovuc::{
-    Learned, MaNode, Refusal, Room, Settings, leaf_contexts, learn, logarithms, lookup,
-    pack_signed, uint_encode,
+    Learned, MaNode, Refusal, Room, Settings, Symbol, SymbolContext, leaf_contexts, learn,
+    logarithms, lookup, pack_signed, read_nodes_length, read_symbols, symbols_length, uint_encode,
+    write_symbols,
 };
 
 const SIDE: usize = 8;
@@ -57,7 +59,12 @@ fn print_tree(tree: &Learned, room: &Room) {
     let nodes = room.nodes.iter().zip(&room.spans);
     let nodes = nodes.take(tree.nodes as usize);
     for (n, (node, span)) in nodes.enumerate() {
-        println!("node {n}, {} rows: {}", span.rows().len(), in_words(node));
+        let (rows, what) = (span.rows().len(), in_words(node));
+        if node.is_split() {
+            println!("node {n}, {rows} rows: {what}");
+        } else {
+            println!("node {n}, {rows} rows: {what}, {:.2} bits", node.info.cost);
+        }
     }
 }
 
@@ -69,10 +76,7 @@ fn in_words(node: &MaNode) -> String {
         format!("property {prop} > {val} leads to {gt}, else to {le}")
     } else {
         let info = node.info;
-        format!(
-            "leaf, predictor {}, offset {}, {:.2} bits",
-            info.pred, info.offset, info.cost
-        )
+        format!("leaf, predictor {}, offset {}", info.pred, info.offset)
     }
 }
 
@@ -102,6 +106,45 @@ fn print_contexts(tree: &Learned, room: &Room) -> Result<(), Refusal> {
     Ok(())
 }
 
+/// The tree's symbols, a node a line: each begins with its property, a leaf's being 0.
+fn print_symbols(symbols: &[Symbol]) {
+    print!("{} symbols", symbols.len());
+    for symbol in symbols {
+        let context = SymbolContext::of(symbol.context).expect("one of the standard's");
+        let before = match context {
+            SymbolContext::Property => "\n",
+            _ => ", ",
+        };
+        print!("{before}{} {}", context.name(), symbol.value);
+    }
+    println!();
+}
+
+/// Reads a tree from its symbols, and from all but the last one.
+fn print_read_back(symbols: &[Symbol]) -> Result<(), Refusal> {
+    let mut nodes = vec![MaNode::default(); read_nodes_length(symbols.len())];
+    let count = read_symbols(symbols, &mut nodes)?;
+    println!("read back: {count} nodes");
+    for (n, node) in nodes.iter().enumerate() {
+        println!("node {n}: {}", in_words(node));
+    }
+    let short = read_symbols(&symbols[..symbols.len() - 1], &mut nodes);
+    if let Err(refusal) = short {
+        let (number, place) = (refusal.number(), refusal.place());
+        println!("without the last symbol: refusal {number}, place {place}");
+        println!("in words: {refusal}");
+    }
+    Ok(())
+}
+
+fn print_transmitted(tree: &Learned, room: &Room) -> Result<(), Refusal> {
+    let mut symbols = vec![Symbol::default(); symbols_length(tree.nodes)];
+    let mut queue = vec![0; tree.nodes as usize];
+    write_symbols(&room.nodes, tree.nodes, &mut symbols, &mut queue)?;
+    print_symbols(&symbols);
+    print_read_back(&symbols)
+}
+
 fn main() -> Result<(), Refusal> {
     let settings = Settings {
         alphabet: 128,
@@ -124,6 +167,7 @@ fn main() -> Result<(), Refusal> {
     print_tree(&tree, &room);
     print_leaves(&tree, &room)?;
     print_contexts(&tree, &room)?;
+    print_transmitted(&tree, &room)?;
 
     tok[5 * PREDICTORS + 13] = 128;
     let again = learn(room.lend(&mut props, &mut tok, &mut res), &settings, &logs);

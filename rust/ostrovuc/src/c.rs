@@ -2,6 +2,7 @@
 
 use crate::operations::Encoding;
 use crate::records::{MaNode, Settings, Span};
+use crate::symbols::Symbol;
 
 /// A learned tree; number 0 says that there is one.
 #[repr(C)]
@@ -102,6 +103,21 @@ unsafe extern "C" {
         contexts_length: usize,
         queue: *mut u32,
         queue_length: usize,
+    ) -> Count;
+    pub fn ostrovuc_write_symbols(
+        nodes: *const MaNode,
+        nodes_length: usize,
+        count: u32,
+        symbols: *mut Symbol,
+        symbols_length: usize,
+        queue: *mut u32,
+        queue_length: usize,
+    ) -> Count;
+    pub fn ostrovuc_read_symbols(
+        symbols: *const Symbol,
+        symbols_length: usize,
+        nodes: *mut MaNode,
+        nodes_length: usize,
     ) -> Count;
     pub fn ostrovuc_evenly_sampled_indices(
         rows: usize,

@@ -6,7 +6,7 @@
 //! stack.
 //!
 //! ```
-//! use ostrovuc::{Room, Settings, learn, logarithms, lookup};
+//! use ostrovuc::{Room, Settings, Symbol, SymbolContext, learn, logarithms, lookup, symbols_length, write_symbols};
 //!
 //! let settings = Settings { alphabet: 16, max_leaves: 4, side_preds: 1, max_candidates: 8, allowed_preds: 1, ..Settings::default() };
 //! let rows = 8;
@@ -19,6 +19,11 @@
 //! let learned = learn(room.lend(&mut props, &mut tok, &mut []), &settings, &logarithms(rows))?;
 //! assert_eq!((learned.nodes, learned.leaves, learned.bits), (3, 2, 0.0));
 //! assert_eq!(lookup(&room.nodes, learned.nodes, &props[..24])?.leaf, 1);
+//!
+//! // As JPEG XL transmits it: node 0 splits by property 0, which is sent as 1, at 0. `read_symbols` reads it back.
+//! let mut symbols = vec![Symbol::default(); symbols_length(learned.nodes)];
+//! write_symbols(&room.nodes, learned.nodes, &mut symbols, &mut [0; 3])?;
+//! assert_eq!(symbols[..2], [Symbol::new(SymbolContext::Property, 1), Symbol::new(SymbolContext::SplitVal, 0)]);
 //! # Ok::<(), ostrovuc::Refusal>(())
 //! ```
 
@@ -27,11 +32,13 @@ mod operations;
 mod records;
 mod refusal;
 mod room;
+mod symbols;
 
 pub use operations::{
     Encoding, Leaf, Learned, Lists, deepen, evenly_sampled_indices, leaf_contexts, learn, lookup,
-    pack_signed, token_value, uint_encode,
+    pack_signed, read_symbols, token_value, uint_encode, write_symbols,
 };
 pub use records::{MaNode, NodeInfo, Settings, Span};
 pub use refusal::Refusal;
 pub use room::{Entries, Room, logarithms};
+pub use symbols::{Symbol, SymbolContext, read_nodes_length, symbols_length};

@@ -3,6 +3,7 @@
 use crate::c;
 use crate::records::{MaNode, Settings, Span};
 use crate::refusal::Refusal;
+use crate::symbols::Symbol;
 
 /// What learning and deepening are lent. `Room` has all but the rows, at the lengths that are due.
 pub struct Lists<'a> {
@@ -150,6 +151,46 @@ pub fn leaf_contexts(
         )
     };
     Refusal::unless_accepted(counted.number, counted.place, counted.count)
+}
+
+/// Writes the tree of the first `count` nodes as ISO/IEC 18181-1 transmits it to the front of `symbols`, breadth first,
+/// gt before le, and gives how many symbols there are. `symbols` has at least `symbols_length(count)` entries, `queue`
+/// at least `count`. Refusals 8 and 7.
+pub fn write_symbols(
+    nodes: &[MaNode],
+    count: u32,
+    symbols: &mut [Symbol],
+    queue: &mut [u32],
+) -> Result<u32, Refusal> {
+    // SAFETY: the pointers and the lengths are slices', and no two of them overlap.
+    let written = unsafe {
+        c::ostrovuc_write_symbols(
+            nodes.as_ptr(),
+            nodes.len(),
+            count,
+            symbols.as_mut_ptr(),
+            symbols.len(),
+            queue.as_mut_ptr(),
+            queue.len(),
+        )
+    };
+    Refusal::unless_accepted(written.number, written.place, written.count)
+}
+
+/// Reads such symbols back, all of them, to the front of `nodes`, and gives how many nodes the tree has. They are
+/// numbered breadth first; a split has infinite cost, predictor and offset 0, a leaf cost 0. `nodes` has at least
+/// `read_nodes_length(symbols.len())` entries. Refusals 11 and 7.
+pub fn read_symbols(symbols: &[Symbol], nodes: &mut [MaNode]) -> Result<u32, Refusal> {
+    // SAFETY: the pointers and the lengths are slices', and the two do not overlap.
+    let read = unsafe {
+        c::ostrovuc_read_symbols(
+            symbols.as_ptr(),
+            symbols.len(),
+            nodes.as_mut_ptr(),
+            nodes.len(),
+        )
+    };
+    Refusal::unless_accepted(read.number, read.place, read.count)
 }
 
 /// Writes the numbers of `target` rows, evenly picked, to the front of `out`, or of all rows if there are fewer; gives how many. Refusals 3 and 7.

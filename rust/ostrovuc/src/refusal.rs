@@ -3,7 +3,8 @@
 use std::error::Error;
 use std::fmt;
 
-/// Why a call was refused: document 01's numbers 1 to 10, in this order. Every lent list then reads as before.
+/// Why a call was refused: document 01's numbers 1 to 10 and 02's from 11, in this order. Every lent list then reads as
+/// before.
 #[derive(Clone, Copy, Debug, Eq, PartialEq)]
 pub enum Refusal {
     /// A setting is outside its range.
@@ -26,10 +27,13 @@ pub enum Refusal {
     Properties,
     /// A token over 127, or extra bits too large for their count.
     TokenValue,
+    /// Symbols that are no tree: cut short or left over, one without the context that is due, a property over 23, a
+    /// predictor over 13, a multiplier other than 1, or more than 8,191 nodes.
+    Symbols,
 }
 
 impl Refusal {
-    /// Document 01's number, 1 to 10.
+    /// Document 01's number, 1 to 10, or 02's.
     pub const fn number(self) -> u32 {
         match self {
             Self::Settings => 1,
@@ -42,6 +46,7 @@ impl Refusal {
             Self::Tree { .. } => 8,
             Self::Properties => 9,
             Self::TokenValue => 10,
+            Self::Symbols => 11,
         }
     }
 
@@ -68,6 +73,7 @@ impl Refusal {
             8 => Self::Tree { node: place },
             9 => Self::Properties,
             10 => Self::TokenValue,
+            11 => Self::Symbols,
             other => unreachable!("the library has no refusal {other}"),
         };
         debug_assert_eq!(refusal.place(), place, "0 where nothing is named");
@@ -102,6 +108,10 @@ impl fmt::Display for Refusal {
             Self::Properties => "a lookup takes exactly 24 properties",
             Self::TokenValue => {
                 "the token is over 127, or its extra bits are too large for their count"
+            }
+            Self::Symbols => {
+                "the symbols are no tree: one is missing, left over or outside the rules, \
+                 or they make more than 8,191 nodes"
             }
         })
     }

@@ -2,7 +2,10 @@
 
 mod small;
 
-use ostrovuc::{MaNode, Refusal, evenly_sampled_indices, leaf_contexts, lookup, token_value};
+use ostrovuc::{
+    MaNode, Refusal, Symbol, evenly_sampled_indices, leaf_contexts, lookup, read_symbols,
+    token_value, write_symbols,
+};
 use small::{Job, MARK, PREDICTORS, PROPERTIES, ROWS};
 
 /// Learning refuses the changed job and leaves every list as it was. Jobs are compared as text, since some hold NaN.
@@ -202,6 +205,121 @@ fn contexts() {
     assert_eq!(numbered(3, 3, 2), Err(Refusal::Room));
 }
 
+const MARKED: Symbol = Symbol {
+    context: MARK,
+    value: MARK,
+};
+
+/// Everything is wrong at first and is put right one by one.
+#[test]
+fn trees_that_cannot_be_written() {
+    let leaf = MaNode::leaf(0, 0);
+    let refused = |nodes: &[MaNode], count, symbols: usize, queue: usize| {
+        let (mut symbols, mut queue) = (vec![MARKED; symbols], vec![MARK; queue]);
+        let answer = write_symbols(nodes, count, &mut symbols, &mut queue);
+        assert!(symbols.iter().all(|&symbol| symbol == MARKED));
+        assert!(queue.iter().all(|&entry| entry == MARK));
+        answer.expect_err("no tree, or no room")
+    };
+    let wrong = [MaNode::split(3, 0, 1, 2), leaf, MaNode::leaf(14, 0)];
+    assert_eq!(refused(&wrong, 4, 0, 0), Refusal::Tree { node: 0 });
+    assert_eq!(refused(&wrong, 0, 0, 0), Refusal::Tree { node: 0 });
+    assert_eq!(refused(&wrong, 3, 0, 0), Refusal::Tree { node: 2 });
+    assert_eq!(refused(&wrong, 2, 0, 0), Refusal::Tree { node: 0 });
+    let right = [MaNode::split(23, 0, 1, 2), leaf, MaNode::leaf(13, 0)];
+    assert_eq!(refused(&right, 3, 11, 3), Refusal::Room);
+    assert_eq!(refused(&right, 3, 12, 2), Refusal::Room);
+    assert_eq!(
+        write_symbols(&right, 3, &mut [MARKED; 12], &mut [MARK; 3]),
+        Ok(12)
+    );
+
+    let orphan = [right[0], leaf, leaf, leaf];
+    assert_eq!(refused(&orphan, 4, 19, 4), Refusal::Tree { node: 3 });
+    let many = vec![leaf; 8_192];
+    assert_eq!(
+        refused(&many, 8_192, 30_000, 8_192),
+        Refusal::Tree { node: 0 }
+    );
+}
+
+/// A split at 5 of property 3, and leaves of predictors 13 and 0.
+const SYMBOLS: [(u32, u32); 12] = [
+    (1, 4),
+    (0, 10),
+    (1, 0),
+    (2, 13),
+    (3, 7),
+    (4, 0),
+    (5, 0),
+    (1, 0),
+    (2, 0),
+    (3, 0),
+    (4, 0),
+    (5, 0),
+];
+
+/// How symbols are refused, with room for so many nodes.
+fn not_read(pairs: &[(u32, u32)], entries: usize) -> Refusal {
+    let symbol = |&(context, value): &(u32, u32)| Symbol { context, value };
+    let symbols: Vec<Symbol> = pairs.iter().map(symbol).collect();
+    let marked = MaNode {
+        kind: MARK,
+        ..MaNode::split(MARK, 1, MARK, MARK)
+    };
+    let mut nodes = vec![marked; entries];
+    let answer = read_symbols(&symbols, &mut nodes);
+    assert!(nodes.iter().all(|&node| node == marked));
+    answer.expect_err("no symbols of a tree, or no room")
+}
+
+#[test]
+fn symbols_of_another_context_or_value() {
+    for at in 0..SYMBOLS.len() {
+        for context in [0, 1, 2, 3, 4, 5, 6, u32::MAX] {
+            let mut symbols = SYMBOLS;
+            symbols[at].0 = context;
+            if context != SYMBOLS[at].0 {
+                assert_eq!(not_read(&symbols, 3), Refusal::Symbols, "{symbols:?}");
+            }
+        }
+    }
+    let property = (0, 25);
+    let (predictor, log, bits) = ((3, 14), (5, 1), (6, 1));
+    for (at, least) in [property, predictor, log, bits] {
+        for value in [least, u32::MAX] {
+            let mut symbols = SYMBOLS;
+            symbols[at].1 = value;
+            assert_eq!(not_read(&symbols, 3), Refusal::Symbols, "{symbols:?}");
+        }
+    }
+}
+
+#[test]
+fn symbols_cut_short_or_left_over() {
+    for length in 0..SYMBOLS.len() {
+        assert_eq!(not_read(&SYMBOLS[..length], 3), Refusal::Symbols);
+    }
+    for more in [&SYMBOLS[..1], &SYMBOLS[2..7], &SYMBOLS] {
+        let symbols = [&SYMBOLS, more].concat();
+        assert_eq!(not_read(&symbols, 3), Refusal::Symbols);
+    }
+}
+
+/// 4,096 splits and all their leaves, which is a tree but for its size.
+#[test]
+fn symbols_of_too_many_nodes() {
+    let symbols = [SYMBOLS[..2].repeat(4_096), SYMBOLS[2..7].repeat(4_097)].concat();
+    assert_eq!(not_read(&symbols, 8_193), Refusal::Symbols);
+}
+
+#[test]
+fn symbols_without_room() {
+    assert_eq!(not_read(&SYMBOLS, 2), Refusal::Room);
+    assert_eq!(not_read(&SYMBOLS, 0), Refusal::Room);
+    assert_eq!(not_read(&SYMBOLS[..11], 0), Refusal::Symbols);
+}
+
 #[test]
 fn sampling() {
     let mut out = [MARK; 4];
@@ -235,11 +353,12 @@ fn numbers_places_and_sentences() {
         Refusal::Tree { node: 8_190 },
         Refusal::Properties,
         Refusal::TokenValue,
+        Refusal::Symbols,
     ];
     let numbers = all.map(Refusal::number);
-    assert_eq!(numbers, [1, 2, 3, 4, 5, 6, 7, 8, 9, 10]);
+    assert_eq!(numbers, [1, 2, 3, 4, 5, 6, 7, 8, 9, 10, 11]);
     let places = all.map(Refusal::place);
-    assert_eq!(places, [0, 0, 0, 65_535, 0, 0, 0, 8_190, 0, 0]);
+    assert_eq!(places, [0, 0, 0, 65_535, 0, 0, 0, 8_190, 0, 0, 0]);
     assert!(all[3].to_string().starts_with("row 65535 has a token"));
     assert!(all[7].to_string().contains("node 8190 is at fault"));
     let mut sentences = all.map(|refusal| refusal.to_string()).to_vec();
