@@ -1,16 +1,19 @@
-//! From the job stream to the port and back, for every public operation (kinds 1 to 8): a job's lists are laid out at
-//! their lengths and with their pattern, lent through crate `ostrovuc`, and printed whole, after a refusal too.
-//! c/jobs.c does the same from C. The driver, the benchmark and `ma_learn` are built on this.
+//! From the job stream to the port and back, for every public operation (kinds 1 to 8, 32 and 33): a job's lists are
+//! laid out at their lengths and with their pattern, lent through crate `ostrovuc`, and printed whole, after a refusal
+//! too. c/jobs.c does the same from C. The driver, the benchmark and `ma_learn` are built on this.
 
 mod learning;
 mod operations;
 mod records;
+mod symbols;
 
 pub use learning::{Run, run};
 pub use operations::{contexts, lookup, pack, sample, tokens, values};
 pub use records::{nodes, records, settings, span_records, spans};
+pub use symbols::{read_symbols, write_symbols};
 
 use ostrovuc::Refusal;
+use stream::Runs;
 
 /// What a queue entry prints as that is neither zero nor untouched.
 const OTHER: u32 = 4_294_967_294;
@@ -24,6 +27,14 @@ fn queue_entry<const N: usize>(parts: [u32; N], fill: u32) -> u32 {
     } else {
         OTHER
     }
+}
+
+/// A queue of single numbers as it prints.
+fn queue_of_words(queue: &[u32], fill: u32) -> Runs {
+    queue
+        .iter()
+        .map(|&entry| queue_entry([entry], fill))
+        .collect()
 }
 
 /// An answer as number, place and the rest: 0 for all of it after a refusal.

@@ -1,7 +1,7 @@
 //! Lookup, contexts, even sampling, packing and tokens.
 
 use crate::records::nodes;
-use crate::{queue_entry, told};
+use crate::{queue_of_words, told};
 use stream::{Contexts, ContextsJob, Found, LookupJob, SampleJob, Sampled, TokenOf, ValueOf};
 
 pub fn lookup(job: &LookupJob) -> Found {
@@ -26,10 +26,7 @@ pub fn contexts(job: &ContextsJob) -> Contexts {
         place,
         context_count,
         contexts,
-        queue: queue
-            .into_iter()
-            .map(|entry| queue_entry([entry], job.fill))
-            .collect(),
+        queue: queue_of_words(&queue, job.fill),
     }
 }
 
