@@ -11,22 +11,32 @@ pub fn of(tree: &Tree<'_>) -> String {
 }
 
 fn head(tree: &Tree<'_>) -> String {
-    let learned = &tree.learned;
     format!(
         r#"digraph tree {{
-    label="{}, {}, {:.1} bits, {:.1} flat";
+    label="{}";
     fontname="sans-serif"; fontsize=12; labelloc=t; rankdir=LR; ordering=out;
     node [shape=box, fontname="sans-serif", fontsize=11];
     edge [fontname="sans-serif", fontsize=10];
 "#,
-        counted(tree.rows, "row", "rows"),
-        counted(learned.leaves as usize, "leaf", "leaves"),
-        learned.bits,
-        learned.flat,
+        title(tree)
     )
 }
 
-/// A node, and the edges down from it, each with the rows that go its way.
+/// Leaves; of a learnt tree also rows and bits, of another one nodes.
+fn title(tree: &Tree<'_>) -> String {
+    let leaves = counted(tree.leaves(), "leaf", "leaves");
+    match &tree.learning {
+        None => format!("{}, {leaves}", counted(tree.nodes.len(), "node", "nodes")),
+        Some(learning) => format!(
+            "{}, {leaves}, {:.1} bits, {:.1} flat",
+            counted(learning.rows, "row", "rows"),
+            learning.learned.bits,
+            learning.learned.flat,
+        ),
+    }
+}
+
+/// A node, and the edges down from it, in a learnt tree each with the rows that go its way.
 fn node(place: &Place<'_>) -> String {
     if place.node.is_split() {
         split(place)
@@ -38,25 +48,30 @@ fn node(place: &Place<'_>) -> String {
 fn split(place: &Place<'_>) -> String {
     let (number, node) = (place.number, place.node);
     let (name, value) = (names::property(node.prop), node.val);
+    let [rows, yes, no] = place.rows.map_or_else(Default::default, |rows| {
+        let [all, yes, no] =
+            [rows.all, rows.yes, rows.no].map(|count| counted(count, "row", "rows"));
+        [format!(r"\n{all}"), format!(", {yes}"), format!(", {no}")]
+    });
     format!(
-        r#"    n{number} [label="{name} > {value}\n{rows}"];
-    n{number} -> n{gt} [label="yes, {yes}"];
-    n{number} -> n{le} [label="no, {no}"];
+        r#"    n{number} [label="{name} > {value}{rows}"];
+    n{number} -> n{gt} [label="yes{yes}"];
+    n{number} -> n{le} [label="no{no}"];
 "#,
-        rows = counted(place.rows, "row", "rows"),
         gt = node.gt,
-        yes = counted(place.yes, "row", "rows"),
         le = node.le,
-        no = counted(place.no, "row", "rows"),
     )
 }
 
 fn leaf(place: &Place<'_>) -> String {
     let (number, info) = (place.number, &place.node.info);
-    let (name, offset, bits) = (names::predictor(info.pred), info.offset, info.cost);
-    let rows = counted(place.rows, "row", "rows");
+    let (name, offset) = (names::predictor(info.pred), info.offset);
+    let rows = place.rows.map_or_else(String::new, |rows| {
+        let all = counted(rows.all, "row", "rows");
+        format!(r"\n{:.1} bits\n{all}", info.cost)
+    });
     format!(
-        r##"    n{number} [label="{name}, offset {offset}\n{bits:.1} bits\n{rows}", style=filled, fillcolor="#e8eef7"];
+        r##"    n{number} [label="{name}, offset {offset}{rows}", style=filled, fillcolor="#e8eef7"];
 "##
     )
 }

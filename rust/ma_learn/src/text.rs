@@ -6,15 +6,24 @@ use crate::words::counted;
 
 /// The whole text.
 pub fn of(tree: &Tree<'_>) -> String {
-    let width = tree.learned.nodes.saturating_sub(1).to_string().len();
+    let width = tree.nodes.len().saturating_sub(1).to_string().len();
     let lines = tree.walk().map(|place| line(&place, width));
     lines.fold(head(tree) + "\n", |text, line| text + &line)
 }
 
-/// Rows, nodes, leaves and bits.
+/// Nodes and leaves; of a learnt tree also rows and bits.
 fn head(tree: &Tree<'_>) -> String {
-    let learned = &tree.learned;
-    let saved = tree.bits_saved();
+    let size = format!(
+        "nodes           {}\n\
+         leaves          {}\n",
+        tree.nodes.len(),
+        tree.leaves()
+    );
+    let Some(learning) = &tree.learning else {
+        return size;
+    };
+    let learned = &learning.learned;
+    let saved = learning.bits_saved();
     let share = if learned.flat > 0.0 {
         format!(" ({:.1} %)", 100.0 * saved / learned.flat)
     } else {
@@ -22,12 +31,11 @@ fn head(tree: &Tree<'_>) -> String {
     };
     format!(
         "rows            {}\n\
-         nodes           {}\n\
-         leaves          {}\n\
+         {size}\
          estimated bits  {:.1}\n\
          flat bits       {:.1}\n\
          bits saved      {saved:.1}{share}\n",
-        tree.rows, learned.nodes, learned.leaves, learned.bits, learned.flat,
+        learning.rows, learned.bits, learned.flat,
     )
 }
 
@@ -44,22 +52,26 @@ fn line(place: &Place<'_>, width: usize) -> String {
 /// What a split asks and which way its rows go, or what a leaf predicts for its own.
 fn what(place: &Place<'_>) -> String {
     let node = place.node;
-    let rows = counted(place.rows, "row", "rows");
     if node.is_split() {
+        let rows = place.rows.map_or_else(String::new, |rows| {
+            let all = counted(rows.all, "row", "rows");
+            format!(", {all}: {} yes, {} no", rows.yes, rows.no)
+        });
         format!(
-            "property {} > {}, {rows}: {} yes, {} no",
+            "property {} > {}{rows}",
             names::property(node.prop),
-            node.val,
-            place.yes,
-            place.no
+            node.val
         )
     } else {
         let info = &node.info;
+        let rows = place.rows.map_or_else(String::new, |rows| {
+            let all = counted(rows.all, "row", "rows");
+            format!(", {:.1} bits, {all}", info.cost)
+        });
         format!(
-            "{}, offset {}, {:.1} bits, {rows}",
+            "{}, offset {}{rows}",
             names::predictor(info.pred),
-            info.offset,
-            info.cost
+            info.offset
         )
     }
 }

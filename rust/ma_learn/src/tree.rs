@@ -1,13 +1,18 @@
-//! A learnt tree, to be shown.
+//! A tree to be shown: one that was learnt, or one that was read from its symbols.
 
 use jobs::Run;
 use ostrovuc::{Learned, MaNode, Span};
 
-/// A tree, and how many rows come to each of its nodes.
+/// A tree, and what learning says of it; a tree that was read from symbols has neither rows nor bits.
 pub struct Tree<'a> {
+    pub nodes: &'a [MaNode],
+    pub learning: Option<Learning>,
+}
+
+/// What a run answered beside its nodes, and how many rows come to each of them.
+pub struct Learning {
     pub learned: Learned,
     pub rows: usize,
-    nodes: &'a [MaNode],
     rows_at: Vec<usize>,
 }
 
@@ -28,8 +33,14 @@ pub struct Place<'a> {
     pub node: &'a MaNode,
     pub depth: usize,
     pub side: Side,
-    /// How many rows come to it.
-    pub rows: usize,
+    /// Where the tree was learnt.
+    pub rows: Option<Rows>,
+}
+
+/// How many rows come to a node.
+#[derive(Clone, Copy, Debug, Eq, PartialEq)]
+pub struct Rows {
+    pub all: usize,
     /// How many of them a split sends to its yes side; 0 at a leaf.
     pub yes: usize,
     /// How many to its no side; 0 at a leaf.
@@ -42,42 +53,70 @@ impl<'a> Tree<'a> {
         let learned = run.result.ok()?;
         let count = learned.nodes as usize;
         let nodes = &run.room.nodes[..count];
-        Some(Self {
+        let rows_at = rows_at(nodes, &run.room.spans[..count]);
+        let learning = Learning {
             learned,
             rows: run.rows(),
+            rows_at,
+        };
+        Some(Self {
             nodes,
-            rows_at: rows_at(nodes, &run.room.spans[..count]),
+            learning: Some(learning),
         })
     }
 
-    /// Bits that the tree saves against the flat one.
-    pub fn bits_saved(&self) -> f64 {
-        self.learned.flat - self.learned.bits
+    /// A tree that was read from its symbols.
+    pub fn read(nodes: &'a [MaNode]) -> Self {
+        Self {
+            nodes,
+            learning: None,
+        }
+    }
+
+    pub fn leaves(&self) -> usize {
+        self.nodes.iter().filter(|node| !node.is_split()).count()
     }
 
     /// Every node, each before those below it, and the yes side before the no side.
     pub fn walk(&self) -> impl Iterator<Item = Place<'a>> {
         let mut waiting = vec![(0, 0, Side::Root)];
-        let rows = |number: u32| self.rows_at[number as usize];
         std::iter::from_fn(move || {
             let (number, depth, side) = waiting.pop()?;
             let node = &self.nodes[number as usize];
-            let (mut yes, mut no) = (0, 0);
             if node.is_split() {
                 waiting.push((node.le, depth + 1, Side::No));
                 waiting.push((node.gt, depth + 1, Side::Yes));
-                (yes, no) = (rows(node.gt), rows(node.le));
             }
+            let learning = self.learning.as_ref();
             Some(Place {
                 number,
                 node,
                 depth,
                 side,
-                rows: rows(number),
-                yes,
-                no,
+                rows: learning.map(|learning| learning.rows_of(number, node)),
             })
         })
+    }
+}
+
+impl Learning {
+    /// Bits that the tree saves against the flat one.
+    pub fn bits_saved(&self) -> f64 {
+        self.learned.flat - self.learned.bits
+    }
+
+    fn rows_of(&self, number: u32, node: &MaNode) -> Rows {
+        let at = |number: u32| self.rows_at[number as usize];
+        let (yes, no) = if node.is_split() {
+            (at(node.gt), at(node.le))
+        } else {
+            (0, 0)
+        };
+        Rows {
+            all: at(number),
+            yes,
+            no,
+        }
     }
 }
 

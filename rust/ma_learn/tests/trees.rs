@@ -1,7 +1,7 @@
 //! How many rows a shown tree has at each node, held to the rows' own ways down it.
 
 use jobs::Run;
-use ma_learn::tree::Tree;
+use ma_learn::tree::{Rows, Tree};
 use ma_learn::{job, pgm};
 use ostrovuc::MaNode;
 use stream::{Learning, Settings};
@@ -37,7 +37,8 @@ fn met(nodes: &[MaNode], properties: &[i32]) -> Vec<usize> {
 /// Every node of this many leaves' tree is shown with the rows that meet it, and a split with those of its children.
 fn assert_shown(run: &Run, properties: &[i32], leaves: u32) {
     let tree = Tree::of(run).expect("a tree");
-    assert_eq!(tree.learned.leaves, leaves);
+    let learned = run.result.expect("a tree");
+    assert_eq!((learned.leaves, tree.leaves()), (leaves, leaves as usize));
     let met = met(&run.room.nodes, properties);
     let mut places = 0;
     for place in tree.walk() {
@@ -47,11 +48,11 @@ fn assert_shown(run: &Run, properties: &[i32], leaves: u32) {
         } else {
             (0, 0)
         };
-        let shown = (place.rows, place.yes, place.no);
-        assert_eq!(shown, (met[place.number as usize], yes, no));
+        let all = met[place.number as usize];
+        assert_eq!(place.rows, Some(Rows { all, yes, no }));
         places += 1;
     }
-    assert_eq!(places, tree.learned.nodes);
+    assert_eq!(places, learned.nodes);
 }
 
 /// Learnt and pruned, then deepened: of the second tree's splits the seed's have no spans, and the others have.
