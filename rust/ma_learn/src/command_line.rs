@@ -9,9 +9,9 @@ use std::path::PathBuf;
 use std::process::ExitCode;
 use stream::{Message, write_message};
 
-/// The exit status where the learner refuses the job.
+/// The exit status where the library refuses the job, or the symbols.
 const REFUSED: u8 = 1;
-/// The exit status where there is no job to run: a wrong file, or wrong arguments.
+/// The exit status where there is nothing to run: a wrong file, or wrong arguments.
 const WRONG: u8 = 2;
 
 /// Why a program ends early, in a sentence for its user.
@@ -34,6 +34,14 @@ impl Failure {
         Self {
             status: REFUSED,
             message: format!("refused: number {number}, place {place}: {refusal}"),
+        }
+    }
+
+    /// The same, with more that is known of it.
+    pub fn with(self, more: impl fmt::Display) -> Self {
+        Self {
+            message: format!("{}; {more}", self.message),
+            ..self
         }
     }
 }

@@ -25,6 +25,7 @@ impl LearningJob {
 pub enum WrongInput {
     Empty,
     Picture,
+    Symbols,
     /// A job, but of this kind.
     OtherKind(&'static str),
     /// No job has this kind.
@@ -49,6 +50,10 @@ impl fmt::Display for WrongInput {
             Self::Picture => write!(
                 f,
                 "a PGM picture and not a job; pgm_to_job makes a job of it"
+            ),
+            Self::Symbols => write!(
+                f,
+                "a list of symbols and not a job; --from-symbols reads it"
             ),
             Self::OtherKind(name) => {
                 write!(f, "a job of {name}, where learning or deepening is due")
@@ -101,6 +106,10 @@ fn check_start(bytes: &[u8]) -> Result<(), WrongInput> {
     if bytes.starts_with(b"P5") || bytes.starts_with(b"P2") {
         return Err(WrongInput::Picture);
     }
+    // A tree's first symbol is its root's property, of context 1.
+    if bytes.starts_with(b"1 ") {
+        return Err(WrongInput::Symbols);
+    }
     let Some(&word) = bytes.first_chunk() else {
         return Ok(());
     };
@@ -118,6 +127,8 @@ fn check_start(bytes: &[u8]) -> Result<(), WrongInput> {
         18 => "partition",
         19 => "pruning",
         30 => "a stream's state",
+        32 => "symbols to be written",
+        33 => "symbols to be read",
         48 => "scoring",
         49 => "marks",
         _ => return Err(WrongInput::NoKind(kind)),

@@ -1,4 +1,4 @@
-//! The learner as a program: its three forms, refusals, and wrong files.
+//! The learner as a program: its four forms, refusals, and wrong files.
 
 mod common;
 
@@ -121,6 +121,26 @@ fn dot() {
 }
 "##;
     assert_eq!(text(learn(&["--dot"], small_job())), expected);
+}
+
+/// A grey is packed to twice as much.
+#[test]
+fn symbols() {
+    let expected = "\
+1 3 property
+0 0 split_val
+1 0 property
+2 0 predictor
+3 40 offset
+4 0 multiplier_log
+5 0 multiplier_bits
+1 0 property
+2 0 predictor
+3 10 offset
+4 0 multiplier_log
+5 0 multiplier_bits
+";
+    assert_eq!(text(learn(&["--symbols"], small_job())), expected);
 }
 
 fn raw(ran: &Ran) -> Answer {
@@ -272,6 +292,7 @@ fn refusals_have_number_place_and_reason() {
     let message = format!("ma_learn: refused: number 4, place 3: {reason}");
     assert_fails(&learn(&[], job.clone()), 1, &message);
     assert_fails(&learn(&["--dot"], job.clone()), 1, &message);
+    assert_fails(&learn(&["--symbols"], job.clone()), 1, &message);
     let ran = learn(&["--raw"], job.clone());
     assert_eq!((ran.status, ran.errors.trim_end()), (Some(1), &message[..]));
     let Answer::Learned(Learned {
@@ -297,7 +318,7 @@ fn refusals_have_number_place_and_reason() {
 fn assert_wrong(name: &str, content: &[u8], why: &str) {
     let path = file(name, content);
     let path = path.to_str().expect("a plain path");
-    for form in ["--text", "--dot", "--raw"] {
+    for form in ["--text", "--dot", "--symbols", "--raw"] {
         assert_fails(
             &run(MA_LEARN, &[form, path], b""),
             2,
@@ -342,6 +363,11 @@ fn wrong_files() {
         "picture",
         b"P5\n1 1\n255\n0",
         "a PGM picture and not a job; pgm_to_job makes a job of it",
+    );
+    assert_wrong(
+        "symbols",
+        b"1 0 property\n",
+        "a list of symbols and not a job; --from-symbols reads it",
     );
     assert_wrong(
         "prose",
@@ -409,7 +435,7 @@ fn arguments() {
     assert_fails(
         &forms,
         2,
-        "ma_learn: at most one of --text, --dot and --raw can be given; --help says more",
+        "ma_learn: at most one of --text, --dot, --symbols and --raw can be given; --help says more",
     );
     let files = run(MA_LEARN, &["one", "two"], b"");
     assert_fails(
