@@ -6,7 +6,6 @@
 mod operations;
 mod pruning;
 mod scoring;
-mod symbols;
 
 use driver::port::Counts;
 use std::io::{self, BufReader, BufWriter, Write};

@@ -1,7 +1,7 @@
 //! From a job to the port's answer. The public operations are crate `jobs`'s; a single part's job is laid out here as
 //! the part wants it.
 
-use crate::{pruning, scoring, symbols};
+use crate::{pruning, scoring};
 use driver::port::{self, CANDIDATES, Counts, Rows};
 use stream::{Answer, Job, PREDICTORS, PROPERTIES};
 
@@ -15,12 +15,12 @@ pub fn answer(job: Job, counts: &mut Counts) -> Answer {
         Job::Pack(values) => Answer::Packed(jobs::pack(&values)),
         Job::Token(values) => Answer::Tokens(jobs::tokens(&values)),
         Job::Value(pairs) => Answer::Values(jobs::values(&pairs)),
+        Job::WriteSymbols(job) => Answer::SymbolsWritten(jobs::write_symbols(&job)),
+        Job::ReadSymbols(job) => Answer::SymbolsRead(jobs::read_symbols(&job)),
         Job::Mode(residuals) => mode(&residuals, counts),
         Job::Candidates(column, limit) => candidates(&column, limit, counts),
         Job::Partition(column, threshold) => partition(&column, threshold),
         Job::Prune(job) => Answer::Pruned(pruning::prune(&job)),
-        Job::WriteSymbols(job) => Answer::SymbolsWritten(symbols::write(&job)),
-        Job::ReadSymbols(job) => Answer::SymbolsRead(symbols::read(&job)),
         Job::Score(job) => Answer::Scored(scoring::score(&job)),
         Job::Marks(words) => Answer::Places(places(&words)),
     }
