@@ -23,7 +23,8 @@ use Rattle.model.specs.Learn.{result_of}
 use Rattle.model.specs.Single.{singles}
 use Rattle.model.specs.Profile.{single}
 use Rattle.model.specs.Lent.{Stored, record_in, stored, Waiting, Lent}
-use Rattle.model.specs.Operations.{Outcome, refused, accepted, After, Tree, Found, ContextLists, learn, deepen, lookup, leaf_contexts, sample, token_answer}
+use Rattle.model.specs.Operations.{Outcome, refused, accepted, After, Tree, Found, ContextLists, SymbolLists, learn, deepen, lookup, leaf_contexts, write_symbols, read_symbols, sample, token_answer}
+use Rattle.model.specs.declared.Symbol.{Symbol}
 
 -- a 32-bit word as a signed number, and a list of them
 abbrev pub word : ℕ → ℤ
@@ -54,6 +55,12 @@ fill_node v = let w = v % 2 ^ 32 in node (w % 2) (w % 24) w w w (w % 2 ^ 30) (w 
 
 abbrev pub fill_nodes : ℕ → ℕ → ℕ → List (Stored singles)
 fill_nodes fill first count = map (λ (i : ℕ). fill_node (fill + i)) (range first count)
+
+abbrev pub pair : ℕ → ℕ → Symbol
+pair context value = record { context = context; value = value }
+
+abbrev pub fill_pairs : ℕ → ℕ → ℕ → List Symbol
+fill_pairs fill first count = map (λ (i : ℕ). pair ((fill + i) % 2 ^ 32) ((fill + i + 1) % 2 ^ 32)) (range first count)
 
 abbrev pub span : ℕ → ℕ → Span
 span first end = record { first = first; end = end }
@@ -100,6 +107,8 @@ pub data Job : Type 0 where
   deepening : Settings singles → List ℕ → ℕ → Lent singles → Job
   looking : ℕ → List (Stored singles) → List ℕ → Job
   numbering : ℕ → List (Stored singles) → ContextLists → Job
+  writing : ℕ → List (Stored singles) → SymbolLists → Job
+  parsing : List Symbol → List (Stored singles) → Job
   sampling : ℕ → ℕ → List ℕ → Job
   packing : List ℕ → Job
   encoding : List ℕ → Job
@@ -114,6 +123,8 @@ pub data Answer : Type 0 where
   grown : After (Tree singles) (Lent singles) → Answer
   found : Outcome Found → Answer
   numbered : After ℕ ContextLists → Answer
+  written : After ℕ SymbolLists → Answer
+  parsed : After ℕ (List (Stored singles)) → Answer
   sampled : After ℕ (List ℕ) → Answer
   naturals : List ℕ → Answer
   encodings : List (List ℕ) → Answer
@@ -157,6 +168,8 @@ answer_to (learning t logs x) = grown (learn single t (map f32 logs) x)
 answer_to (deepening t logs count x) = grown (deepen single t (map f32 logs) count x)
 answer_to (looking count nodes ps) = found (lookup nodes count (words ps))
 answer_to (numbering count nodes x) = numbered (leaf_contexts nodes count x)
+answer_to (writing count nodes x) = written (write_symbols nodes count x)
+answer_to (parsing symbols nodes) = parsed (read_symbols symbols nodes)
 answer_to (sampling rows target out) = sampled (sample rows target out)
 answer_to (packing vs) = naturals (map (λ (v : ℕ). packed (word v)) vs)
 answer_to (encoding vs) = encodings (map (λ (v : ℕ). let e = encoded_of v in e.token ∷ e.nbits ∷ e.bits ∷ []) vs)
@@ -190,6 +203,12 @@ outcome number place n = cond (eqb number 0) (accepted n) (refused (record { num
 
 abbrev pub contexts_are : ℕ → ℕ → ℕ → List ℕ → List ℕ → Answer
 contexts_are number place n contexts queue = numbered (record { outcome = outcome number place n; lent = record { contexts = contexts; queue = queue } })
+
+abbrev pub symbols_are : ℕ → ℕ → ℕ → List Symbol → List ℕ → Answer
+symbols_are number place n symbols queue = written (record { outcome = outcome number place n; lent = record { symbols = symbols; queue = queue } })
+
+abbrev pub tree_is : ℕ → ℕ → ℕ → List (Stored singles) → Answer
+tree_is number place n nodes = parsed (record { outcome = outcome number place n; lent = nodes })
 
 abbrev pub sample_is : ℕ → ℕ → ℕ → List ℕ → Answer
 sample_is number place n out = sampled (record { outcome = outcome number place n; lent = out })
