@@ -60,6 +60,7 @@ pub mod ContextNumbers
 pub mod SymbolsRead
 pub mod SymbolsWritten
 pub mod SymbolsSame
+pub mod SymbolRuns
 pub mod OperationLaws
 pub mod StandardContexts
 pub mod SeedSplits

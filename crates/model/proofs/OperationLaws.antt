@@ -140,6 +140,7 @@ write-accepted nodes count x y n e =
 pub record TreeGot {M : Meter} (symbols : List Symbol) (nodes : List (Stored M)) (n : ℕ) (y : List (Stored M)) : Type 0 where
   pub tree : List (Record M)
   pub is_read : tree_read symbols ≡ some tree
+  pub room : length tree ≤ length nodes
   pub answer : n ≡ length tree
   pub written : tree_in n y ≡ tree
   pub clean : (k : ℕ) → k < n → get_or y k (stored blank_record) ≡ stored (get_or tree k blank_record)
@@ -156,6 +157,7 @@ read-accepted {M} symbols nodes y n e = let (t, is_read, room, answer, exit) = r
         rw (answer, exit) (record {
           tree = t;
           is_read = is_read;
+          room = room;
           answer = refl;
           written = tree-written t nodes (length t) (omega arith) ∙ take-length t;
           clean = entry-written t nodes;

@@ -7,10 +7,11 @@ use mathlib.Core.List.{List, [], ◌∷◌, map, map-map, Memᴰ}
 use mathlib.Core.Option.{none}
 use lib.ListN.{length, get_or, length-map, get_or-map, replicate, length-replicate, get_or-replicate}
 use lib.IntN.{ℤ}
-use lib.Dec.{T}
+use Rattle.model.specs.Lists.{range}
 use Rattle.model.specs.Meter.{Meter}
-use Rattle.model.specs.Tree.{Node, split, leaf, is_leaf, Info, Record, blank_record, nodes_of, reach, leaf_reached, fault_of}
+use Rattle.model.specs.Tree.{Node, split, leaf, Info, Record, blank_record, nodes_of, reach, leaf_reached, fault_of}
 use Rattle.model.specs.Prune.{place_of, renumbered}
+use Rattle.model.specs.Learn.{leaf_count}
 use Rattle.model.specs.Contexts.{no_context, contexts_from, contexts_of, breadth_order}
 use Rattle.model.specs.Symbols.{symbols_of, rowless_record, renumbered_record, renumbered_tree, breadth_tree}
 use Rattle.model.specs.Family.{Child}
@@ -18,9 +19,10 @@ use Rattle.model.proofs.Places.{get_d_any}
 use Rattle.model.proofs.Family.{child-forward}
 use Rattle.model.proofs.Preorder.{place_at}
 use Rattle.model.proofs.Sound.{Rooted, same_length, node_at, has_root, sound}
+use Rattle.model.proofs.Tally.{tree-count}
 use Rattle.model.proofs.Renumbered as R
 use Rattle.model.proofs.BreadthFirst.{begun, order-length, order-inside, order-visited, place-ahead}
-use Rattle.model.proofs.SymbolsRead.{read-back}
+use Rattle.model.proofs.SymbolsRead.{ReadBack, read-back}
 use Rattle.model.proofs.SymbolsWritten.{read-written}
 
 module _ {M : Meter} (rs : List (Record M)) (faultless : fault_of rs ≡ none) where
@@ -65,22 +67,21 @@ module _ {M : Meter} (rs : List (Record M)) (faultless : fault_of rs ≡ none) w
   long : length new ≡ length nodes
   long = ap length (sym new_is) ∙ same_length (breadth_tree rs) ∙ length-stays ∙ sym (same_length rs)
 
-  -- the record under the new number
-  pub moved : (i : ℕ) → i < length nodes → get_or (breadth_tree rs) (place_of i order) blank_record ≡ renumbered_record order (get_or rs i blank_record)
+  -- ---- the new numbers
+  pub place-inside : (i : ℕ) → i < length nodes → place_of i order < length nodes
+  place-inside i h = rw (order-length nodes tree root) at (place_at i order (in_order i h)).0
+
+  pub place-apart : (i k : ℕ) → i < length nodes → k < length nodes → place_of i order ≡ place_of k order → i ≡ k
+  place-apart i k h j = R.same_place nodes order closed i k (in_order i h) (in_order k j)
+
+  -- the record under the new number: a split's children have theirs, a leaf's predictor and offset stay
+  pub record-moved : (i : ℕ) → i < length nodes → (m : Node) → (get_or rs i blank_record).node ≡ m
+      → get_or (breadth_tree rs) (place_of i order) blank_record ≡ rowless_record (renumbered order m) (get_or rs i blank_record).info
   unfolding breadth_tree renumbered_tree
-  moved i h =
+  record-moved i h m e =
       let made : ℕ → Record M = λ (i : ℕ). renumbered_record order (get_or rs i blank_record) in
       let (low, there) = place_at i order (in_order i h) in
-      get_d_any (map made order) (place_of i order) blank_record (made 0) (rw (length-map order made) low) ∙ get_or-map made order (place_of i order) 0 ∙ ap made there
-
-  -- of a leaf: a leaf with the same predictor and offset
-  pub moved-leaf : (i : ℕ) → i < length nodes → T (is_leaf (get_or nodes i leaf))
-      → get_or (breadth_tree rs) (place_of i order) blank_record ≡ rowless_record leaf (get_or rs i blank_record).info
-  moved-leaf i h t = moved i h ∙ go (get_or rs i blank_record).node (rw (node_at rs i) at t)
-    where
-      go : (m : Node) → T (is_leaf m) → rowless_record (renumbered order m) (get_or rs i blank_record).info ≡ rowless_record leaf (get_or rs i blank_record).info
-      go leaf t = refl
-      go (split p v g l) t = absurd t
+      get_d_any (map made order) (place_of i order) blank_record (made 0) (rw (length-map order made) low) ∙ get_or-map made order (place_of i order) 0 ∙ ap made there ∙ rw e
 
   -- ---- a lookup ends at the same leaf, under its new number
   pub same-ends : (ps : List ℤ) → leaf_reached (nodes_of (breadth_tree rs)) ps ≡ place_of (leaf_reached nodes ps) order
@@ -104,6 +105,19 @@ module _ {M : Meter} (rs : List (Record M)) (faultless : fault_of rs ≡ none) w
           → R.Alike nodes order closed (contexts_from (length nodes) nodes (0 ∷ []) 0 old) (contexts_from (length nodes) new (place_of 0 order ∷ []) 0 fresh)
       all {old} {fresh} a = R.same-contexts nodes order closed (order-inside nodes tree root) (length nodes) (0 ∷ []) (λ k m. rw (Memᴰ.eq_of_singleton m) (in_order 0 root)) 0 old fresh a
 
-  -- and the renumbered tree is sound
+  -- ---- the renumbered tree is sound, and numbered breadth first
+  back : ReadBack (symbols_of rs) (breadth_tree rs)
+  back = read-back (symbols_of rs) (breadth_tree rs) (read-written rs faultless)
+
   pub renumbered-sound : fault_of (breadth_tree rs) ≡ none
-  renumbered-sound = (read-back (symbols_of rs) (breadth_tree rs) (read-written rs faultless)).is_sound
+  renumbered-sound = back.is_sound
+
+  pub renumbered-breadth : breadth_order (nodes_of (breadth_tree rs)) ≡ range 0 (length rs)
+  renumbered-breadth = rw (← length-stays) back.in_breadth
+
+  -- it has as many leaves
+  pub leaves-stay : leaf_count (nodes_of (breadth_tree rs)) ≡ leaf_count nodes
+  leaves-stay =
+      let old = tree-count nodes tree root in
+      let now = tree-count (nodes_of (breadth_tree rs)) (sound (breadth_tree rs) renumbered-sound).rooted (has_root (breadth_tree rs) renumbered-sound) in
+      omega (arith, same_length (breadth_tree rs), same_length rs, length-stays)

@@ -34,6 +34,7 @@ pub mod Accepting
 pub mod Family
 pub mod Kept
 pub mod SeedKept
+pub mod SymbolsKept
 pub mod SettledPlain
 pub mod SplitMap
 pub mod Bench
