@@ -63,6 +63,7 @@ pub mod SymbolsSame
 pub mod SymbolRuns
 pub mod OperationLaws
 pub mod StandardContexts
+pub mod StandardSymbols
 pub mod SeedSplits
 pub mod Mapped
 pub mod SplitMap

@@ -22,13 +22,13 @@ use Rattle.model.proofs.ContextNumbers.{Walk, waits, given, kept, visit_split, v
 use Rattle.model.proofs.StandardLookup.{sound_is_standard, lookup_is_standard}
 
 -- the nodes of a queue are these trees
-data AllShow (nodes : List Node) (leaf_at : ℕ → MaLeaf) : List ℕ → List MaTree → Type 0 where
-  none : AllShow nodes leaf_at [] []
+pub data AllShow (nodes : List Node) (leaf_at : ℕ → MaLeaf) : List ℕ → List MaTree → Type 0 where
+  no_more : AllShow nodes leaf_at [] []
   more : {i : ℕ} {t : MaTree} {queue : List ℕ} {ts : List MaTree} → Shows nodes leaf_at i t → AllShow nodes leaf_at queue ts → AllShow nodes leaf_at (i ∷ queue) (t ∷ ts)
 
-two-more : {nodes : List Node} {leaf_at : ℕ → MaLeaf} {g l : ℕ} {left right : MaTree} {queue : List ℕ} {ts : List MaTree}
+pub two-more : {nodes : List Node} {leaf_at : ℕ → MaLeaf} {g l : ℕ} {left right : MaTree} {queue : List ℕ} {ts : List MaTree}
     → AllShow nodes leaf_at queue ts → Shows nodes leaf_at g left → Shows nodes leaf_at l right → AllShow nodes leaf_at (queue ++ (g ∷ l ∷ [])) (ts ++ (left ∷ right ∷ []))
-two-more none a z = more a (more z none)
+two-more no_more a z = more a (more z no_more)
 two-more (more s ss) a z = more s (two-more ss a z)
 
 module _ (nodes : List Node) (rooted : Rooted nodes) (root : 0 < length nodes)
@@ -38,9 +38,9 @@ module _ (nodes : List Node) (rooted : Rooted nodes) (root : 0 < length nodes)
       → contexts_from fuel nodes queue next cs ≡ contexts_of nodes → AllShow nodes leaf_at queue ts
       → ((k : ℕ) → Memᴰ k done → get_or (contexts_of nodes) k 0 ≡ get_or cs k 0) × ReadFrom next ts
   unfolding contexts_from
-  read zero w n e none = (λ k m. rw (← e), at-end)
+  read zero w n e no_more = (λ k m. rw (← e), at-end)
   read zero {done} w n e (more s ss) = absurd (lt_irrefl (length done) (omega (arith, (waits nodes rooted root w).1)))
-  read (suc fuel) w n e none = (λ k m. rw (← e), at-end)
+  read (suc fuel) w n e no_more = (λ k m. rw (← e), at-end)
   read (suc fuel) {done} w n e (more {i} (shows-leaf here) ss) =
       let (stay, rest) = read fuel (visit_leaf nodes rooted root w here) (omega (arith, length-append done (i ∷ []))) (rw (here, contexts_from) at e) ss in (
         λ k m. stay k (Memᴰ.append_left (i ∷ []) m) ∙ kept nodes rooted root w k m,
@@ -52,7 +52,7 @@ module _ (nodes : List Node) (rooted : Rooted nodes) (root : 0 < length nodes)
 
   decoded : {t : MaTree} → Shows nodes leaf_at 0 t → IsDecoded t
   unfolding contexts_of
-  decoded s = (read (length nodes) (start nodes rooted root) (omega arith) refl (more s none)).1
+  decoded s = (read (length nodes) (start nodes rooted root) (omega arith) refl (more s no_more)).1
 
 -- what an accepted call writes is the decoder's
 pub contexts_are_standard : {M : Meter} (nodes : List (Stored M)) (count : ℕ) (x y : ContextLists) (leaves : ℕ)
