@@ -61,6 +61,7 @@ pub mod SymbolsRead
 pub mod SymbolsWritten
 pub mod SymbolsSame
 pub mod SymbolRuns
+pub mod Rowless
 pub mod OperationLaws
 pub mod StandardContexts
 pub mod StandardSymbols
