@@ -11,7 +11,6 @@ use lib.Dec.{eqb}
 use Rattle.std.specs.Prelude.{◌≢◌}
 use Rattle.std.proofs.lemmas.List.{take_more_set, map-append, nil_from_length}
 use Rattle.model.specs.Single.{singles}
-use Rattle.model.specs.Settings.{max_nodes}
 use Rattle.model.specs.Tree.{Record}
 use Rattle.model.specs.Symbols.{FirstNode, no_node, first_split, first_leaf, first_node, tree_read}
 use Rattle.model.specs.declared.Symbol.{Symbol}
@@ -42,8 +41,8 @@ module _ (symbols : List Symbol) (nodes : List MaNode) (k due : ℕ) (rest : Lis
     some_left : length w.done < n
     some_left = rw w.many h
 
-    pub readable : (first_node rest ≢ no_node) × (due ≤ max_nodes)
-    readable = (begins_node symbols w.done due rest w.read n count some_left, w.read.fits)
+    pub node_there : first_node rest ≢ no_node
+    node_there = begins_node symbols w.done due rest w.read n count some_left
 
     module _ (m : MaNode) (is : m ≡ node_read due (first_node rest)) where
       one_more : (due' : ℕ) (tail : List Symbol) → Read symbols (on symbols w.done due rest w.read) due' tail → Written symbols (set nodes k m) (k + 1) due' tail

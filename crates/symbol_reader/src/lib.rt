@@ -59,7 +59,8 @@ fn is_split(symbols: &[Symbol]) -> bool
 // The node that comes next, with the record of a seed's node without rows. A split's children are the nodes gt and
 // gt + 1. Since a node does come next, nothing but the 0 of a leaf is tested.
 fn read_node(symbols: &[Symbol], gt: NodeNumber) -> MaNode
-    requires { (first_node symbols.now ≢ no_node) × (gt.0 ≤ max_nodes) }
+    requires node { first_node symbols.now ≢ no_node }
+    requires number { gt.0 ≤ max_nodes }
     ensures { result ≡ node_read gt.0 (first_node symbols.now) }
 {
     let property = symbols[0].value;
