@@ -16,7 +16,7 @@ use Rattle.model.specs.Tree.{Record}
 use Rattle.model.specs.Symbols.{first_node, tree_read}
 use Rattle.model.specs.declared.Symbol.{Symbol}
 use Rattle.symbol_reader.specs.Nodes.{is_leaf, is_split, count_of}
-use Rattle.symbol_reader.proofs.Reading.{Read, read_nothing, on, longer, read_leaf, read_split, read_none, read_all, left_over}
+use Rattle.symbol_reader.proofs.Reading.{Read, read_nothing, one_on, longer, read_leaf, read_split, read_none, read_all, left_over}
 
 beyond : (n : ℕ) → leb n max_nodes ≡ false → max_nodes < n
 beyond n e = search arith
@@ -38,9 +38,9 @@ module _ (symbols : List Symbol) (count due : ℕ) (rest : List Symbol) (c : Cou
     less : length c.done < due
     less = rw c.many h
 
-    one_more : (due' : ℕ) (tail : List Symbol) → Read symbols (on symbols c.done due rest c.read) due' tail → Counted symbols (count + 1) due' tail
+    one_more : (due' : ℕ) (tail : List Symbol) → Read symbols (one_on symbols c.done due rest c.read) due' tail → Counted symbols (count + 1) due' tail
     one_more due' tail read = record {
-      done = on symbols c.done due rest c.read;
+      done = one_on symbols c.done due rest c.read;
       many = longer symbols c.done due rest c.read ∙ omega (arith, c.many);
       read = read;
     }

@@ -20,9 +20,13 @@ use Rattle.symbol_reader.specs.Nodes.{is_leaf, is_split, record_read, count_of}
 use Rattle.symbol_reader.proofs.First.{Begins, nothing, a_leaf, a_split, begins, split_leafless}
 
 -- ---- one node, or the end
--- the nodes that are read where so many may come, so many were read, and so many are due
+-- the nodes that are read where so many may come, so many were read and so many are due
 abbrev nodes : ℕ → ℕ → ℕ → List Symbol → Option (List (Record singles))
 nodes = nodes_read
+
+-- the node that comes next, where so many are due
+abbrev pub next_node : ℕ → List Symbol → Record singles
+next_node due rest = record_read due (first_node rest)
 
 module _ (most size left : ℕ) (xs : List Symbol) where
   no_node_first : first_node xs ≡ no_node → nodes (suc most) size (suc left) xs ≡ none
@@ -30,12 +34,12 @@ module _ (most size left : ℕ) (xs : List Symbol) where
   no_node_first e = rw e
 
   leaf_first : (pred : ℕ) (offset : ℤ) (rest : List Symbol) → first_node xs ≡ first_leaf pred offset rest
-      → nodes (suc most) size (suc left) xs ≡ with_first (record_read (size + left + 1) (first_node xs)) (nodes most (suc size) left rest)
+      → nodes (suc most) size (suc left) xs ≡ with_first (next_node (size + left + 1) xs) (nodes most (suc size) left rest)
   unfolding nodes_read
   leaf_first pred offset rest e = rw e
 
   split_first : (prop : ℕ) (val : ℤ) (rest : List Symbol) → first_node xs ≡ first_split prop val rest
-      → nodes (suc most) size (suc left) xs ≡ with_first (record_read (size + left + 1) (first_node xs)) (nodes most (suc size) (suc (suc left)) rest)
+      → nodes (suc most) size (suc left) xs ≡ with_first (next_node (size + left + 1) xs) (nodes most (suc size) (suc (suc left)) rest)
   unfolding nodes_read
   split_first prop val rest e = let two : size + left + 2 ≡ size + left + 1 + 1 = omega arith in rw (e, two)
 
@@ -62,7 +66,7 @@ too_many {M} (suc most) size (suc left) xs h =
     on (first_leaf pred offset rest) e more fewer = rw (e, fewer rest)
 
 -- ---- of 8,191 nodes
--- the nodes that come after so many, of those due
+-- the nodes after so many, where so many are due with those
 abbrev pub remaining : ℕ → ℕ → List Symbol → Option (List (Record singles))
 remaining read due rest = nodes (max_nodes - read) read (due - read) rest
 
@@ -74,25 +78,21 @@ module _ (n due : ℕ) (rest : List Symbol) (less : n < due) (fits : due ≤ max
   left = omega arith
 
   -- the number behind all that are due
-  child : n + (due - suc n) + 1 ≡ due
-  child = omega arith
-
-  -- the next node
-  abbrev pub next : Record singles
-  next = record_read due (first_node rest)
+  behind : n + (due - suc n) + 1 ≡ due
+  behind = omega arith
 
   remaining_none : first_node rest ≡ no_node → remaining n due rest ≡ none
   remaining_none e = rw (more, left) (no_node_first (max_nodes - suc n) n (due - suc n) rest e)
 
   remaining_leaf : (pred : ℕ) (offset : ℤ) (tail : List Symbol) → first_node rest ≡ first_leaf pred offset tail
-      → remaining n due rest ≡ with_first (record_read due (first_node rest)) (remaining (suc n) due tail)
-  remaining_leaf pred offset tail e = rw (more, left) (rw child at (leaf_first (max_nodes - suc n) n (due - suc n) rest pred offset tail e))
+      → remaining n due rest ≡ with_first (next_node due rest) (remaining (suc n) due tail)
+  remaining_leaf pred offset tail e = rw (more, left) (rw behind at (leaf_first (max_nodes - suc n) n (due - suc n) rest pred offset tail e))
 
   remaining_split : (prop : ℕ) (val : ℤ) (tail : List Symbol) → first_node rest ≡ first_split prop val tail
-      → remaining n due rest ≡ with_first (record_read due (first_node rest)) (remaining (suc n) (due + 2) tail)
+      → remaining n due rest ≡ with_first (next_node due rest) (remaining (suc n) (due + 2) tail)
   remaining_split prop val tail e =
       let two : suc (suc (due - suc n)) ≡ due + 2 - suc n = omega arith in
-      rw (more, left) (rw (child, two) at (split_first (max_nodes - suc n) n (due - suc n) rest prop val tail e))
+      rw (more, left) (rw (behind, two) at (split_first (max_nodes - suc n) n (due - suc n) rest prop val tail e))
 
   -- the split's children are too many
   remaining_too_many : (tail : List Symbol) → max_nodes < due + 2 → remaining (suc n) (due + 2) tail ≡ none
@@ -127,36 +127,36 @@ read_nothing symbols = record { few = omega arith; fits = omega arith; same = sy
 
 module _ (symbols : List Symbol) (done : List (Record singles)) (due : ℕ) (rest : List Symbol) (read : Read symbols done due rest) where
   -- the nodes read, with the next one
-  abbrev pub on : List (Record singles)
-  on = done ++ (record_read due (first_node rest) ∷ [])
+  abbrev pub one_on : List (Record singles)
+  one_on = done ++ (next_node due rest ∷ [])
 
-  pub longer : length on ≡ suc (length done)
-  longer = length-append done (record_read due (first_node rest) ∷ []) ∙ omega arith
+  pub longer : length one_on ≡ suc (length done)
+  longer = length-append done (next_node due rest ∷ []) ∙ omega arith
 
   module _ (less : length done < due) where
     -- a node more
     one_more : (due' : ℕ) (tail : List Symbol) → due ≤ due' → due' ≤ max_nodes
-        → remaining (length done) due rest ≡ with_first (record_read due (first_node rest)) (remaining (suc (length done)) due' tail)
-        → Read symbols on due' tail
+        → remaining (length done) due rest ≡ with_first (next_node due rest) (remaining (suc (length done)) due' tail)
+        → Read symbols one_on due' tail
     one_more due' tail up fits e = record {
       few = rw longer (omega arith);
       fits = fits;
       same = rw longer (read.same ∙ ap (prepended done) e ∙ prepended_first done _ _);
     }
 
-    pub read_leaf : is_leaf (first_node rest) ≡ true → Read symbols on due (drop 5 rest)
+    pub read_leaf : is_leaf (first_node rest) ≡ true → Read symbols one_on due (drop 5 rest)
     read_leaf t = go (first_node rest) (begins rest) refl t
       where
-        go : (f : FirstNode) → Begins rest f → first_node rest ≡ f → is_leaf f ≡ true → Read symbols on due (drop 5 rest)
+        go : (f : FirstNode) → Begins rest f → first_node rest ≡ f → is_leaf f ≡ true → Read symbols one_on due (drop 5 rest)
         go f nothing e t = absurd (cc)
         go f (a_leaf pred offset long) e t =
             one_more due (drop 5 rest) (omega arith) read.fits (remaining_leaf (length done) due rest less read.fits pred offset (drop 5 rest) e)
         go f (a_split prop val long) e t = absurd (cc)
 
-    pub read_split : is_split (first_node rest) ≡ true → due + 2 ≤ max_nodes → Read symbols on (due + 2) (drop 2 rest)
+    pub read_split : is_split (first_node rest) ≡ true → due + 2 ≤ max_nodes → Read symbols one_on (due + 2) (drop 2 rest)
     read_split t fits = go (first_node rest) (begins rest) refl t
       where
-        go : (f : FirstNode) → Begins rest f → first_node rest ≡ f → is_split f ≡ true → Read symbols on (due + 2) (drop 2 rest)
+        go : (f : FirstNode) → Begins rest f → first_node rest ≡ f → is_split f ≡ true → Read symbols one_on (due + 2) (drop 2 rest)
         go f nothing e t = absurd (cc)
         go f (a_leaf pred offset long) e t = absurd (cc)
         go f (a_split prop val long) e t =
@@ -171,7 +171,7 @@ module _ (symbols : List Symbol) (done : List (Record singles)) (due : ℕ) (res
         go (first_leaf pred offset tail) e leafless many = absurd (cc)
         go (first_split prop val tail) e leafless many =
             remaining_split (length done) due rest less read.fits prop val tail e
-            ∙ ap (with_first (record_read due (first_node rest))) (remaining_too_many (length done) due rest less read.fits tail (many refl))
+            ∙ ap (with_first (next_node due rest)) (remaining_too_many (length done) due rest less read.fits tail (many refl))
 
   -- as many nodes are read as are due
   module _ (all : length done ≡ due) where

@@ -17,7 +17,7 @@ use Rattle.model.specs.declared.Symbol.{Symbol}
 use Rattle.layout.specs.declared.MaNode.{MaNode}
 use Rattle.symbol_reader.specs.Nodes.{is_leaf, is_split, as_stored, node_read, count_of, records_read}
 use Rattle.symbol_reader.proofs.First.{leaf_long}
-use Rattle.symbol_reader.proofs.Reading.{Read, read_nothing, prepended, remaining, on, longer, read_leaf, read_split, due_more, begins_node, children_fit, else_leaf}
+use Rattle.symbol_reader.proofs.Reading.{Read, read_nothing, prepended, remaining, one_on, longer, read_leaf, read_split, due_more, begins_node, children_fit, else_leaf}
 
 -- so many nodes are written, so many are due with them, and `rest` is left
 pub record Written (symbols : List Symbol) (nodes : List MaNode) (k due : ℕ) (rest : List Symbol) : Type 0 where
@@ -45,11 +45,11 @@ module _ (symbols : List Symbol) (nodes : List MaNode) (k due : ℕ) (rest : Lis
     node_there = begins_node symbols w.done due rest w.read n count some_left
 
     module _ (m : MaNode) (is : m ≡ node_read due (first_node rest)) where
-      one_more : (due' : ℕ) (tail : List Symbol) → Read symbols (on symbols w.done due rest w.read) due' tail → Written symbols (set nodes k m) (k + 1) due' tail
+      one_more : (due' : ℕ) (tail : List Symbol) → Read symbols (one_on symbols w.done due rest w.read) due' tail → Written symbols (set nodes k m) (k + 1) due' tail
       one_more due' tail read =
           let inside : k < length nodes = rw long h in
           record {
-            done = on symbols w.done due rest w.read;
+            done = one_on symbols w.done due rest w.read;
             many = longer symbols w.done due rest w.read ∙ omega (arith, w.many);
             read = read;
             front = take_more_set nodes k m inside ∙ rw (w.front, is) (sym (map-append as_stored w.done _));
