@@ -1,5 +1,5 @@
 // A tree as the symbols by which ISO/IEC 18181-1 transmits it (document 02, c; the Rust's `emit_learned_tree`): the
-// refusals in their order, and each node's symbols along the breadth-first order, which is written into the lent queue.
+// refusals in their order, and each node's symbols along the breadth-first order, which is written into the queue.
 #![tactic(auto)]
 
 ghost use Rattle.std.specs.Prelude.{◌≡◌, ◌<◌, length, map};
