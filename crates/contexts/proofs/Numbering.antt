@@ -31,7 +31,7 @@ pub record Numbered (t : List MaNode) (order : List ℕ) (k next : ℕ) (context
   pub leaves : next + count_if (leaf_at (nodes_of (records_in t))) (drop k order) ≡ leaf_count (nodes_of (records_in t))
   pub same : contexts_of (nodes_of (records_in t)) ≡ numbered_along (nodes_of (records_in t)) (drop k order) next contexts
 
-module _ (t : List MaNode) (is : IsSound t) (order : List ℕ) (long : length order ≡ length t) where
+module _ (t : List MaNode) (is : IsSound t) (order : List ℕ) where
   abbrev nodes : List Node
   nodes = nodes_of (records_in t)
 

@@ -27,7 +27,7 @@ pub record Written (t : List MaNode) (order : List ℕ) (k at : ℕ) (symbols : 
   pub within : at ≤ length symbols
   pub same : take at symbols ++ symbols_along (records_in t) (drop k order) ≡ symbols_of (records_in t)
 
-module _ (t : List MaNode) (is : IsSound t) (order : List ℕ) (long : length order ≡ length t) where
+module _ (t : List MaNode) (is : IsSound t) (order : List ℕ) where
   abbrev rs : List (Record singles)
   rs = records_in t
 
@@ -67,7 +67,7 @@ module _ (t : List MaNode) (is : IsSound t) (order : List ℕ) (long : length or
         )
 
     pub puttable : Puttable symbols at (get_or t i no_record)
-    puttable = record { room = omega (arith, fits); prop_fits = λ k. (node_fits t is i next_inside k).0 }
+    puttable = record { room = omega (arith, fits); prop_fits = λ is-split. (node_fits t is i next_inside is-split).0 }
 
     pub written_on : (new : List Symbol) (end : ℕ) → Wrote symbols at own new end → Written t order (k + 1) end new
     written_on new end p =

@@ -5,27 +5,23 @@ use Rattle.contexts.proofs.Numbering.{numbered_first, next_inside, giveable, num
 use Rattle.contexts.proofs.number_leaves.Goals as goal
 
 pub loop-i-init : goal.loop-i-init
-loop-i-init c = let pre = c.requires in
-    numbered_first c.args.tree.now pre.sound c.breadth_order.new.order (c.breadth_order.auto.order ∙ pre.queue_there) c.fill.new.self c.breadth_order.ensures
-    (c.fill.ensures.after (λ y e. e) ∙ ap (λ (n : ℕ). replicate n no_context) pre.places)
+loop-i-init c =
+    numbered_first c.args.tree.now c.requires.sound c.breadth_order.new.order c.fill.new.self c.breadth_order.ensures
+    (c.fill.ensures.after (λ y e. e) ∙ ap (λ (n : ℕ). replicate n no_context) c.requires.places)
 
 pub bounds-tree-i : goal.bounds-tree-i
 bounds-tree-i c = let l = c.loop-i in
-    let pre = c.requires in
-    next_inside c.args.tree.now pre.sound c.breadth_order.new.order (c.breadth_order.auto.order ∙ pre.queue_there) l.i-index l.next.0 l.contexts l.invariant c.loop-i-test.true
+    next_inside c.args.tree.now c.requires.sound c.breadth_order.new.order l.i-index l.next.0 l.contexts l.invariant c.loop-i-test.true
 
 pub give_context-next-requires : goal.give_context-next-requires
 give_context-next-requires c = let l = c.loop-i in
-    let pre = c.requires in
-    giveable c.args.tree.now pre.sound c.breadth_order.new.order (c.breadth_order.auto.order ∙ pre.queue_there) l.i-index l.next.0 l.contexts l.invariant c.loop-i-test.true
+    giveable c.args.tree.now c.requires.sound c.breadth_order.new.order l.i-index l.next.0 l.contexts l.invariant c.loop-i-test.true
 
 pub loop-i-preserved : goal.loop-i-preserved
 loop-i-preserved c = let l = c.loop-i in
-    let pre = c.requires in
-    numbered_on c.args.tree.now pre.sound c.breadth_order.new.order (c.breadth_order.auto.order ∙ pre.queue_there) l.i-index l.next.0 l.contexts l.invariant c.loop-i-test.true _
+    numbered_on c.args.tree.now c.requires.sound c.breadth_order.new.order l.i-index l.next.0 l.contexts l.invariant c.loop-i-test.true _
     c.give_context-next.ensures
 
 pub returns : goal.returns
 returns c = let l = c.loop-i in
-    let pre = c.requires in
-    numbered_end c.args.tree.now pre.sound c.breadth_order.new.order (c.breadth_order.auto.order ∙ pre.queue_there) l.i-index l.next.0 l.contexts l.invariant (omega arith)
+    numbered_end c.args.tree.now c.requires.sound c.breadth_order.new.order l.i-index l.next.0 l.contexts l.invariant (omega arith)

@@ -1,29 +1,25 @@
 -- `symbol_writer::write_tree` meets its contract. Assumes nothing.
-use Rattle.std.proofs.Common.{◌∙◌, arith}
+use Rattle.std.proofs.Common.{arith}
 use Rattle.symbol_writer.proofs.Along.{written_first, next_inside, puttable, written_on, written_end}
 use Rattle.symbol_writer.proofs.write_tree.Goals as goal
 
 pub loop-i-init : goal.loop-i-init
-loop-i-init c = let pre = c.requires in
-    written_first c.args.tree.now pre.sound c.breadth_order.new.order (c.breadth_order.auto.order ∙ pre.order_there) c.args.symbols.now c.breadth_order.ensures pre.places
+loop-i-init c =
+    written_first c.args.tree.now c.requires.sound c.breadth_order.new.order c.args.symbols.now c.breadth_order.ensures c.requires.places
 
 pub bounds-tree-i : goal.bounds-tree-i
 bounds-tree-i c = let l = c.loop-i in
-    let pre = c.requires in
-    next_inside c.args.tree.now pre.sound c.breadth_order.new.order (c.breadth_order.auto.order ∙ pre.order_there) l.i-index l.at l.symbols l.invariant c.loop-i-test.true
+    next_inside c.args.tree.now c.requires.sound c.breadth_order.new.order l.i-index l.at l.symbols l.invariant c.loop-i-test.true
 
 pub put_node-at-requires : goal.put_node-at-requires
 put_node-at-requires c = let l = c.loop-i in
-    let pre = c.requires in
-    puttable c.args.tree.now pre.sound c.breadth_order.new.order (c.breadth_order.auto.order ∙ pre.order_there) l.i-index l.at l.symbols l.invariant c.loop-i-test.true
+    puttable c.args.tree.now c.requires.sound c.breadth_order.new.order l.i-index l.at l.symbols l.invariant c.loop-i-test.true
 
 pub loop-i-preserved : goal.loop-i-preserved
 loop-i-preserved c = let l = c.loop-i in
-    let pre = c.requires in
-    written_on c.args.tree.now pre.sound c.breadth_order.new.order (c.breadth_order.auto.order ∙ pre.order_there) l.i-index l.at l.symbols l.invariant c.loop-i-test.true _ _
+    written_on c.args.tree.now c.requires.sound c.breadth_order.new.order l.i-index l.at l.symbols l.invariant c.loop-i-test.true _ _
     c.put_node-at.ensures
 
 pub returns : goal.returns
 returns c = let l = c.loop-i in
-    let pre = c.requires in
-    written_end c.args.tree.now pre.sound c.breadth_order.new.order (c.breadth_order.auto.order ∙ pre.order_there) l.i-index l.at l.symbols l.invariant (omega arith)
+    written_end c.args.tree.now c.requires.sound c.breadth_order.new.order l.i-index l.at l.symbols l.invariant (omega arith)
