@@ -6,7 +6,7 @@ ghost use Rattle.std.specs.Prelude.{◌≡◌, ◌≤◌, true, false, length, m
 ghost use Rattle.model.specs.Tree.{fault_of};
 ghost use Rattle.model.specs.Lent.{tree_in};
 ghost use Rattle.layout.specs.Records.{stored_of};
-ghost use Rattle.tree.specs.Answers.{fault_named};
+ghost use Rattle.model.specs.Answered.{option_of};
 ghost use Rattle.refuse.specs.Given.{settings_of};
 ghost use Rattle.lent.specs.Answer.{tree_outcome};
 ghost use Rattle.lent.specs.Lent.{SameLent};
@@ -33,7 +33,7 @@ fn rooms_of(lists: &Lists) -> Rooms
 // The lowest of the first `count` nodes at fault; none where they are a sound tree.
 fn seed_fault(at: &Nodes, count: u32) -> Option<u32>
     requires { count ≤ length at.now.nodes.now }
-    ensures { fault_named result ≡ fault_of (tree_in count (map stored_of at.now.nodes.now)) }
+    ensures { option_of result ≡ fault_of (tree_in count (map stored_of at.now.nodes.now)) }
 {
     tree::fault_of(&at.nodes[..count as usize])
 }

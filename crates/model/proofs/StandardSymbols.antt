@@ -1,4 +1,5 @@
--- The symbols written are what the standard transmits of the tree: a decoder that reads them has the tree, whatever contexts its leaves are given. Assumes nothing.
+-- The symbols written are what the standard transmits of the tree: a decoder that reads them has the tree, whatever contexts its leaves are given. And symbols that are read are those of the
+-- tree that a decoder has of them. Assumes nothing.
 use mathlib.Core.Path.{◌≡◌, sym, ◌∙◌}
 use Prim.Native.Nat.{ℕ, zero, suc, ◌+◌, ◌<◌}
 use native.Mathlib.Omega.{arith}
@@ -11,12 +12,14 @@ use Rattle.model.specs.Tree.{Node, split, leaf, Record, blank_record, nodes_of, 
 use Rattle.model.specs.Contexts.{breadth_from, breadth_order}
 use Rattle.model.specs.Symbols.{symbols_along, symbols_of}
 use Rattle.model.specs.Lent.{Stored, tree_in}
-use Rattle.model.specs.Operations.{accepted, SymbolLists, write_symbols}
+use Rattle.model.specs.Operations.{accepted, SymbolLists, write_symbols, read_symbols}
+use Rattle.model.specs.declared.Symbol.{Symbol}
 use Rattle.model.specs.Decoder.{Shows, shows-leaf, shows-decision, leaf_in, IsTree}
 use Rattle.model.proofs.Sound.{Rooted, node_at, has_root, sound}
 use Rattle.model.proofs.Accepted.{write-passed}
 use Rattle.model.proofs.BreadthFirst.{Breadth, begun, few, visit}
-use Rattle.model.proofs.OperationLaws.{write-accepted}
+use Rattle.model.proofs.OperationLaws.{write-accepted, read-accepted}
+use Rattle.model.proofs.SymbolsRead.{read-back}
 use Rattle.model.proofs.StandardContexts.{AllShow, no_more, more, two-more}
 use Rattle.model.proofs.Packing.{unpack_packed}
 
@@ -61,3 +64,11 @@ pub symbols_are_standard : {M : Meter} (nodes : List (Stored M)) (count n : ℕ)
 symbols_are_standard nodes count n x y e contexts t s =
     let (_, faultless, _, _, _, _) = write-passed nodes count x y n e in
     rw (write-accepted nodes count x y n e).written (symbols-transmitted nodes count faultless contexts t s)
+
+-- and what an accepted call reads is what a decoder reads
+pub read_is_standard : {M : Meter} (symbols : List Symbol) (nodes z : List (Stored M)) (count : ℕ) → read_symbols symbols nodes ≡ record { outcome = accepted count; lent = z }
+    → (contexts : List ℕ) (t : MaTree) → IsTree z count contexts t → Transmits symbols (t ∷ [])
+read_is_standard symbols nodes z count e contexts t s =
+    let got = read-accepted symbols nodes z count e in
+    let back = read-back symbols got.tree got.is_read in
+    rw (got.written, back.same_symbols) at (symbols-transmitted z count (rw got.written back.is_sound) contexts t s)

@@ -28,7 +28,7 @@ use Rattle.model.proofs.NodeEntries.{length-tree, tree-written}
 use Rattle.model.proofs.Lookups.{FoundIn, lookup-accepted, looked_up}
 use Rattle.model.proofs.ContextNumbers.{contexts-number}
 use Rattle.model.proofs.SymbolsRead.{ReadBack, read-back}
-use Rattle.model.proofs.SymbolsWritten.{read-written}
+use Rattle.model.proofs.SymbolsWritten.{written-is-read}
 use Rattle.model.proofs.SymbolsSame.{root-first, length-stays, place-inside, place-apart, record-moved, same-ends, contexts-stay, renumbered-sound, renumbered-breadth, leaves-stay}
 use Rattle.model.proofs.OperationLaws.{write-accepted, TreeGot, read-accepted}
 
@@ -157,7 +157,7 @@ module _ {M : Meter} where
     written-read : (read_symbols (take k y.symbols) room ≡ record { outcome = accepted count; lent = read_list }) × ReadAgain count nodes read_list
     written-read =
         let m = length-map t stored in
-        let there = read-accepts (symbols_of (tree_in count nodes)) room t (read-written (tree_in count nodes) no_fault) (omega (arith, long)) in
+        let there = read-accepts (symbols_of (tree_in count nodes)) room t (written-is-read (tree_in count nodes) no_fault) (omega (arith, long)) in
         let front = tree-written t room count (omega (arith, long)) ∙ take_all count t (omega (arith, long)) in
         (rw (write-accepted nodes count x y k e).written (rw long at there), read-again count nodes inside_list no_fault read_list (omega (arith, long, length-written (map stored t) room)) front)
 

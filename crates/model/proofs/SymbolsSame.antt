@@ -23,7 +23,7 @@ use Rattle.model.proofs.Tally.{tree-count}
 use Rattle.model.proofs.Renumbered as R
 use Rattle.model.proofs.BreadthFirst.{begun, order-length, order-inside, order-visited, place-ahead}
 use Rattle.model.proofs.SymbolsRead.{ReadBack, read-back}
-use Rattle.model.proofs.SymbolsWritten.{read-written}
+use Rattle.model.proofs.SymbolsWritten.{written-is-read}
 
 module _ {M : Meter} (rs : List (Record M)) (faultless : fault_of rs ≡ none) where
   abbrev nodes : List Node
@@ -107,7 +107,7 @@ module _ {M : Meter} (rs : List (Record M)) (faultless : fault_of rs ≡ none) w
 
   -- ---- the renumbered tree is sound, and numbered breadth first
   back : ReadBack (symbols_of rs) (breadth_tree rs)
-  back = read-back (symbols_of rs) (breadth_tree rs) (read-written rs faultless)
+  back = read-back (symbols_of rs) (breadth_tree rs) (written-is-read rs faultless)
 
   pub renumbered-sound : fault_of (breadth_tree rs) ≡ none
   renumbered-sound = back.is_sound

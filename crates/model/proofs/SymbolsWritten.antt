@@ -73,16 +73,16 @@ module _ {M : Meter} where
     read-none (suc most) size = refl
 
     -- what waits is due
-    read-on : (fuel most : ℕ) (done queue : List ℕ) → Breadth nodes done queue → fuel + length done ≡ length nodes → fuel ≤ most
+    waiting-read : (fuel most : ℕ) (done queue : List ℕ) → Breadth nodes done queue → fuel + length done ≡ length nodes → fuel ≤ most
         → nodes_read most (length done) (length queue) (symbols_along rs (breadth_from fuel nodes queue)) ≡ some (map made (breadth_from fuel nodes queue))
     unfolding breadth_from symbols_along
-    read-on zero most done [] w e h = read-none most (length done)
-    read-on zero most done (i ∷ queue) w e h = absurd (omega (arith, few nodes tree root done (i ∷ queue) w))
-    read-on (suc fuel) most done [] w e h = read-none most (length done)
-    read-on (suc fuel) zero done (i ∷ queue) w e h = absurd (omega arith)
-    read-on (suc fuel) (suc most) done (i ∷ queue) w e h =
+    waiting-read zero most done [] w e h = read-none most (length done)
+    waiting-read zero most done (i ∷ queue) w e h = absurd (omega (arith, few nodes tree root done (i ∷ queue) w))
+    waiting-read (suc fuel) most done [] w e h = read-none most (length done)
+    waiting-read (suc fuel) zero done (i ∷ queue) w e h = absurd (omega arith)
+    waiting-read (suc fuel) (suc most) done (i ∷ queue) w e h =
         go (get_or rs i blank_record).node refl ((sound rs faultless).fits i low)
-        (subst Rest (node_at rs i) (read-on fuel most (done ++ (i ∷ [])) (queue ++ children_of (get_or nodes i leaf)) (visit nodes tree root done i queue w) (omega (arith, longer)) (omega arith)))
+        (subst Rest (node_at rs i) (waiting-read fuel most (done ++ (i ∷ [])) (queue ++ children_of (get_or nodes i leaf)) (visit nodes tree root done i queue w) (omega (arith, longer)) (omega arith)))
       where
         longer : length (done ++ (i ∷ [])) ≡ suc (length done)
         longer = omega (arith, length-append done (i ∷ []))
@@ -105,13 +105,13 @@ module _ {M : Meter} where
             let (a, b) = children-next done i queue w (node_at rs i ∙ q) in
             read-split order most (length done) (length queue) (get_or rs i blank_record) (symbols_along rs later) (map made later) q f a b (rw (longer, two) at rest)
 
-    pub read-written : tree_read (symbols_of rs) ≡ some (breadth_tree rs)
+    pub written-is-read : tree_read (symbols_of rs) ≡ some (breadth_tree rs)
     unfolding tree_read symbols_of breadth_tree renumbered_tree breadth_order
-    read-written = read-on (length nodes) max_nodes [] (0 ∷ []) (begun nodes) (omega arith) (omega (arith, (sound-count rs faultless).1, same_length rs))
+    written-is-read = waiting-read (length nodes) max_nodes [] (0 ∷ []) (begun nodes) (omega arith) (omega (arith, (sound-count rs faultless).1, same_length rs))
 
   -- so a tree that was read is its own renumbering
   pub read-again : (xs : List Symbol) (t : List (Record M)) → tree_read xs ≡ some t → breadth_tree t ≡ t
   read-again xs t e =
       let b = read-back xs t e in
-      let w : tree_read xs ≡ some (breadth_tree t) = rw b.same_symbols at (read-written t b.is_sound) in
+      let w : tree_read xs ≡ some (breadth_tree t) = rw b.same_symbols at (written-is-read t b.is_sound) in
       cc

@@ -1,5 +1,6 @@
 -- What the code's refusals and answers say in document 01's numbers and values ("Which number comes back"), and in those that document 02 adds. Assumes nothing.
-use Rattle.std.specs.Prelude.{Result, Ok, Err}
+use Rattle.std.specs.Prelude.{ℕ, Result, Ok, Err, Option as Maybe, Some, None}
+use Rattle.std.proofs.Math.Option.{Option, none, some}
 use Rattle.model.specs.Refuse.{Refusal}
 use Rattle.model.specs.Operations.{Outcome, refused, accepted}
 use Rattle.model.specs.declared.Refusal.{Refusal as Cause}
@@ -23,3 +24,8 @@ refusal_of BadSymbols = record { number = 11; place = 0 }
 abbrev pub outcome_of_result : {A : Type 0} → Result A Cause → Outcome A
 outcome_of_result (Ok answer) = accepted answer
 outcome_of_result (Err cause) = refused (refusal_of cause)
+
+-- a number, or none
+abbrev pub option_of : Maybe ℕ → Option ℕ
+option_of None = none
+option_of (Some n) = some n

@@ -94,7 +94,8 @@ abbrev pub leaf_symbols : ℕ → ℕ → ℕ → ℕ → List Symbol
 leaf_symbols predictor offset log bits =
     symbol property_context 0 ∷ symbol predictor_context predictor ∷ symbol offset_context offset ∷ symbol multiplier_log_context log ∷ symbol multiplier_bits_context bits ∷ []
 
--- What a decoder makes of symbols: the trees that wait in its queue, in the order of `ReadFrom`. A leaf's multiplier is 1, so log and bits are 0
+-- What a decoder makes of symbols that it accepts: the trees that wait in its queue, in the order of `ReadFrom`. (Which properties and predictors there are is not said here.) A leaf's multiplier
+-- is 1, so log and bits are 0
 pub data Transmits : List Symbol → List MaTree → Type 0 where
   all-read : Transmits [] []
   leaf-read : {offset : ℕ} {l : MaLeaf} {xs : List Symbol} {queue : List MaTree} → unpack_signed offset ≡ l.offset → Transmits xs queue

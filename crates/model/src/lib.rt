@@ -49,6 +49,12 @@ pub const MULTIPLIER_LOG_CONTEXT: u32 = 4;
 
 pub const MULTIPLIER_BITS_CONTEXT: u32 = 5;
 
+// A split is two symbols: its property + 1, and its value.
+pub const SPLIT_SYMBOLS: usize = 2;
+
+// A leaf is five: 0 in a property's place, its predictor, its offset, and the two that tell its multiplier.
+pub const LEAF_SYMBOLS: usize = 5;
+
 // A refusal: why a job is not done, with the row or the node that is named.
 #[derive(Clone, Copy, PartialEq, Eq, Debug)]
 pub enum Refusal {

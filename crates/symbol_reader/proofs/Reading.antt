@@ -10,12 +10,12 @@ use lib.IntN.{ℤ}
 use lib.Dec.{ltb}
 use borrow.Author.Tests.{ltb-true, ltb-false}
 use Rattle.std.specs.Prelude.{◌≢◌}
-use Rattle.model.specs.Meter.{Meter}
 use Rattle.model.specs.Single.{singles}
 use Rattle.model.specs.Settings.{max_nodes}
 use Rattle.model.specs.Tree.{Record}
 use Rattle.model.specs.Symbols.{FirstNode, no_node, first_split, first_leaf, first_node, with_first, at_end, nodes_read, tree_read}
 use Rattle.model.specs.declared.Symbol.{Symbol}
+use Rattle.model.proofs.SymbolsRead.{too-many}
 use Rattle.symbol_reader.specs.Nodes.{is_leaf, is_split, record_read, count_of}
 use Rattle.symbol_reader.proofs.First.{Begins, nothing, a_leaf, a_split, begins, split_leafless}
 
@@ -48,23 +48,6 @@ unfolding nodes_read
 no_more zero size xs = refl
 no_more (suc most) size xs = refl
 
--- more nodes are due than may come
-pub too_many : {M : Meter} (most size due : ℕ) (xs : List Symbol) → most < due → nodes_read {M = M} most size due xs ≡ none
-unfolding nodes_read
-too_many zero size zero xs h = absurd (omega arith)
-too_many zero size (suc left) xs h = refl
-too_many (suc most) size zero xs h = absurd (omega arith)
-too_many {M} (suc most) size (suc left) xs h =
-    on (first_node xs) refl (λ rest. too_many {M = M} most (suc size) (suc (suc left)) rest (omega arith)) (λ rest. too_many {M = M} most (suc size) left rest (omega arith))
-  where
-    on : (f : FirstNode) → first_node xs ≡ f
-        → ((rest : List Symbol) → nodes_read {M = M} most (suc size) (suc (suc left)) rest ≡ none)
-        → ((rest : List Symbol) → nodes_read {M = M} most (suc size) left rest ≡ none)
-        → nodes_read {M = M} (suc most) size (suc left) xs ≡ none
-    on no_node e more fewer = rw e
-    on (first_split prop val rest) e more fewer = rw (e, more rest)
-    on (first_leaf pred offset rest) e more fewer = rw (e, fewer rest)
-
 -- ---- of 8,191 nodes
 -- the nodes after so many, where so many are due with those
 abbrev pub remaining : ℕ → ℕ → List Symbol → Option (List (Record singles))
@@ -96,7 +79,7 @@ module _ (n due : ℕ) (rest : List Symbol) (less : n < due) (fits : due ≤ max
 
   -- the split's children are too many
   remaining_too_many : (tail : List Symbol) → max_nodes < due + 2 → remaining (suc n) (due + 2) tail ≡ none
-  remaining_too_many tail h = too_many (max_nodes - suc n) (suc n) (due + 2 - suc n) tail (omega arith)
+  remaining_too_many tail h = too-many (max_nodes - suc n) (suc n) (due + 2 - suc n) tail (omega arith)
 
 remaining_end : (n due : ℕ) (rest : List Symbol) → n ≡ due → remaining n due rest ≡ at_end 0 rest
 remaining_end n due rest e = let none_left : due - n ≡ 0 = omega arith in rw none_left (no_more (max_nodes - n) n rest)

@@ -1,6 +1,5 @@
 -- What the answers say (document 01, "Which number comes back"; document 02, c). Assumes nothing.
-use Rattle.std.specs.Prelude.{ℕ, List, map, Result, Option as Maybe, Some, None}
-use Rattle.std.proofs.Math.Option.{Option, none, some}
+use Rattle.std.specs.Prelude.{ℕ, List, map, Result}
 use Rattle.model.specs.Single.{singles}
 use Rattle.model.specs.Answered.{outcome_of_result}
 use Rattle.model.specs.Lent.{Stored}
@@ -8,11 +7,6 @@ use Rattle.model.specs.Operations.{After}
 use Rattle.model.specs.declared.Refusal.{Refusal}
 use Rattle.layout.specs.Records.{stored_of}
 use Rattle.layout.specs.declared.MaNode.{MaNode}
-
--- how many nodes a tree has; none where there is no tree
-abbrev pub count_named : Maybe ℕ → Option ℕ
-count_named None = none
-count_named (Some n) = some n
 
 -- the answer, and the node list at exit
 abbrev pub nodes_after : Result ℕ Refusal → List MaNode → After ℕ (List (Stored singles))

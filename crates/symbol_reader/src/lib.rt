@@ -6,20 +6,15 @@
 ghost use Rattle.std.specs.Prelude.{◌≡◌, ◌≢◌, ◌≤◌, length, map};
 ghost use Rattle.std.proofs.Math.Option.{some};
 ghost use Rattle.model.specs.Settings.{max_nodes};
-ghost use Rattle.model.specs.Symbols.{FirstNode, no_node, first_node, is_zero_in, tree_read};
+ghost use Rattle.model.specs.Symbols.{no_node, first_node, is_zero_in, tree_read};
 ghost use Rattle.model.specs.Operations.{read_symbols};
+ghost use Rattle.model.specs.Answered.{option_of};
 ghost use Rattle.layout.specs.Records.{stored_of};
 ghost use Rattle.symbol_reader.specs.Nodes.{is_leaf, is_split, node_read, count_of, records_read};
-ghost use Rattle.symbol_reader.specs.Answers.{count_named, nodes_after};
+ghost use Rattle.symbol_reader.specs.Answers.{nodes_after};
 
 use layout::{MaNode, NodeInfo, NodeNumber};
-use model::{Refusal, Symbol};
-
-// A leaf is 0 in a property's place, its predictor, its offset, and the two symbols that tell its multiplier.
-const LEAF_SYMBOLS: usize = 5;
-
-// A split is its property + 1, and its value.
-const SPLIT_SYMBOLS: usize = 2;
+use model::{LEAF_SYMBOLS, Refusal, SPLIT_SYMBOLS, Symbol};
 
 // Some symbols must be 0: that which a leaf has in a property's place, and both that tell a multiplier, which is 1.
 fn is_zero_in(symbol: &Symbol, context: u32) -> bool
@@ -85,7 +80,7 @@ fn read_node(symbols: &[Symbol], gt: NodeNumber) -> MaNode
 // How many nodes the tree has that the symbols are; none if they are no tree, or one of too many nodes. A split makes
 // two nodes more due, so it is none as soon as these are too many.
 fn count_nodes(symbols: &[Symbol]) -> Option<u32>
-    ensures { count_named result ≡ count_of (tree_read symbols.now) }
+    ensures { option_of result ≡ count_of (tree_read symbols.now) }
 {
     let mut rest = symbols;
     let mut due = 1;

@@ -14,12 +14,7 @@ ghost use Rattle.symbol_writer.specs.Writing.{Room, Wrote, node_symbols, Puttabl
 ghost use Rattle.symbol_writer.specs.Answers.{symbols_after};
 
 use layout::MaNode;
-use model::{Refusal, Symbol};
-
-// How many symbols a split has, and how many a leaf.
-const SPLIT_SYMBOLS: usize = 2;
-
-const LEAF_SYMBOLS: usize = 5;
+use model::{LEAF_SYMBOLS, Refusal, SPLIT_SYMBOLS, Symbol};
 
 fn symbol(context: u32, value: u32) -> Symbol
     ensures { result ≡ symbol context value }
@@ -74,7 +69,7 @@ fn put_node(out: &mut [Symbol], at: usize, node: &MaNode) -> usize
     put(out, at, &leaf_symbols(node))
 }
 
-// The symbols of a sound tree. The order is room for the nodes, breadth first.
+// The symbols of a sound tree. The order is room for the walk: what it holds afterwards is not said.
 fn write_tree(tree: &[MaNode], symbols: &mut [Symbol], order: &mut [u32])
     requires { Writable tree.now symbols.old order.old }
     ensures { symbols.new ≡ symbols_of (records_in tree.now) }

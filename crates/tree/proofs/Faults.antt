@@ -15,7 +15,7 @@ use Rattle.model.specs.Single.{singles}
 use Rattle.model.specs.Tree.{Record, blank_record, nodes_of, is_fine, fault_from, fault_of}
 use Rattle.layout.specs.Records.{node_is, no_record}
 use Rattle.layout.specs.declared.MaNode.{MaNode}
-use Rattle.tree.specs.Answers.{fault_named}
+use Rattle.model.specs.Answered.{option_of}
 use Rattle.tree.specs.Trees.{records_in, is_fine_in, Counted}
 use Rattle.tree.proofs.Entries.{records-length, nodes-length, nodes-each, record_at_lem}
 
@@ -63,7 +63,7 @@ module _ (t : List MaNode) where
   -- ---- the first misfit from node i on
   module _ (parents : List ℕ) (counted : Counted t parents) where
     abbrev misfit_from : ℕ → Option ℕ
-    misfit_from i = fault_named (position_from (is_misfit (length t)) i (enumerate_from i (zip (drop i t) (drop i parents))))
+    misfit_from i = option_of (position_from (is_misfit (length t)) i (enumerate_from i (zip (drop i t) (drop i parents))))
 
     misfit-step : (i : ℕ) → i < length t → misfit_from (suc i) ≡ fault_from (nodes_of rs) (suc i) (drop (suc i) rs) → misfit_from i ≡ fault_from (nodes_of rs) i (drop i rs)
     misfit-step i inside later = go (is_fine_in (length t) i (get_or parents i 0) (get_or t i no_record)) refl

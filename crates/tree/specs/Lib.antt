@@ -1,3 +1,2 @@
--- `Trees`: trees as lists of records. `Answers`: what the operations' answers say.
+-- `Trees`: trees as lists of records.
 pub mod Trees
-pub mod Answers

@@ -13,7 +13,7 @@ ghost use Rattle.model.specs.Refuse.{fault_in};
 ghost use Rattle.layout.specs.Records.{stored_of, node_is};
 ghost use Rattle.tree.specs.Trees.{records_in, is_fine_in, Routable, leaf_numbers, AllRoutable};
 ghost use Rattle.tree.specs.Trees.{AtMost, Counted, deeper, Deepens, Measurable};
-ghost use Rattle.tree.specs.Answers.{fault_named};
+ghost use Rattle.model.specs.Answered.{option_of};
 
 use layout::{MaNode, NodeNumber};
 
@@ -133,7 +133,7 @@ fn is_fine(node: &MaNode, i: usize, count: usize, parents: u16) -> bool
 
 fn lowest_fault(tree: &[MaNode], parents: &[u16]) -> Option<u32>
     requires { Counted tree.now parents.now }
-    ensures { fault_named result
+    ensures { option_of result
         ≡ fault_from (nodes_of (records_in tree.now)) 0 (records_in tree.now) }
 {
     let count = tree.len();
@@ -146,7 +146,7 @@ fn lowest_fault(tree: &[MaNode], parents: &[u16]) -> Option<u32>
 // in a local list: a fault is a refusal, after which every lent list reads as before, and the lists lent for contexts
 // may be too short, since an unsound tree is named before too little room.
 pub fn fault_of(tree: &[MaNode]) -> Option<u32>
-    ensures { fault_named result ≡ fault_of (records_in tree.now) }
+    ensures { option_of result ≡ fault_of (records_in tree.now) }
 {
     let count = tree.len();
     if (count == 0) | (layout::MAX_NODES < count) {
@@ -160,7 +160,7 @@ pub fn fault_of(tree: &[MaNode]) -> Option<u32>
 
 // The node to name of the tree of the first `count` nodes: as above, and 0 also where the list is shorter.
 pub fn fault_in(nodes: &[MaNode], count: usize) -> Option<u32>
-    ensures { fault_named result ≡ fault_in count (map stored_of nodes.now) }
+    ensures { option_of result ≡ fault_in count (map stored_of nodes.now) }
 {
     if nodes.len() < count {
         return Some(0);

@@ -4,7 +4,7 @@ use Rattle.std.specs.Prelude.{Err}
 use Rattle.model.specs.Operations.{accepted}
 use Rattle.model.specs.Answered.{outcome_of_result, refusal_of}
 use Rattle.lent.specs.Answer.{tree_outcome}
-use Rattle.tree.specs.Answers.{fault_named}
+use Rattle.model.specs.Answered.{option_of}
 use Rattle.answers.specs.Answers.{learned_in}
 use Rattle.border.specs.Lists.{records_in, lent_in}
 use Rattle.border.proofs.Checking.{lends-records, seed_there, deepenable, deepen-told, fault-told, deepen-done}
@@ -30,14 +30,14 @@ returns-in-Some-clause-worked c =
     let a = c.args in
     let x = records_in a.lists.now in
     let e = ap outcome_of_result (sym c.in_ok-check_deepen.was) ∙ c.check_deepen.ensures (lent_in x) (rw c.rooms_of-rooms.ensures (lends-records x)) in
-    fault-told a.job x x a.count e c.in-Some.node (sym c.seed_fault.ensures ∙ ap fault_named c.in-Some.is) refl refl
+    fault-told a.job x x a.count e c.in-Some.node (sym c.seed_fault.ensures ∙ ap option_of c.in-Some.is) refl refl
 
 pub deepen_ma_tree-tree-requires : goal.deepen_ma_tree-tree-requires
 deepen_ma_tree-tree-requires c =
     let a = c.args in
     let x = records_in a.lists.now in
     let e = ap outcome_of_result (sym c.in_ok-check_deepen.was) ∙ c.check_deepen.ensures (lent_in x) (rw c.rooms_of-rooms.ensures (lends-records x)) in
-    deepenable a.job x a.count e (sym c.seed_fault.ensures ∙ ap fault_named c.in_default.is)
+    deepenable a.job x a.count e (sym c.seed_fault.ensures ∙ ap option_of c.in_default.is)
 
 pub returns-clause-worked : goal.returns-clause-worked
 returns-clause-worked c =
@@ -46,5 +46,5 @@ returns-clause-worked c =
     let e = ap outcome_of_result (sym c.in_ok-check_deepen.was) ∙ c.check_deepen.ensures (lent_in x) (rw c.rooms_of-rooms.ensures (lends-records x)) in
     let made = c.deepen_ma_tree-tree in
     let y = records_in made.new.lists in
-    deepen-done a.job x y a.count e (sym c.seed_fault.ensures ∙ ap fault_named c.in_default.is) made.ensures.finished made.ensures.lists
+    deepen-done a.job x y a.count e (sym c.seed_fault.ensures ∙ ap option_of c.in_default.is) made.ensures.finished made.ensures.lists
     (ap (λ t. learned_in (accepted t)) c.answer.ensures)

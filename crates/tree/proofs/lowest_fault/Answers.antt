@@ -5,7 +5,7 @@ use Rattle.std.proofs.lemmas.Iterator.{YieldsList-from_slice, YieldsList-from_zi
 use Rattle.std.proofs.lemmas.Iterator.Consumers.{YieldsList-from_enumerate}
 use Rattle.std.proofs.lemmas.Iterator.Search.{position_from_yields_List}
 use Rattle.std.proofs.lemmas.Iterator.Adapters.{position_from-zero}
-use Rattle.tree.specs.Answers.{fault_named}
+use Rattle.model.specs.Answered.{option_of}
 use Rattle.tree.proofs.Faults.{is_misfit, first-misfit}
 use Rattle.tree.proofs.lowest_fault.Goals as goal
 use Rattle.tree.proofs.lowest_fault.Goals.{After-position}
@@ -21,8 +21,8 @@ place c =
 
 pub returns-in_err-fault : goal.returns-in_err-fault
 returns-in_err-fault c =
-    rw c.from_residual.ensures (ap fault_named (sym c.in_err-fault.was ∙ place (goal.at.returns-in_err-fault c).After-position)
+    rw c.from_residual.ensures (ap option_of (sym c.in_err-fault.was ∙ place (goal.at.returns-in_err-fault c).After-position)
     ∙ first-misfit c.args.tree.now c.args.parents.now c.requires)
 
 pub returns : goal.returns
-returns c = ap fault_named (sym c.in_ok-fault.was ∙ place (goal.at.returns c).After-position) ∙ first-misfit c.args.tree.now c.args.parents.now c.requires
+returns c = ap option_of (sym c.in_ok-fault.was ∙ place (goal.at.returns c).After-position) ∙ first-misfit c.args.tree.now c.args.parents.now c.requires
