@@ -947,1047 +947,1026 @@ job_133 = writing 3 ((node 1 11 4513 1 2 261868021 27 1136710000 ∷ node 0 28 2
 abbrev answer_133 : Answer
 answer_133 = symbols_are 7 0 0 ([]) ([])
 
--- symbols
+-- symbol-faults
 abbrev job_134 : Job
-job_134 = writing 1 ((node 0 0 0 0 0 0 13 268435456 ∷ []) ++ fill_nodes 663760839 1 7) (record { symbols = fill_pairs 663760839 0 5; queue = replicate 0 663760839 })
+job_134 = writing 5 ((node 1 11 4294967295 1 2 0 0 0 ∷ node 1 0 4294967291 0 4 0 0 0 ∷ node 0 0 0 0 0 0 3 0 ∷ node 0 0 0 0 0 0 4 0 ∷ node 0 0 0 0 0 0 13 0 ∷ []) ++ fill_nodes 4294967295 5 0) (record { symbols = fill_pairs 4294967295 0 18; queue = replicate 5 4294967295 })
 
 abbrev answer_134 : Answer
-answer_134 = symbols_are 7 0 0 (pair 663760839 663760840 ∷ pair 663760840 663760841 ∷ pair 663760841 663760842 ∷ pair 663760842 663760843 ∷ pair 663760843 663760844 ∷ []) ([])
+answer_134 = symbols_are 8 1 0 (pair 4294967295 0 ∷ pair 0 1 ∷ pair 1 2 ∷ pair 2 3 ∷ pair 3 4 ∷ pair 4 5 ∷ pair 5 6 ∷ pair 6 7 ∷ pair 7 8 ∷ pair 8 9 ∷ pair 9 10 ∷ pair 10 11 ∷ pair 11 12 ∷ pair 12 13 ∷ pair 13 14 ∷ pair 14 15 ∷ pair 15 16 ∷ pair 16 17 ∷ []) (replicate 5 (4294967295))
 
--- symbols
+-- symbol-faults
 abbrev job_135 : Job
-job_135 = writing 3 ((node 1 5 1 1 2 1751950000 7 987984817 ∷ node 0 95 201921750 874307855 1488372485 3285035512 2 16383 ∷ node 0 193 576703737 2861877302 1686979935 4042912029 4 36912 ∷ []) ++ fill_nodes 4294967295 3 7) (record { symbols = fill_pairs 4294967295 0 11; queue = replicate 2 4294967295 })
+job_135 = writing 3 ((node 1 22 10 4 2 0 0 0 ∷ node 0 0 0 0 0 0 9 1 ∷ node 0 0 0 0 0 0 11 0 ∷ []) ++ fill_nodes 1 3 0) (record { symbols = fill_pairs 1 0 0; queue = replicate 0 1 })
 
 abbrev answer_135 : Answer
-answer_135 = symbols_are 7 0 0 (pair 4294967295 0 ∷ pair 0 1 ∷ pair 1 2 ∷ pair 2 3 ∷ pair 3 4 ∷ pair 4 5 ∷ pair 5 6 ∷ pair 6 7 ∷ pair 7 8 ∷ pair 8 9 ∷ pair 9 10 ∷ []) (replicate 2 (4294967295))
+answer_135 = symbols_are 8 0 0 ([]) ([])
 
--- symbols
+-- symbol-faults
 abbrev job_136 : Job
-job_136 = writing 1 ((node 0 225 3841189694 1791251062 2891625739 454307865 11 710007 ∷ []) ++ fill_nodes 3326855741 1 7) (record { symbols = fill_pairs 3326855741 0 4; queue = replicate 1 3326855741 })
+job_136 = writing 7 ((node 1 9 4294967286 1 2 0 0 0 ∷ node 0 0 0 0 0 0 12 2147483647 ∷ node 1 17 4294967287 3 4 0 0 0 ∷ node 0 0 0 0 0 0 4 2147483648 ∷ node 1 7 4294967286 5 6 0 0 0 ∷ node 0 0 0 0 0 0 7 1 ∷ node 0 0 0 0 0 0 4 1 ∷ []) ++ fill_nodes 2198810281 7 0) (record { symbols = fill_pairs 2198810281 0 25; queue = replicate 7 2198810281 })
 
 abbrev answer_136 : Answer
-answer_136 = symbols_are 7 0 0 (pair 3326855741 3326855742 ∷ pair 3326855742 3326855743 ∷ pair 3326855743 3326855744 ∷ pair 3326855744 3326855745 ∷ []) (replicate 1 (3326855741))
+answer_136 = symbols_are 7 0 0 (pair 2198810281 2198810282 ∷ pair 2198810282 2198810283 ∷ pair 2198810283 2198810284 ∷ pair 2198810284 2198810285 ∷ pair 2198810285 2198810286 ∷ pair 2198810286 2198810287 ∷ pair 2198810287 2198810288 ∷ pair 2198810288 2198810289 ∷ pair 2198810289 2198810290 ∷ pair 2198810290 2198810291 ∷ pair 2198810291 2198810292 ∷ pair 2198810292 2198810293 ∷ pair 2198810293 2198810294 ∷ pair 2198810294 2198810295 ∷ pair 2198810295 2198810296 ∷ pair 2198810296 2198810297 ∷ pair 2198810297 2198810298 ∷ pair 2198810298 2198810299 ∷ pair 2198810299 2198810300 ∷ pair 2198810300 2198810301 ∷ pair 2198810301 2198810302 ∷ pair 2198810302 2198810303 ∷ pair 2198810303 2198810304 ∷ pair 2198810304 2198810305 ∷ pair 2198810305 2198810306 ∷ []) (replicate 7 (2198810281))
 
--- symbols
+-- symbol-faults
 abbrev job_137 : Job
-job_137 = writing 3 ((node 1 5 0 1 2 1483590308 29 3685325357 ∷ node 0 103 269443826 2850960384 2908915917 721277255 5 262143 ∷ node 0 240 2846241880 2000795757 4044681345 3935758434 8 2097152 ∷ []) ++ fill_nodes 1854668153 3 2) (record { symbols = fill_pairs 1854668153 0 12; queue = replicate 2 1854668153 })
+job_137 = writing 7 ((node 1 0 4294967293 1 2 0 0 0 ∷ node 0 0 0 0 0 0 4294967295 2147483648 ∷ node 1 21 4294967288 3 4 0 0 0 ∷ node 1 10 4294967291 5 6 0 0 0 ∷ node 0 0 0 0 0 0 0 2147483648 ∷ node 0 0 0 0 0 0 12 0 ∷ node 0 0 0 0 0 0 1 2147483647 ∷ []) ++ fill_nodes 0 7 0) (record { symbols = fill_pairs 0 0 35; queue = replicate 10 0 })
 
 abbrev answer_137 : Answer
-answer_137 = symbols_are 7 0 0 (pair 1854668153 1854668154 ∷ pair 1854668154 1854668155 ∷ pair 1854668155 1854668156 ∷ pair 1854668156 1854668157 ∷ pair 1854668157 1854668158 ∷ pair 1854668158 1854668159 ∷ pair 1854668159 1854668160 ∷ pair 1854668160 1854668161 ∷ pair 1854668161 1854668162 ∷ pair 1854668162 1854668163 ∷ pair 1854668163 1854668164 ∷ pair 1854668164 1854668165 ∷ []) (replicate 2 (1854668153))
+answer_137 = symbols_are 8 1 0 (pair 0 1 ∷ pair 1 2 ∷ pair 2 3 ∷ pair 3 4 ∷ pair 4 5 ∷ pair 5 6 ∷ pair 6 7 ∷ pair 7 8 ∷ pair 8 9 ∷ pair 9 10 ∷ pair 10 11 ∷ pair 11 12 ∷ pair 12 13 ∷ pair 13 14 ∷ pair 14 15 ∷ pair 15 16 ∷ pair 16 17 ∷ pair 17 18 ∷ pair 18 19 ∷ pair 19 20 ∷ pair 20 21 ∷ pair 21 22 ∷ pair 22 23 ∷ pair 23 24 ∷ pair 24 25 ∷ pair 25 26 ∷ pair 26 27 ∷ pair 27 28 ∷ pair 28 29 ∷ pair 29 30 ∷ pair 30 31 ∷ pair 31 32 ∷ pair 32 33 ∷ pair 33 34 ∷ pair 34 35 ∷ []) (replicate 10 (0))
 
--- symbols
+-- symbol-reads
 abbrev job_138 : Job
-job_138 = writing 1 ((node 0 138 1901338626 2706635933 237430774 374631612 0 180004537 ∷ []) ++ fill_nodes 4294967295 1 7) (record { symbols = fill_pairs 4294967295 0 14; queue = replicate 6 4294967295 })
+job_138 = parsing (pair 1 0 ∷ pair 2 8 ∷ pair 3 64096 ∷ pair 4 0 ∷ pair 5 0 ∷ []) (fill_nodes 2615228949 0 1)
 
 abbrev answer_138 : Answer
-answer_138 = symbols_are 0 0 5 (pair 1 0 ∷ pair 2 0 ∷ pair 3 360009074 ∷ pair 4 0 ∷ pair 5 0 ∷ pair 4 5 ∷ pair 5 6 ∷ pair 6 7 ∷ pair 7 8 ∷ pair 8 9 ∷ pair 9 10 ∷ pair 10 11 ∷ pair 11 12 ∷ pair 12 13 ∷ []) (replicate 6 (0))
+answer_138 = tree_is 0 0 1 (node 0 0 0 0 0 0 8 32048 ∷ [])
 
--- symbols
+-- symbol-reads
 abbrev job_139 : Job
-job_139 = writing 3 ((node 1 5 536870912 1 2 0 0 0 ∷ node 0 0 0 0 0 0 9 2147483646 ∷ node 0 0 0 0 0 0 8 131072 ∷ []) ++ fill_nodes 1472130309 3 0) (record { symbols = fill_pairs 1472130309 0 11; queue = replicate 3 1472130309 })
+job_139 = parsing (pair 1 23 ∷ pair 0 4294967292 ∷ pair 1 0 ∷ pair 2 10 ∷ pair 3 2147483647 ∷ pair 4 0 ∷ pair 5 0 ∷ pair 1 0 ∷ pair 2 6 ∷ pair 3 1 ∷ pair 4 0 ∷ pair 5 0 ∷ []) (fill_nodes 0 0 4)
 
 abbrev answer_139 : Answer
-answer_139 = symbols_are 7 0 0 (pair 1472130309 1472130310 ∷ pair 1472130310 1472130311 ∷ pair 1472130311 1472130312 ∷ pair 1472130312 1472130313 ∷ pair 1472130313 1472130314 ∷ pair 1472130314 1472130315 ∷ pair 1472130315 1472130316 ∷ pair 1472130316 1472130317 ∷ pair 1472130317 1472130318 ∷ pair 1472130318 1472130319 ∷ pair 1472130319 1472130320 ∷ []) (replicate 3 (1472130309))
+answer_139 = tree_is 0 0 3 (node 1 22 2147483646 1 2 2139095040 0 0 ∷ node 0 0 0 0 0 0 10 3221225472 ∷ node 0 0 0 0 0 0 6 4294967295 ∷ node 1 3 3 3 3 3 3 3 ∷ [])
 
--- symbol-faults
+-- symbol-reads
 abbrev job_140 : Job
-job_140 = writing 5 ((node 1 11 4294967295 1 2 0 0 0 ∷ node 1 0 4294967291 0 4 0 0 0 ∷ node 0 0 0 0 0 0 3 0 ∷ node 0 0 0 0 0 0 4 0 ∷ node 0 0 0 0 0 0 13 0 ∷ []) ++ fill_nodes 4294967295 5 0) (record { symbols = fill_pairs 4294967295 0 18; queue = replicate 5 4294967295 })
+job_140 = parsing (pair 1 19 ∷ pair 0 159044 ∷ pair 1 8 ∷ pair 0 3451218 ∷ pair 1 2 ∷ pair 0 970870686 ∷ pair 1 0 ∷ pair 2 4 ∷ pair 3 0 ∷ pair 4 0 ∷ pair 5 0 ∷ pair 1 0 ∷ pair 2 6 ∷ pair 3 0 ∷ pair 4 0 ∷ pair 5 0 ∷ pair 1 0 ∷ pair 2 0 ∷ pair 3 493 ∷ pair 4 0 ∷ pair 5 0 ∷ pair 1 0 ∷ pair 2 4 ∷ pair 3 0 ∷ pair 4 0 ∷ pair 5 0 ∷ []) (fill_nodes 474111303 0 8)
 
 abbrev answer_140 : Answer
-answer_140 = symbols_are 8 1 0 (pair 4294967295 0 ∷ pair 0 1 ∷ pair 1 2 ∷ pair 2 3 ∷ pair 3 4 ∷ pair 4 5 ∷ pair 5 6 ∷ pair 6 7 ∷ pair 7 8 ∷ pair 8 9 ∷ pair 9 10 ∷ pair 10 11 ∷ pair 11 12 ∷ pair 12 13 ∷ pair 13 14 ∷ pair 14 15 ∷ pair 15 16 ∷ pair 16 17 ∷ []) (replicate 5 (4294967295))
+answer_140 = tree_is 0 0 7 (node 1 18 79522 1 2 2139095040 0 0 ∷ node 1 7 1725609 3 4 2139095040 0 0 ∷ node 1 1 485435343 5 6 2139095040 0 0 ∷ node 0 0 0 0 0 0 4 0 ∷ node 0 0 0 0 0 0 6 0 ∷ node 0 0 0 0 0 0 0 4294967049 ∷ node 0 0 0 0 0 0 4 0 ∷ node 0 22 474111310 474111310 474111310 474111310 8 474111310 ∷ [])
 
--- symbol-faults
+-- symbol-reads
 abbrev job_141 : Job
-job_141 = writing 3 ((node 1 22 10 4 2 0 0 0 ∷ node 0 0 0 0 0 0 9 1 ∷ node 0 0 0 0 0 0 11 0 ∷ []) ++ fill_nodes 1 3 0) (record { symbols = fill_pairs 1 0 0; queue = replicate 0 1 })
+job_141 = parsing (pair 1 0 ∷ pair 2 13 ∷ pair 3 524288 ∷ pair 4 0 ∷ pair 5 0 ∷ []) (fill_nodes 2267441443 0 8)
 
 abbrev answer_141 : Answer
-answer_141 = symbols_are 8 0 0 ([]) ([])
+answer_141 = tree_is 0 0 1 (node 0 0 0 0 0 0 13 262144 ∷ node 0 20 2267441444 2267441444 2267441444 119957796 2 2267441444 ∷ node 1 21 2267441445 2267441445 2267441445 119957797 3 2267441445 ∷ node 0 22 2267441446 2267441446 2267441446 119957798 4 2267441446 ∷ node 1 23 2267441447 2267441447 2267441447 119957799 5 2267441447 ∷ node 0 0 2267441448 2267441448 2267441448 119957800 6 2267441448 ∷ node 1 1 2267441449 2267441449 2267441449 119957801 7 2267441449 ∷ node 0 2 2267441450 2267441450 2267441450 119957802 8 2267441450 ∷ [])
 
--- symbol-faults
+-- symbol-reads
 abbrev job_142 : Job
-job_142 = writing 7 ((node 1 9 4294967286 1 2 0 0 0 ∷ node 0 0 0 0 0 0 12 2147483647 ∷ node 1 17 4294967287 3 4 0 0 0 ∷ node 0 0 0 0 0 0 4 2147483648 ∷ node 1 7 4294967286 5 6 0 0 0 ∷ node 0 0 0 0 0 0 7 1 ∷ node 0 0 0 0 0 0 4 1 ∷ []) ++ fill_nodes 2198810281 7 0) (record { symbols = fill_pairs 2198810281 0 25; queue = replicate 7 2198810281 })
+job_142 = parsing (pair 1 14 ∷ pair 0 1024 ∷ pair 1 0 ∷ pair 2 5 ∷ pair 3 6 ∷ pair 4 0 ∷ pair 5 0 ∷ pair 1 0 ∷ pair 2 13 ∷ pair 3 4294967293 ∷ pair 4 0 ∷ pair 5 0 ∷ []) (fill_nodes 1050030673 0 2)
 
 abbrev answer_142 : Answer
-answer_142 = symbols_are 7 0 0 (pair 2198810281 2198810282 ∷ pair 2198810282 2198810283 ∷ pair 2198810283 2198810284 ∷ pair 2198810284 2198810285 ∷ pair 2198810285 2198810286 ∷ pair 2198810286 2198810287 ∷ pair 2198810287 2198810288 ∷ pair 2198810288 2198810289 ∷ pair 2198810289 2198810290 ∷ pair 2198810290 2198810291 ∷ pair 2198810291 2198810292 ∷ pair 2198810292 2198810293 ∷ pair 2198810293 2198810294 ∷ pair 2198810294 2198810295 ∷ pair 2198810295 2198810296 ∷ pair 2198810296 2198810297 ∷ pair 2198810297 2198810298 ∷ pair 2198810298 2198810299 ∷ pair 2198810299 2198810300 ∷ pair 2198810300 2198810301 ∷ pair 2198810301 2198810302 ∷ pair 2198810302 2198810303 ∷ pair 2198810303 2198810304 ∷ pair 2198810304 2198810305 ∷ pair 2198810305 2198810306 ∷ []) (replicate 7 (2198810281))
+answer_142 = tree_is 7 0 0 (node 1 1 1050030673 1050030673 1050030673 1050030673 13 1050030673 ∷ node 0 2 1050030674 1050030674 1050030674 1050030674 0 1050030674 ∷ [])
 
--- symbol-faults
+-- symbol-reads
 abbrev job_143 : Job
-job_143 = writing 7 ((node 1 0 4294967293 1 2 0 0 0 ∷ node 0 0 0 0 0 0 4294967295 2147483648 ∷ node 1 21 4294967288 3 4 0 0 0 ∷ node 1 10 4294967291 5 6 0 0 0 ∷ node 0 0 0 0 0 0 0 2147483648 ∷ node 0 0 0 0 0 0 12 0 ∷ node 0 0 0 0 0 0 1 2147483647 ∷ []) ++ fill_nodes 0 7 0) (record { symbols = fill_pairs 0 0 35; queue = replicate 10 0 })
+job_143 = parsing (pair 1 0 ∷ pair 2 2 ∷ pair 3 52 ∷ pair 4 0 ∷ pair 5 0 ∷ []) (fill_nodes 0 0 0)
 
 abbrev answer_143 : Answer
-answer_143 = symbols_are 8 1 0 (pair 0 1 ∷ pair 1 2 ∷ pair 2 3 ∷ pair 3 4 ∷ pair 4 5 ∷ pair 5 6 ∷ pair 6 7 ∷ pair 7 8 ∷ pair 8 9 ∷ pair 9 10 ∷ pair 10 11 ∷ pair 11 12 ∷ pair 12 13 ∷ pair 13 14 ∷ pair 14 15 ∷ pair 15 16 ∷ pair 16 17 ∷ pair 17 18 ∷ pair 18 19 ∷ pair 19 20 ∷ pair 20 21 ∷ pair 21 22 ∷ pair 22 23 ∷ pair 23 24 ∷ pair 24 25 ∷ pair 25 26 ∷ pair 26 27 ∷ pair 27 28 ∷ pair 28 29 ∷ pair 29 30 ∷ pair 30 31 ∷ pair 31 32 ∷ pair 32 33 ∷ pair 33 34 ∷ pair 34 35 ∷ []) (replicate 10 (0))
+answer_143 = tree_is 7 0 0 ([])
 
--- symbol-faults
+-- unreadable
 abbrev job_144 : Job
-job_144 = writing 7 ((node 1 17 10 1 2 0 0 0 ∷ node 0 0 0 0 0 0 3 4294967289 ∷ node 1 14 1 3 4 0 0 0 ∷ node 0 0 0 0 0 0 3 0 ∷ node 0 0 0 0 0 0 6 0 ∷ node 0 0 0 0 0 0 9 4294967289 ∷ node 0 0 0 0 0 0 3 0 ∷ []) ++ fill_nodes 4294967295 7 7) (record { symbols = fill_pairs 4294967295 0 29; queue = replicate 7 4294967295 })
+job_144 = parsing (pair 1 24 ∷ pair 0 1 ∷ pair 1 0 ∷ pair 2 13 ∷ pair 3 126 ∷ pair 4 0 ∷ pair 5 0 ∷ pair 1 0 ∷ pair 3 10 ∷ pair 3 2 ∷ pair 4 0 ∷ pair 5 0 ∷ []) (fill_nodes 0 0 3)
 
 abbrev answer_144 : Answer
-answer_144 = symbols_are 8 5 0 (pair 4294967295 0 ∷ pair 0 1 ∷ pair 1 2 ∷ pair 2 3 ∷ pair 3 4 ∷ pair 4 5 ∷ pair 5 6 ∷ pair 6 7 ∷ pair 7 8 ∷ pair 8 9 ∷ pair 9 10 ∷ pair 10 11 ∷ pair 11 12 ∷ pair 12 13 ∷ pair 13 14 ∷ pair 14 15 ∷ pair 15 16 ∷ pair 16 17 ∷ pair 17 18 ∷ pair 18 19 ∷ pair 19 20 ∷ pair 20 21 ∷ pair 21 22 ∷ pair 22 23 ∷ pair 23 24 ∷ pair 24 25 ∷ pair 25 26 ∷ pair 26 27 ∷ pair 27 28 ∷ []) (replicate 7 (4294967295))
+answer_144 = tree_is 11 0 0 (node 0 0 0 0 0 0 0 0 ∷ node 1 1 1 1 1 1 1 1 ∷ node 0 2 2 2 2 2 2 2 ∷ [])
 
--- symbol-faults
+-- unreadable
 abbrev job_145 : Job
-job_145 = writing 6 ((node 1 17 4294967293 2 1 0 0 0 ∷ node 0 0 0 0 0 0 1 0 ∷ node 1 6 5 4 3 0 0 0 ∷ node 0 0 0 0 0 0 11 0 ∷ node 1 12 4294967294 6 5 0 0 0 ∷ node 0 0 0 0 0 0 0 2147483648 ∷ []) ++ fill_nodes 2710352107 6 0) (record { symbols = fill_pairs 2710352107 0 30; queue = replicate 9 2710352107 })
+job_145 = parsing (pair 1 20 ∷ pair 0 4294967293 ∷ pair 1 0 ∷ pair 2 11 ∷ pair 3 4294967294 ∷ pair 4 0 ∷ pair 5 0 ∷ pair 1 0 ∷ pair 2 7 ∷ pair 3 68 ∷ pair 5 0 ∷ pair 5 0 ∷ []) (fill_nodes 1990897767 0 6)
 
 abbrev answer_145 : Answer
-answer_145 = symbols_are 8 4 0 (pair 2710352107 2710352108 ∷ pair 2710352108 2710352109 ∷ pair 2710352109 2710352110 ∷ pair 2710352110 2710352111 ∷ pair 2710352111 2710352112 ∷ pair 2710352112 2710352113 ∷ pair 2710352113 2710352114 ∷ pair 2710352114 2710352115 ∷ pair 2710352115 2710352116 ∷ pair 2710352116 2710352117 ∷ pair 2710352117 2710352118 ∷ pair 2710352118 2710352119 ∷ pair 2710352119 2710352120 ∷ pair 2710352120 2710352121 ∷ pair 2710352121 2710352122 ∷ pair 2710352122 2710352123 ∷ pair 2710352123 2710352124 ∷ pair 2710352124 2710352125 ∷ pair 2710352125 2710352126 ∷ pair 2710352126 2710352127 ∷ pair 2710352127 2710352128 ∷ pair 2710352128 2710352129 ∷ pair 2710352129 2710352130 ∷ pair 2710352130 2710352131 ∷ pair 2710352131 2710352132 ∷ pair 2710352132 2710352133 ∷ pair 2710352133 2710352134 ∷ pair 2710352134 2710352135 ∷ pair 2710352135 2710352136 ∷ pair 2710352136 2710352137 ∷ []) (replicate 9 (2710352107))
+answer_145 = tree_is 11 0 0 (node 1 15 1990897767 1990897767 1990897767 917155943 5 1990897767 ∷ node 0 16 1990897768 1990897768 1990897768 917155944 6 1990897768 ∷ node 1 17 1990897769 1990897769 1990897769 917155945 7 1990897769 ∷ node 0 18 1990897770 1990897770 1990897770 917155946 8 1990897770 ∷ node 1 19 1990897771 1990897771 1990897771 917155947 9 1990897771 ∷ node 0 20 1990897772 1990897772 1990897772 917155948 10 1990897772 ∷ [])
 
--- symbol-reads
+-- unreadable
 abbrev job_146 : Job
-job_146 = parsing (pair 1 0 ∷ pair 2 8 ∷ pair 3 64096 ∷ pair 4 0 ∷ pair 5 0 ∷ []) (fill_nodes 2615228949 0 1)
+job_146 = parsing (pair 1 20 ∷ pair 0 36 ∷ pair 1 0 ∷ pair 2 0 ∷ pair 3 336 ∷ pair 4 0 ∷ pair 5 0 ∷ pair 3 16 ∷ pair 0 0 ∷ pair 1 0 ∷ pair 2 0 ∷ pair 3 2147483646 ∷ pair 4 0 ∷ pair 5 0 ∷ pair 1 0 ∷ pair 2 11 ∷ pair 3 0 ∷ pair 4 0 ∷ pair 5 0 ∷ []) (fill_nodes 3663139041 0 0)
 
 abbrev answer_146 : Answer
-answer_146 = tree_is 0 0 1 (node 0 0 0 0 0 0 8 32048 ∷ [])
+answer_146 = tree_is 11 0 0 ([])
 
--- symbol-reads
+-- unreadable
 abbrev job_147 : Job
-job_147 = parsing (pair 1 23 ∷ pair 0 4294967292 ∷ pair 1 0 ∷ pair 2 10 ∷ pair 3 2147483647 ∷ pair 4 0 ∷ pair 5 0 ∷ pair 1 0 ∷ pair 2 6 ∷ pair 3 1 ∷ pair 4 0 ∷ pair 5 0 ∷ []) (fill_nodes 0 0 4)
+job_147 = parsing (pair 1 23 ∷ pair 0 4294967292 ∷ pair 1 13 ∷ pair 0 262142 ∷ pair 1 0 ∷ pair 2 2 ∷ pair 3 67108864 ∷ pair 4 0 ∷ pair 5 0 ∷ pair 4 0 ∷ pair 2 13 ∷ pair 3 12040722 ∷ pair 4 0 ∷ pair 5 0 ∷ pair 1 0 ∷ pair 2 6 ∷ pair 3 78 ∷ pair 4 0 ∷ pair 5 0 ∷ []) (fill_nodes 660985003 0 0)
 
 abbrev answer_147 : Answer
-answer_147 = tree_is 0 0 3 (node 1 22 2147483646 1 2 2139095040 0 0 ∷ node 0 0 0 0 0 0 10 3221225472 ∷ node 0 0 0 0 0 0 6 4294967295 ∷ node 1 3 3 3 3 3 3 3 ∷ [])
+answer_147 = tree_is 11 0 0 ([])
 
--- symbol-reads
+-- unreadable
 abbrev job_148 : Job
-job_148 = parsing (pair 1 19 ∷ pair 0 159044 ∷ pair 1 8 ∷ pair 0 3451218 ∷ pair 1 2 ∷ pair 0 970870686 ∷ pair 1 0 ∷ pair 2 4 ∷ pair 3 0 ∷ pair 4 0 ∷ pair 5 0 ∷ pair 1 0 ∷ pair 2 6 ∷ pair 3 0 ∷ pair 4 0 ∷ pair 5 0 ∷ pair 1 0 ∷ pair 2 0 ∷ pair 3 493 ∷ pair 4 0 ∷ pair 5 0 ∷ pair 1 0 ∷ pair 2 4 ∷ pair 3 0 ∷ pair 4 0 ∷ pair 5 0 ∷ []) (fill_nodes 474111303 0 8)
+job_148 = parsing (pair 1 4 ∷ pair 0 2147483646 ∷ pair 1 0 ∷ pair 2 2 ∷ pair 3 2 ∷ pair 4 0 ∷ pair 5 0 ∷ pair 1 7 ∷ pair 0 7916938 ∷ pair 1 0 ∷ pair 2 4 ∷ pair 3 354 ∷ pair 1 0 ∷ pair 5 0 ∷ pair 1 0 ∷ pair 2 11 ∷ pair 3 3954 ∷ pair 4 0 ∷ pair 5 0 ∷ []) (fill_nodes 0 0 0)
 
 abbrev answer_148 : Answer
-answer_148 = tree_is 0 0 7 (node 1 18 79522 1 2 2139095040 0 0 ∷ node 1 7 1725609 3 4 2139095040 0 0 ∷ node 1 1 485435343 5 6 2139095040 0 0 ∷ node 0 0 0 0 0 0 4 0 ∷ node 0 0 0 0 0 0 6 0 ∷ node 0 0 0 0 0 0 0 4294967049 ∷ node 0 0 0 0 0 0 4 0 ∷ node 0 22 474111310 474111310 474111310 474111310 8 474111310 ∷ [])
+answer_148 = tree_is 11 0 0 ([])
 
--- symbol-reads
+-- unreadable
 abbrev job_149 : Job
-job_149 = parsing (pair 1 0 ∷ pair 2 13 ∷ pair 3 524288 ∷ pair 4 0 ∷ pair 5 0 ∷ []) (fill_nodes 2267441443 0 8)
+job_149 = parsing (pair 1 21 ∷ pair 0 262142 ∷ pair 5 0 ∷ pair 2 4 ∷ pair 3 4294967292 ∷ pair 4 0 ∷ pair 5 0 ∷ pair 1 0 ∷ pair 2 2 ∷ pair 3 4294967292 ∷ pair 4 0 ∷ pair 5 0 ∷ []) (fill_nodes 3084907471 0 6)
 
 abbrev answer_149 : Answer
-answer_149 = tree_is 0 0 1 (node 0 0 0 0 0 0 13 262144 ∷ node 0 20 2267441444 2267441444 2267441444 119957796 2 2267441444 ∷ node 1 21 2267441445 2267441445 2267441445 119957797 3 2267441445 ∷ node 0 22 2267441446 2267441446 2267441446 119957798 4 2267441446 ∷ node 1 23 2267441447 2267441447 2267441447 119957799 5 2267441447 ∷ node 0 0 2267441448 2267441448 2267441448 119957800 6 2267441448 ∷ node 1 1 2267441449 2267441449 2267441449 119957801 7 2267441449 ∷ node 0 2 2267441450 2267441450 2267441450 119957802 8 2267441450 ∷ [])
+answer_149 = tree_is 11 0 0 (node 1 7 3084907471 3084907471 3084907471 937423823 9 3084907471 ∷ node 0 8 3084907472 3084907472 3084907472 937423824 10 3084907472 ∷ node 1 9 3084907473 3084907473 3084907473 937423825 11 3084907473 ∷ node 0 10 3084907474 3084907474 3084907474 937423826 12 3084907474 ∷ node 1 11 3084907475 3084907475 3084907475 937423827 13 3084907475 ∷ node 0 12 3084907476 3084907476 3084907476 937423828 0 3084907476 ∷ [])
 
--- symbol-reads
+-- at most 5, 31 or 33 candidates
 abbrev job_150 : Job
-job_150 = parsing (pair 1 14 ∷ pair 0 1024 ∷ pair 1 0 ∷ pair 2 5 ∷ pair 3 6 ∷ pair 4 0 ∷ pair 5 0 ∷ pair 1 0 ∷ pair 2 13 ∷ pair 3 4294967293 ∷ pair 4 0 ∷ pair 5 0 ∷ []) (fill_nodes 1050030673 0 2)
+job_150 = thresholds (4294967291 ∷ 4294967292 ∷ 4294967293 ∷ 4294967294 ∷ 4294967295 ∷ run 29 0 1 ([])) 4294967295
 
 abbrev answer_150 : Answer
-answer_150 = tree_is 7 0 0 (node 1 1 1050030673 1050030673 1050030673 1050030673 13 1050030673 ∷ node 0 2 1050030674 1050030674 1050030674 1050030674 0 1050030674 ∷ [])
+answer_150 = integers (words (4294967291 ∷ 4294967292 ∷ 4294967293 ∷ 4294967294 ∷ 4294967295 ∷ run 27 0 1 ([])))
 
--- symbol-reads
+-- stride 1 for 2,048 rows; probes from the second row
 abbrev job_151 : Job
-job_151 = parsing (pair 1 0 ∷ pair 2 2 ∷ pair 3 52 ∷ pair 4 0 ∷ pair 5 0 ∷ []) (fill_nodes 0 0 0)
+job_151 = thresholds (4294967291 ∷ 4294967292 ∷ 4294967293 ∷ 4294967294 ∷ 4294967295 ∷ run 2043 0 1 ([])) 5
 
 abbrev answer_151 : Answer
-answer_151 = tree_is 7 0 0 ([])
+answer_151 = integers (words (4294967291 ∷ 403 ∷ 811 ∷ 1222 ∷ 1630 ∷ []))
 
--- symbol-reads
+-- pruning by gt + (le + price)
 abbrev job_152 : Job
-job_152 = parsing (pair 1 9 ∷ pair 0 4294967293 ∷ pair 1 0 ∷ pair 2 9 ∷ pair 3 4294967292 ∷ pair 4 0 ∷ pair 5 0 ∷ pair 1 0 ∷ pair 2 7 ∷ pair 3 44 ∷ pair 4 0 ∷ pair 5 0 ∷ []) (fill_nodes 3055681349 0 3)
+job_152 = pruning 763363328 (node 1 3 7 1 2 775946240 0 0 ∷ node 1 4 7 3 4 2139095040 0 0 ∷ node 0 0 0 0 0 3355443200 1 0 ∷ node 0 0 0 0 0 1207959552 2 0 ∷ node 0 0 0 0 0 763363328 3 0 ∷ []) (span 845399837 845399838 ∷ span 845399838 845399839 ∷ span 845399839 845399840 ∷ span 845399840 845399841 ∷ span 845399841 845399842 ∷ [])
 
 abbrev answer_152 : Answer
-answer_152 = tree_is 0 0 3 (node 1 8 2147483649 1 2 2139095040 0 0 ∷ node 0 0 0 0 0 0 9 2147483646 ∷ node 0 0 0 0 0 0 7 22 ∷ [])
+answer_152 = pruned_to (f64 0) 5 (node 1 3 7 1 4 775946240 0 0 ∷ node 1 4 7 2 3 2139095040 0 0 ∷ node 0 0 0 0 0 1207959552 2 0 ∷ node 0 0 0 0 0 763363328 3 0 ∷ node 0 0 0 0 0 3355443200 1 0 ∷ []) (span 845399837 845399838 ∷ span 845399838 845399839 ∷ span 845399840 845399841 ∷ span 845399841 845399842 ∷ span 845399839 845399840 ∷ [])
 
--- symbol-reads
+-- sampling: 7 before 3
 abbrev job_153 : Job
-job_153 = parsing (pair 1 0 ∷ pair 2 12 ∷ pair 3 56606 ∷ pair 4 0 ∷ pair 5 0 ∷ []) (fill_nodes 730044399 0 2)
+job_153 = sampling 4294967299 3 (replicate 2 0)
 
 abbrev answer_153 : Answer
-answer_153 = tree_is 0 0 1 (node 0 0 0 0 0 0 12 28303 ∷ node 0 16 730044400 730044400 730044400 730044400 8 730044400 ∷ [])
+answer_153 = sample_is 3 0 0 (0 ∷ 0 ∷ [])
 
--- unreadable
+-- sampling: 65,536 rows refused
 abbrev job_154 : Job
-job_154 = parsing (pair 1 24 ∷ pair 0 1 ∷ pair 1 0 ∷ pair 2 13 ∷ pair 3 126 ∷ pair 4 0 ∷ pair 5 0 ∷ pair 1 0 ∷ pair 3 10 ∷ pair 3 2 ∷ pair 4 0 ∷ pair 5 0 ∷ []) (fill_nodes 0 0 3)
+job_154 = sampling 65536 1 (replicate 1 3366687519)
 
 abbrev answer_154 : Answer
-answer_154 = tree_is 11 0 0 (node 0 0 0 0 0 0 0 0 ∷ node 1 1 1 1 1 1 1 1 ∷ node 0 2 2 2 2 2 2 2 ∷ [])
+answer_154 = sample_is 0 0 1 (0 ∷ [])
 
--- unreadable
+-- lookup: 8 before 9
 abbrev job_155 : Job
-job_155 = parsing (pair 1 20 ∷ pair 0 4294967293 ∷ pair 1 0 ∷ pair 2 11 ∷ pair 3 4294967294 ∷ pair 4 0 ∷ pair 5 0 ∷ pair 1 0 ∷ pair 2 7 ∷ pair 3 68 ∷ pair 5 0 ∷ pair 5 0 ∷ []) (fill_nodes 1990897767 0 6)
+job_155 = looking 0 ((node 0 0 0 0 0 0 13 1 ∷ []) ++ fill_nodes 0 1 0) (4294967274 ∷ [])
 
 abbrev answer_155 : Answer
-answer_155 = tree_is 11 0 0 (node 1 15 1990897767 1990897767 1990897767 917155943 5 1990897767 ∷ node 0 16 1990897768 1990897768 1990897768 917155944 6 1990897768 ∷ node 1 17 1990897769 1990897769 1990897769 917155945 7 1990897769 ∷ node 0 18 1990897770 1990897770 1990897770 917155946 8 1990897770 ∷ node 1 19 1990897771 1990897771 1990897771 917155947 9 1990897771 ∷ node 0 20 1990897772 1990897772 1990897772 917155948 10 1990897772 ∷ [])
+answer_155 = no_leaf_at 9 0
 
--- unreadable
+-- lookup: a count beyond the list passes
 abbrev job_156 : Job
-job_156 = parsing (pair 1 20 ∷ pair 0 36 ∷ pair 1 0 ∷ pair 2 0 ∷ pair 3 336 ∷ pair 4 0 ∷ pair 5 0 ∷ pair 3 16 ∷ pair 0 0 ∷ pair 1 0 ∷ pair 2 0 ∷ pair 3 2147483646 ∷ pair 4 0 ∷ pair 5 0 ∷ pair 1 0 ∷ pair 2 11 ∷ pair 3 0 ∷ pair 4 0 ∷ pair 5 0 ∷ []) (fill_nodes 3663139041 0 0)
+job_156 = looking 4294967295 ((node 0 188 3650193776 4294967295 1001413669 2659779479 4 2147483648 ∷ []) ++ fill_nodes 0 1 0) (0 ∷ 44825 ∷ 3 ∷ 6 ∷ 4294962920 ∷ 3860 ∷ 4294967287 ∷ 1822723 ∷ 3 ∷ 4294951847 ∷ 0 ∷ 3 ∷ 136 ∷ 41 ∷ 111 ∷ 412 ∷ 0 ∷ 4294967295 ∷ 424 ∷ 4294966488 ∷ 1 ∷ 361 ∷ 3 ∷ 4294967150 ∷ [])
 
 abbrev answer_156 : Answer
-answer_156 = tree_is 11 0 0 ([])
+answer_156 = no_leaf_at 8 0
 
--- unreadable
+-- contexts: context list not counted
 abbrev job_157 : Job
-job_157 = parsing (pair 1 23 ∷ pair 0 4294967292 ∷ pair 1 13 ∷ pair 0 262142 ∷ pair 1 0 ∷ pair 2 2 ∷ pair 3 67108864 ∷ pair 4 0 ∷ pair 5 0 ∷ pair 4 0 ∷ pair 2 13 ∷ pair 3 12040722 ∷ pair 4 0 ∷ pair 5 0 ∷ pair 1 0 ∷ pair 2 6 ∷ pair 3 78 ∷ pair 4 0 ∷ pair 5 0 ∷ []) (fill_nodes 660985003 0 0)
+job_157 = numbering 1 ((node 0 0 0 0 0 0 8 4294967289 ∷ []) ++ fill_nodes 0 1 2) (record { contexts = replicate 0 0; queue = replicate 1 0 })
 
 abbrev answer_157 : Answer
-answer_157 = tree_is 11 0 0 ([])
+answer_157 = contexts_are 7 0 0 ([]) (replicate 1 (0))
 
--- unreadable
+-- gt the node itself passes
 abbrev job_158 : Job
-job_158 = parsing (pair 1 4 ∷ pair 0 2147483646 ∷ pair 1 0 ∷ pair 2 2 ∷ pair 3 2 ∷ pair 4 0 ∷ pair 5 0 ∷ pair 1 7 ∷ pair 0 7916938 ∷ pair 1 0 ∷ pair 2 4 ∷ pair 3 354 ∷ pair 1 0 ∷ pair 5 0 ∷ pair 1 0 ∷ pair 2 11 ∷ pair 3 3954 ∷ pair 4 0 ∷ pair 5 0 ∷ []) (fill_nodes 0 0 0)
+job_158 = numbering 3 ((node 1 16 3 0 1 0 0 0 ∷ node 0 0 0 0 0 0 12 0 ∷ node 0 0 0 0 0 0 7 0 ∷ []) ++ fill_nodes 202938515 3 0) (record { contexts = replicate 4 202938515; queue = replicate 10 202938515 })
 
 abbrev answer_158 : Answer
-answer_158 = tree_is 11 0 0 ([])
+answer_158 = contexts_are 8 0 0 (202938515 ∷ 202938515 ∷ 202938515 ∷ 202938515 ∷ []) (replicate 10 (202938515))
 
--- unreadable
+-- le the node itself passes
 abbrev job_159 : Job
-job_159 = parsing (pair 1 21 ∷ pair 0 262142 ∷ pair 5 0 ∷ pair 2 4 ∷ pair 3 4294967292 ∷ pair 4 0 ∷ pair 5 0 ∷ pair 1 0 ∷ pair 2 2 ∷ pair 3 4294967292 ∷ pair 4 0 ∷ pair 5 0 ∷ []) (fill_nodes 3084907471 0 6)
+job_159 = numbering 3 ((node 1 19 4294967287 2 0 0 0 0 ∷ node 0 0 0 0 0 0 13 0 ∷ node 0 0 0 0 0 0 13 2147483648 ∷ []) ++ fill_nodes 0 3 0) (record { contexts = replicate 5 0; queue = replicate 3 0 })
 
 abbrev answer_159 : Answer
-answer_159 = tree_is 11 0 0 (node 1 7 3084907471 3084907471 3084907471 937423823 9 3084907471 ∷ node 0 8 3084907472 3084907472 3084907472 937423824 10 3084907472 ∷ node 1 9 3084907473 3084907473 3084907473 937423825 11 3084907473 ∷ node 0 10 3084907474 3084907474 3084907474 937423826 12 3084907474 ∷ node 1 11 3084907475 3084907475 3084907475 937423827 13 3084907475 ∷ node 0 12 3084907476 3084907476 3084907476 937423828 0 3084907476 ∷ [])
+answer_159 = contexts_are 8 0 0 (0 ∷ 0 ∷ 0 ∷ 0 ∷ 0 ∷ []) (replicate 3 (0))
 
--- unreadable
+-- le the count passes
 abbrev job_160 : Job
-job_160 = parsing (pair 0 15 ∷ pair 0 254 ∷ pair 1 0 ∷ pair 2 12 ∷ pair 3 262142 ∷ pair 4 0 ∷ pair 5 0 ∷ pair 1 0 ∷ pair 2 0 ∷ pair 3 204 ∷ pair 4 0 ∷ pair 5 0 ∷ []) (fill_nodes 0 0 0)
+job_160 = numbering 2 ((node 1 13 1 1 2 0 0 0 ∷ node 0 0 0 0 0 0 3 1 ∷ []) ++ fill_nodes 0 2 0) (record { contexts = replicate 2 0; queue = replicate 2 0 })
 
 abbrev answer_160 : Answer
-answer_160 = tree_is 11 0 0 ([])
+answer_160 = contexts_are 8 0 0 (0 ∷ 0 ∷ []) (replicate 2 (0))
 
--- unreadable
+-- a node with two parents passes
 abbrev job_161 : Job
-job_161 = parsing (pair 1 1 ∷ pair 0 46 ∷ pair 1 0 ∷ pair 2 1 ∷ pair 2 6 ∷ pair 4 0 ∷ pair 5 0 ∷ pair 1 0 ∷ pair 2 7 ∷ pair 3 256301082 ∷ pair 4 0 ∷ pair 5 0 ∷ []) (fill_nodes 2023519361 0 6)
+job_161 = numbering 4 ((node 1 4 4294967294 1 2 0 0 0 ∷ node 0 0 0 0 0 0 2 2147483647 ∷ node 0 0 0 0 0 0 4294967295 0 ∷ node 1 0 0 1 2 0 0 0 ∷ []) ++ fill_nodes 1169858401 4 0) (record { contexts = replicate 4 1169858401; queue = replicate 4 1169858401 })
 
 abbrev answer_161 : Answer
-answer_161 = tree_is 11 0 0 (node 1 17 2023519361 2023519361 2023519361 949777537 3 2023519361 ∷ node 0 18 2023519362 2023519362 2023519362 949777538 4 2023519362 ∷ node 1 19 2023519363 2023519363 2023519363 949777539 5 2023519363 ∷ node 0 20 2023519364 2023519364 2023519364 949777540 6 2023519364 ∷ node 1 21 2023519365 2023519365 2023519365 949777541 7 2023519365 ∷ node 0 22 2023519366 2023519366 2023519366 949777542 8 2023519366 ∷ [])
+answer_161 = contexts_are 8 1 0 (1169858401 ∷ 1169858401 ∷ 1169858401 ∷ 1169858401 ∷ []) (replicate 4 (1169858401))
 
--- unreadable
+-- property 24 passes
 abbrev job_162 : Job
-job_162 = parsing (pair 1 7 ∷ pair 0 2 ∷ pair 1 0 ∷ pair 2 9 ∷ pair 3 8 ∷ pair 4 0 ∷ pair 261 0 ∷ pair 1 0 ∷ pair 2 2 ∷ pair 3 308 ∷ pair 4 0 ∷ pair 5 0 ∷ []) (fill_nodes 1369231951 0 3)
+job_162 = numbering 3 ((node 1 24 5 1 2 0 0 0 ∷ node 0 0 0 0 0 0 4294967295 2147483648 ∷ node 0 0 0 0 0 0 8 2147483648 ∷ []) ++ fill_nodes 1 3 2) (record { contexts = replicate 4 1; queue = replicate 3 1 })
 
 abbrev answer_162 : Answer
-answer_162 = tree_is 11 0 0 (node 1 7 1369231951 1369231951 1369231951 295490127 3 1369231951 ∷ node 0 8 1369231952 1369231952 1369231952 295490128 4 1369231952 ∷ node 1 9 1369231953 1369231953 1369231953 295490129 5 1369231953 ∷ [])
+answer_162 = contexts_are 8 0 0 (1 ∷ 1 ∷ 1 ∷ 1 ∷ []) (replicate 3 (1))
 
--- unreadable
+-- the rows above counted, or those under the threshold, or all, or one fewer
 abbrev job_163 : Job
-job_163 = parsing (pair 4294967295 16 ∷ pair 0 92779642 ∷ pair 1 0 ∷ pair 2 12 ∷ pair 3 6 ∷ pair 4 0 ∷ pair 5 0 ∷ pair 1 17 ∷ pair 0 1048576 ∷ pair 1 0 ∷ pair 2 8 ∷ pair 3 14 ∷ pair 4 0 ∷ pair 5 0 ∷ pair 1 0 ∷ pair 2 2 ∷ pair 3 290600 ∷ pair 4 0 ∷ pair 5 0 ∷ []) (fill_nodes 3617352911 0 0)
+job_163 = scoring 40 (0 ∷ 3221225472 ∷ 3221225472 ∷ 0 ∷ 0 ∷ 2147483646 ∷ 0 ∷ 2147483646 ∷ 2147483647 ∷ 2147483648 ∷ 4294967295 ∷ []) (22 ∷ 38 ∷ 17 ∷ 7 ∷ 37 ∷ 32 ∷ 37 ∷ 11 ∷ 6 ∷ 19 ∷ 12 ∷ 14 ∷ 32 ∷ 2 ∷ 39 ∷ 30 ∷ 17 ∷ 7 ∷ 39 ∷ 32 ∷ 38 ∷ 11 ∷ 6 ∷ 19 ∷ 25 ∷ 1 ∷ 32 ∷ 2 ∷ 39 ∷ 30 ∷ 17 ∷ 9 ∷ 39 ∷ 32 ∷ 18 ∷ 35 ∷ 6 ∷ 19 ∷ 12 ∷ 1 ∷ 38 ∷ 2 ∷ 39 ∷ 28 ∷ 17 ∷ 7 ∷ 39 ∷ 32 ∷ 38 ∷ 11 ∷ 6 ∷ 19 ∷ 12 ∷ 22 ∷ 32 ∷ 2 ∷ 13 ∷ 30 ∷ 34 ∷ 7 ∷ 34 ∷ 2 ∷ 38 ∷ 11 ∷ 6 ∷ 19 ∷ 12 ∷ 38 ∷ 32 ∷ 2 ∷ 39 ∷ 5 ∷ 17 ∷ 7 ∷ 22 ∷ 32 ∷ 38 ∷ 11 ∷ 6 ∷ 19 ∷ 12 ∷ 15 ∷ 32 ∷ 3 ∷ 39 ∷ 30 ∷ 17 ∷ 7 ∷ 39 ∷ 32 ∷ 38 ∷ 11 ∷ 13 ∷ 19 ∷ 12 ∷ 5 ∷ 32 ∷ 36 ∷ 39 ∷ 30 ∷ 15 ∷ 7 ∷ 39 ∷ 32 ∷ 17 ∷ 11 ∷ 6 ∷ 19 ∷ 12 ∷ 1 ∷ 32 ∷ 2 ∷ 39 ∷ 30 ∷ 17 ∷ 7 ∷ 36 ∷ 32 ∷ 19 ∷ 34 ∷ 6 ∷ 19 ∷ 12 ∷ 23 ∷ 17 ∷ 8 ∷ 7 ∷ 2 ∷ 17 ∷ 7 ∷ 39 ∷ 32 ∷ 38 ∷ 23 ∷ 21 ∷ 19 ∷ 12 ∷ 1 ∷ 32 ∷ 2 ∷ 39 ∷ 30 ∷ 17 ∷ 7 ∷ 25 ∷ 32 ∷ 38 ∷ 22 ∷ 6 ∷ 19 ∷ 12 ∷ 1 ∷ 32 ∷ 2 ∷ []) (12 ∷ 13 ∷ 11 ∷ 2 ∷ []) (2147483648 ∷ 3221225472 ∷ 4294967295 ∷ 0 ∷ 1073741823 ∷ 2147483646 ∷ 2147483647 ∷ []) (1120272384 ∷ 0 ∷ 1065353216 ∷ 1070260237 ∷ 1073741824 ∷ 1075092088 ∷ 1076195335 ∷ 1077128116 ∷ 1077936128 ∷ 1078648845 ∷ 1079286392 ∷ 1079863124 ∷ [])
 
 abbrev answer_163 : Answer
-answer_163 = tree_is 11 0 0 ([])
+answer_163 = best_at 0 1098961861 8
 
--- unreadable
+-- the last of the lowest thresholds; the rows counted of another threshold
 abbrev job_164 : Job
-job_164 = parsing (pair 1 5 ∷ pair 0 22 ∷ pair 1 11 ∷ pair 0 48 ∷ pair 1 0 ∷ pair 2 4 ∷ pair 3 20 ∷ pair 4 0 ∷ pair 5 0 ∷ pair 1 0 ∷ pair 2 7 ∷ pair 4294967295 448547680 ∷ pair 4 0 ∷ pair 5 0 ∷ pair 1 0 ∷ pair 2 5 ∷ pair 3 11212 ∷ pair 4 0 ∷ pair 5 0 ∷ []) (fill_nodes 2253621619 0 8)
+job_164 = scoring 16 (4294967293 ∷ 997 ∷ 1997 ∷ 2997 ∷ 3997 ∷ 4997 ∷ 5997 ∷ 6997 ∷ 7997 ∷ []) (run 14 0 0 (run 14 1 0 (run 14 2 0 (run 14 3 0 (run 14 4 0 (run 14 5 0 (run 14 6 0 (run 14 7 0 (run 14 8 0 ([])))))))))) (2 ∷ []) (4294967293 ∷ 997 ∷ 1997 ∷ 2997 ∷ 3997 ∷ 4997 ∷ 5997 ∷ 6997 ∷ 7997 ∷ []) (0 ∷ 0 ∷ 1065353216 ∷ 1073741824 ∷ 1073741824 ∷ 1073741824 ∷ 1077936128 ∷ 1077936128 ∷ 1077936128 ∷ 1077936128 ∷ [])
 
 abbrev answer_164 : Answer
-answer_164 = tree_is 11 0 0 (node 1 19 2253621619 2253621619 2253621619 106137971 11 2253621619 ∷ node 0 20 2253621620 2253621620 2253621620 106137972 12 2253621620 ∷ node 1 21 2253621621 2253621621 2253621621 106137973 13 2253621621 ∷ node 0 22 2253621622 2253621622 2253621622 106137974 0 2253621622 ∷ node 1 23 2253621623 2253621623 2253621623 106137975 1 2253621623 ∷ node 0 0 2253621624 2253621624 2253621624 106137976 2 2253621624 ∷ node 1 1 2253621625 2253621625 2253621625 106137977 3 2253621625 ∷ node 0 2 2253621626 2253621626 2253621626 106137978 4 2253621626 ∷ [])
+answer_164 = best_at 2997 1099956224 4
 
--- unreadable
+-- nodes in preorder, or as they are numbered; le first; contexts traded
 abbrev job_165 : Job
-job_165 = parsing (pair 1 11 ∷ pair 0 28 ∷ pair 1 0 ∷ pair 2 9 ∷ pair 3 0 ∷ pair 4294967295 0 ∷ pair 5 0 ∷ pair 1 0 ∷ pair 2 10 ∷ pair 3 56 ∷ pair 4 0 ∷ pair 5 0 ∷ []) (fill_nodes 1 0 3)
+job_165 = writing 5 ((node 1 0 1 1 3 593053311 25 1588463478 ∷ node 1 2 1 4 2 3425236260 10 3898105356 ∷ node 0 52 1929269282 1662691261 3961186824 2219807405 6 0 ∷ node 0 246 3088541353 1976155766 2674078526 3091314022 4 0 ∷ node 0 98 2184034256 3527707017 353847386 1642453398 1 0 ∷ []) ++ fill_nodes 1176453733 5 0) (record { symbols = fill_pairs 1176453733 0 19; queue = replicate 5 1176453733 })
 
 abbrev answer_165 : Answer
-answer_165 = tree_is 11 0 0 (node 1 1 1 1 1 1 1 1 ∷ node 0 2 2 2 2 2 2 2 ∷ node 1 3 3 3 3 3 3 3 ∷ [])
+answer_165 = symbols_are 0 0 19 (pair 1 1 ∷ pair 0 2 ∷ pair 1 3 ∷ pair 0 2 ∷ pair 1 0 ∷ pair 2 4 ∷ pair 3 0 ∷ pair 4 0 ∷ pair 5 0 ∷ pair 1 0 ∷ pair 2 1 ∷ pair 3 0 ∷ pair 4 0 ∷ pair 5 0 ∷ pair 1 0 ∷ pair 2 6 ∷ pair 3 0 ∷ pair 4 0 ∷ pair 5 0 ∷ []) (replicate 5 (0))
 
--- unreadable
+-- one pair too few
 abbrev job_166 : Job
-job_166 = parsing (pair 1 15 ∷ pair 0 844363094 ∷ pair 1 0 ∷ pair 2 13 ∷ pair 3 80606814 ∷ pair 4 0 ∷ pair 5 0 ∷ pair 1 0 ∷ pair 2 11 ∷ pair 3 1 ∷ pair 4 0 ∷ pair 4294967295 0 ∷ []) (fill_nodes 0 0 0)
+job_166 = writing 9 ((node 1 23 12662629 3 1 0 0 0 ∷ node 1 3 2147483649 5 2 0 0 0 ∷ node 0 0 0 0 0 0 7 3221225472 ∷ node 1 14 2147483647 6 4 0 0 0 ∷ node 0 0 0 0 0 0 11 2147483648 ∷ node 0 0 0 0 0 0 3 58014106 ∷ node 1 10 268435455 8 7 0 0 0 ∷ node 0 0 0 0 0 0 3 11 ∷ node 0 0 0 0 0 0 6 5 ∷ []) ++ fill_nodes 1 9 0) (record { symbols = fill_pairs 1 0 32; queue = replicate 9 1 })
 
 abbrev answer_166 : Answer
-answer_166 = tree_is 11 0 0 ([])
+answer_166 = symbols_are 7 0 0 (pair 1 2 ∷ pair 2 3 ∷ pair 3 4 ∷ pair 4 5 ∷ pair 5 6 ∷ pair 6 7 ∷ pair 7 8 ∷ pair 8 9 ∷ pair 9 10 ∷ pair 10 11 ∷ pair 11 12 ∷ pair 12 13 ∷ pair 13 14 ∷ pair 14 15 ∷ pair 15 16 ∷ pair 16 17 ∷ pair 17 18 ∷ pair 18 19 ∷ pair 19 20 ∷ pair 20 21 ∷ pair 21 22 ∷ pair 22 23 ∷ pair 23 24 ∷ pair 24 25 ∷ pair 25 26 ∷ pair 26 27 ∷ pair 27 28 ∷ pair 28 29 ∷ pair 29 30 ∷ pair 30 31 ∷ pair 31 32 ∷ pair 32 33 ∷ []) (replicate 9 (1))
 
--- unreadable
+-- a queue one short; property 23 refused
 abbrev job_167 : Job
-job_167 = parsing (pair 1 255 ∷ pair 0 515988 ∷ pair 1 0 ∷ pair 2 4 ∷ pair 3 16 ∷ pair 4 0 ∷ pair 5 0 ∷ pair 1 14 ∷ pair 0 72 ∷ pair 1 0 ∷ pair 2 7 ∷ pair 3 2147483647 ∷ pair 4 0 ∷ pair 5 0 ∷ pair 1 0 ∷ pair 2 0 ∷ pair 3 26 ∷ pair 4 0 ∷ pair 5 0 ∷ []) (fill_nodes 3170164223 0 0)
+job_167 = writing 9 ((node 1 6 4294967295 1 8 2780960807 7 2887201570 ∷ node 1 23 2962 2 7 4104037667 22 1983069369 ∷ node 1 5 757524540 3 6 1216561994 20 535600267 ∷ node 1 12 30326349 4 5 4132382195 28 2950268886 ∷ node 4294967295 199 1247216901 3784590443 997421505 1809858250 10 2147483649 ∷ node 256 213 2762522051 139129086 2449621020 2094787028 2 1048576 ∷ node 3 147 1069899848 706609505 1751472685 3992447894 11 29 ∷ node 2525361812 182 1697589213 2917253014 408054819 3769857758 7 1 ∷ node 828665776 103 3853689310 2641881004 714328598 4121229683 6 4294967295 ∷ []) ++ fill_nodes 0 9 0) (record { symbols = fill_pairs 0 0 33; queue = replicate 8 0 })
 
 abbrev answer_167 : Answer
-answer_167 = tree_is 11 0 0 ([])
+answer_167 = symbols_are 7 0 0 (pair 0 1 ∷ pair 1 2 ∷ pair 2 3 ∷ pair 3 4 ∷ pair 4 5 ∷ pair 5 6 ∷ pair 6 7 ∷ pair 7 8 ∷ pair 8 9 ∷ pair 9 10 ∷ pair 10 11 ∷ pair 11 12 ∷ pair 12 13 ∷ pair 13 14 ∷ pair 14 15 ∷ pair 15 16 ∷ pair 16 17 ∷ pair 17 18 ∷ pair 18 19 ∷ pair 19 20 ∷ pair 20 21 ∷ pair 21 22 ∷ pair 22 23 ∷ pair 23 24 ∷ pair 24 25 ∷ pair 25 26 ∷ pair 26 27 ∷ pair 27 28 ∷ pair 28 29 ∷ pair 29 30 ∷ pair 30 31 ∷ pair 31 32 ∷ pair 32 33 ∷ []) (replicate 8 (0))
 
--- unreadable
+-- entries past those written changed; a queue cleared in part
 abbrev job_168 : Job
-job_168 = parsing (pair 1 16 ∷ pair 0 355190 ∷ pair 1 0 ∷ pair 0 2 ∷ pair 1 0 ∷ pair 2 5 ∷ pair 3 8192 ∷ pair 4 0 ∷ pair 5 0 ∷ pair 1 0 ∷ pair 2 6 ∷ pair 3 2147483647 ∷ pair 4 0 ∷ pair 5 0 ∷ pair 1 0 ∷ pair 2 5 ∷ pair 3 65534 ∷ pair 4 0 ∷ pair 5 0 ∷ []) (fill_nodes 1584366309 0 8)
+job_168 = writing 9 ((node 1 11 27 1 6 3105586173 8 2652518788 ∷ node 1 16 105 2 5 1466500014 29 3534752936 ∷ node 1 7 257479465 3 4 2443868673 22 3759831507 ∷ node 0 96 711837037 16442491 3713922946 802213491 6 1073741823 ∷ node 0 170 4160668134 1550111472 3510470784 3755231177 5 16384 ∷ node 0 143 3098001833 1277257183 2809601522 1187089905 3 2147483649 ∷ node 1 20 17 7 8 3063640616 1 3140653093 ∷ node 0 240 2174702779 2090700062 2092377910 3828561482 1 2147483647 ∷ node 0 191 2236995169 4171223335 3082595983 3199110532 5 2147483648 ∷ []) ++ fill_nodes 504485353 9 7) (record { symbols = fill_pairs 504485353 0 42; queue = replicate 14 504485353 })
 
 abbrev answer_168 : Answer
-answer_168 = tree_is 11 0 0 (node 1 21 1584366309 1584366309 1584366309 510624485 1 1584366309 ∷ node 0 22 1584366310 1584366310 1584366310 510624486 2 1584366310 ∷ node 1 23 1584366311 1584366311 1584366311 510624487 3 1584366311 ∷ node 0 0 1584366312 1584366312 1584366312 510624488 4 1584366312 ∷ node 1 1 1584366313 1584366313 1584366313 510624489 5 1584366313 ∷ node 0 2 1584366314 1584366314 1584366314 510624490 6 1584366314 ∷ node 1 3 1584366315 1584366315 1584366315 510624491 7 1584366315 ∷ node 0 4 1584366316 1584366316 1584366316 510624492 8 1584366316 ∷ [])
+answer_168 = symbols_are 0 0 33 (pair 1 12 ∷ pair 0 54 ∷ pair 1 17 ∷ pair 0 210 ∷ pair 1 21 ∷ pair 0 34 ∷ pair 1 8 ∷ pair 0 514958930 ∷ pair 1 0 ∷ pair 2 3 ∷ pair 3 4294967293 ∷ pair 4 0 ∷ pair 5 0 ∷ pair 1 0 ∷ pair 2 1 ∷ pair 3 4294967294 ∷ pair 4 0 ∷ pair 5 0 ∷ pair 1 0 ∷ pair 2 5 ∷ pair 3 4294967295 ∷ pair 4 0 ∷ pair 5 0 ∷ pair 1 0 ∷ pair 2 6 ∷ pair 3 2147483646 ∷ pair 4 0 ∷ pair 5 0 ∷ pair 1 0 ∷ pair 2 5 ∷ pair 3 32768 ∷ pair 4 0 ∷ pair 5 0 ∷ pair 504485386 504485387 ∷ pair 504485387 504485388 ∷ pair 504485388 504485389 ∷ pair 504485389 504485390 ∷ pair 504485390 504485391 ∷ pair 504485391 504485392 ∷ pair 504485392 504485393 ∷ pair 504485393 504485394 ∷ pair 504485394 504485395 ∷ []) (replicate 14 (0))
 
--- unreadable
+-- 7 before 8
 abbrev job_169 : Job
-job_169 = parsing (pair 1 8 ∷ pair 0 6976 ∷ pair 1 0 ∷ pair 2 4 ∷ pair 3 16 ∷ pair 4 0 ∷ pair 5 0 ∷ pair 1 0 ∷ pair 2 1 ∷ pair 3 2147483647 ∷ pair 4 0 ∷ pair 5 256 ∷ []) (fill_nodes 2513846429 0 3)
+job_169 = writing 3 ((node 1 255 10 2 1 0 0 0 ∷ node 0 0 0 0 0 0 5 2147483647 ∷ node 0 0 0 0 0 0 2 0 ∷ []) ++ fill_nodes 1 3 0) (record { symbols = fill_pairs 1 0 0; queue = replicate 0 1 })
 
 abbrev answer_169 : Answer
-answer_169 = tree_is 11 0 0 (node 1 5 2513846429 2513846429 2513846429 366362781 3 2513846429 ∷ node 0 6 2513846430 2513846430 2513846430 366362782 4 2513846430 ∷ node 1 7 2513846431 2513846431 2513846431 366362783 5 2513846431 ∷ [])
+answer_169 = symbols_are 8 0 0 ([]) ([])
 
--- unreadable
+-- a count beyond the list passes
 abbrev job_170 : Job
-job_170 = parsing ([]) (fill_nodes 3956506439 0 18)
+job_170 = writing 4 ((node 1 3 4294967290 1 2 0 0 0 ∷ node 0 0 0 0 0 0 0 0 ∷ node 0 0 0 0 0 0 2 2147483647 ∷ []) ++ fill_nodes 1404070041 3 0) (record { symbols = fill_pairs 1404070041 0 11; queue = replicate 3 1404070041 })
 
 abbrev answer_170 : Answer
-answer_170 = tree_is 11 0 0 (node 1 23 3956506439 3956506439 3956506439 735280967 11 3956506439 ∷ node 0 0 3956506440 3956506440 3956506440 735280968 12 3956506440 ∷ node 1 1 3956506441 3956506441 3956506441 735280969 13 3956506441 ∷ node 0 2 3956506442 3956506442 3956506442 735280970 0 3956506442 ∷ node 1 3 3956506443 3956506443 3956506443 735280971 1 3956506443 ∷ node 0 4 3956506444 3956506444 3956506444 735280972 2 3956506444 ∷ node 1 5 3956506445 3956506445 3956506445 735280973 3 3956506445 ∷ node 0 6 3956506446 3956506446 3956506446 735280974 4 3956506446 ∷ node 1 7 3956506447 3956506447 3956506447 735280975 5 3956506447 ∷ node 0 8 3956506448 3956506448 3956506448 735280976 6 3956506448 ∷ node 1 9 3956506449 3956506449 3956506449 735280977 7 3956506449 ∷ node 0 10 3956506450 3956506450 3956506450 735280978 8 3956506450 ∷ node 1 11 3956506451 3956506451 3956506451 735280979 9 3956506451 ∷ node 0 12 3956506452 3956506452 3956506452 735280980 10 3956506452 ∷ node 1 13 3956506453 3956506453 3956506453 735280981 11 3956506453 ∷ node 0 14 3956506454 3956506454 3956506454 735280982 12 3956506454 ∷ node 1 15 3956506455 3956506455 3956506455 735280983 13 3956506455 ∷ node 0 16 3956506456 3956506456 3956506456 735280984 0 3956506456 ∷ [])
+answer_170 = symbols_are 8 0 0 (pair 1404070041 1404070042 ∷ pair 1404070042 1404070043 ∷ pair 1404070043 1404070044 ∷ pair 1404070044 1404070045 ∷ pair 1404070045 1404070046 ∷ pair 1404070046 1404070047 ∷ pair 1404070047 1404070048 ∷ pair 1404070048 1404070049 ∷ pair 1404070049 1404070050 ∷ pair 1404070050 1404070051 ∷ pair 1404070051 1404070052 ∷ []) (replicate 3 (1404070041))
 
--- unreadable
+-- children numbered otherwise; a split's cost 0; one node more asked for
 abbrev job_171 : Job
-job_171 = parsing (pair 1 12 ∷ []) (fill_nodes 3407889489 0 9)
+job_171 = parsing (pair 1 3 ∷ pair 0 2 ∷ pair 1 18 ∷ pair 0 2 ∷ pair 1 0 ∷ pair 2 0 ∷ pair 3 375 ∷ pair 4 0 ∷ pair 5 0 ∷ pair 1 0 ∷ pair 2 1 ∷ pair 3 0 ∷ pair 4 0 ∷ pair 5 0 ∷ pair 1 0 ∷ pair 2 0 ∷ pair 3 247 ∷ pair 4 0 ∷ pair 5 0 ∷ []) (fill_nodes 121584985 0 5)
 
 abbrev answer_171 : Answer
-answer_171 = tree_is 11 0 0 (node 1 9 3407889489 3407889489 3407889489 186664017 11 3407889489 ∷ node 0 10 3407889490 3407889490 3407889490 186664018 12 3407889490 ∷ node 1 11 3407889491 3407889491 3407889491 186664019 13 3407889491 ∷ node 0 12 3407889492 3407889492 3407889492 186664020 0 3407889492 ∷ node 1 13 3407889493 3407889493 3407889493 186664021 1 3407889493 ∷ node 0 14 3407889494 3407889494 3407889494 186664022 2 3407889494 ∷ node 1 15 3407889495 3407889495 3407889495 186664023 3 3407889495 ∷ node 0 16 3407889496 3407889496 3407889496 186664024 4 3407889496 ∷ node 1 17 3407889497 3407889497 3407889497 186664025 5 3407889497 ∷ [])
+answer_171 = tree_is 0 0 5 (node 1 2 1 1 2 2139095040 0 0 ∷ node 1 17 1 3 4 2139095040 0 0 ∷ node 0 0 0 0 0 0 0 4294967108 ∷ node 0 0 0 0 0 0 1 0 ∷ node 0 0 0 0 0 0 0 4294967172 ∷ [])
 
--- unreadable
+-- nodes one short
 abbrev job_172 : Job
-job_172 = parsing (pair 1 7 ∷ pair 0 76 ∷ pair 1 21 ∷ pair 0 34 ∷ pair 1 16 ∷ pair 0 2147483646 ∷ pair 1 0 ∷ pair 2 1 ∷ pair 3 26 ∷ pair 4 0 ∷ pair 5 0 ∷ pair 1 0 ∷ pair 2 13 ∷ pair 3 32 ∷ pair 4 0 ∷ pair 5 0 ∷ []) (fill_nodes 3167357285 0 15)
+job_172 = parsing (pair 1 1 ∷ pair 0 86 ∷ pair 1 5 ∷ pair 0 375 ∷ pair 1 0 ∷ pair 2 0 ∷ pair 3 232 ∷ pair 4 0 ∷ pair 5 0 ∷ pair 1 0 ∷ pair 2 5 ∷ pair 3 0 ∷ pair 4 0 ∷ pair 5 0 ∷ pair 1 0 ∷ pair 2 13 ∷ pair 3 0 ∷ pair 4 0 ∷ pair 5 0 ∷ []) (fill_nodes 0 0 4)
 
 abbrev answer_172 : Answer
-answer_172 = tree_is 11 0 0 (node 1 5 3167357285 3167357285 3167357285 1019873637 1 3167357285 ∷ node 0 6 3167357286 3167357286 3167357286 1019873638 2 3167357286 ∷ node 1 7 3167357287 3167357287 3167357287 1019873639 3 3167357287 ∷ node 0 8 3167357288 3167357288 3167357288 1019873640 4 3167357288 ∷ node 1 9 3167357289 3167357289 3167357289 1019873641 5 3167357289 ∷ node 0 10 3167357290 3167357290 3167357290 1019873642 6 3167357290 ∷ node 1 11 3167357291 3167357291 3167357291 1019873643 7 3167357291 ∷ node 0 12 3167357292 3167357292 3167357292 1019873644 8 3167357292 ∷ node 1 13 3167357293 3167357293 3167357293 1019873645 9 3167357293 ∷ node 0 14 3167357294 3167357294 3167357294 1019873646 10 3167357294 ∷ node 1 15 3167357295 3167357295 3167357295 1019873647 11 3167357295 ∷ node 0 16 3167357296 3167357296 3167357296 1019873648 12 3167357296 ∷ node 1 17 3167357297 3167357297 3167357297 1019873649 13 3167357297 ∷ node 0 18 3167357298 3167357298 3167357298 1019873650 0 3167357298 ∷ node 1 19 3167357299 3167357299 3167357299 1019873651 1 3167357299 ∷ [])
+answer_172 = tree_is 7 0 0 (node 0 0 0 0 0 0 0 0 ∷ node 1 1 1 1 1 1 1 1 ∷ node 0 2 2 2 2 2 2 2 ∷ node 1 3 3 3 3 3 3 3 ∷ [])
 
--- unreadable
+-- property 23 refused
 abbrev job_173 : Job
-job_173 = parsing (pair 1 19 ∷ pair 0 0 ∷ pair 1 0 ∷ pair 2 7 ∷ pair 3 3370852 ∷ pair 4 0 ∷ pair 5 0 ∷ pair 5 0 ∷ pair 1 0 ∷ pair 2 9 ∷ pair 3 1 ∷ pair 4 0 ∷ pair 5 0 ∷ []) (fill_nodes 858396645 0 6)
+job_173 = parsing (pair 1 24 ∷ pair 0 4294967294 ∷ pair 1 0 ∷ pair 2 4 ∷ pair 3 16 ∷ pair 4 0 ∷ pair 5 0 ∷ pair 1 0 ∷ pair 2 6 ∷ pair 3 1793500844 ∷ pair 4 0 ∷ pair 5 0 ∷ []) (fill_nodes 3541172179 0 4)
 
 abbrev answer_173 : Answer
-answer_173 = tree_is 11 0 0 (node 1 21 858396645 858396645 858396645 858396645 1 858396645 ∷ node 0 22 858396646 858396646 858396646 858396646 2 858396646 ∷ node 1 23 858396647 858396647 858396647 858396647 3 858396647 ∷ node 0 0 858396648 858396648 858396648 858396648 4 858396648 ∷ node 1 1 858396649 858396649 858396649 858396649 5 858396649 ∷ node 0 2 858396650 858396650 858396650 858396650 6 858396650 ∷ [])
+answer_173 = tree_is 0 0 3 (node 1 23 2147483647 1 2 2139095040 0 0 ∷ node 0 0 0 0 0 0 4 8 ∷ node 0 0 0 0 0 0 6 896750422 ∷ node 0 22 3541172182 3541172182 3541172182 319946710 2 3541172182 ∷ [])
 
--- unreadable
+-- predictor 13 refused; a leaf's cost infinite
 abbrev job_174 : Job
-job_174 = parsing (pair 1 3 ∷ pair 0 128 ∷ pair 1 0 ∷ pair 2 4 ∷ pair 3 40 ∷ pair 4 0 ∷ pair 5 0 ∷ pair 1 0 ∷ pair 2 6 ∷ pair 3 74 ∷ pair 4 0 ∷ pair 5 0 ∷ pair 1 0 ∷ pair 2 5 ∷ pair 3 0 ∷ pair 4 0 ∷ pair 5 0 ∷ []) (fill_nodes 296602817 0 3)
+job_174 = parsing (pair 1 0 ∷ pair 2 13 ∷ pair 3 40 ∷ pair 4 0 ∷ pair 5 0 ∷ []) (fill_nodes 4294967295 0 8)
 
 abbrev answer_174 : Answer
-answer_174 = tree_is 11 0 0 (node 1 17 296602817 296602817 296602817 296602817 7 296602817 ∷ node 0 18 296602818 296602818 296602818 296602818 8 296602818 ∷ node 1 19 296602819 296602819 296602819 296602819 9 296602819 ∷ [])
+answer_174 = tree_is 0 0 1 (node 0 0 0 0 0 0 13 20 ∷ node 0 0 0 0 0 0 0 0 ∷ node 1 1 1 1 1 1 1 1 ∷ node 0 2 2 2 2 2 2 2 ∷ node 1 3 3 3 3 3 3 3 ∷ node 0 4 4 4 4 4 4 4 ∷ node 1 5 5 5 5 5 5 5 ∷ node 0 6 6 6 6 6 6 6 ∷ [])
 
--- unreadable
+-- property 24 read; 7 before 11
 abbrev job_175 : Job
-job_175 = parsing (pair 1 21 ∷ pair 0 1 ∷ pair 1 4 ∷ pair 0 29717600 ∷ pair 1 0 ∷ pair 2 5 ∷ pair 3 2147483647 ∷ pair 4 0 ∷ pair 5 0 ∷ pair 1 0 ∷ pair 2 12 ∷ pair 3 62550896 ∷ pair 4 0 ∷ pair 5 0 ∷ pair 1 0 ∷ pair 3 5 ∷ pair 3 60 ∷ pair 4 0 ∷ pair 5 0 ∷ []) (fill_nodes 1 0 8)
+job_175 = parsing (pair 1 25 ∷ pair 0 1073741824 ∷ pair 1 0 ∷ pair 2 7 ∷ pair 3 2 ∷ pair 4 0 ∷ pair 5 0 ∷ pair 1 0 ∷ pair 2 3 ∷ pair 3 4294967295 ∷ pair 4 0 ∷ pair 5 0 ∷ []) (fill_nodes 1 0 0)
 
 abbrev answer_175 : Answer
-answer_175 = tree_is 11 0 0 (node 1 1 1 1 1 1 1 1 ∷ node 0 2 2 2 2 2 2 2 ∷ node 1 3 3 3 3 3 3 3 ∷ node 0 4 4 4 4 4 4 4 ∷ node 1 5 5 5 5 5 5 5 ∷ node 0 6 6 6 6 6 6 6 ∷ node 1 7 7 7 7 7 7 7 ∷ node 0 8 8 8 8 8 8 8 ∷ [])
+answer_175 = tree_is 11 0 0 ([])
 
--- unreadable
+-- predictor 14 read
 abbrev job_176 : Job
-job_176 = parsing (pair 1 5 ∷ pair 0 0 ∷ pair 1 0 ∷ pair 2 3 ∷ pair 3 4294967295 ∷ pair 4 0 ∷ pair 5 0 ∷ pair 1 0 ∷ pair 5 11 ∷ pair 3 58 ∷ pair 4 0 ∷ pair 5 0 ∷ []) (fill_nodes 1 0 0)
+job_176 = parsing (pair 1 20 ∷ pair 0 2 ∷ pair 1 0 ∷ pair 2 14 ∷ pair 3 32766 ∷ pair 4 0 ∷ pair 5 0 ∷ pair 1 0 ∷ pair 2 7 ∷ pair 3 16384 ∷ pair 4 0 ∷ pair 5 0 ∷ []) (fill_nodes 2948970933 0 0)
 
 abbrev answer_176 : Answer
 answer_176 = tree_is 11 0 0 ([])
 
--- unreadable
+-- a multiplier's logarithm of 1 read
 abbrev job_177 : Job
-job_177 = parsing (pair 1 15 ∷ pair 0 33554432 ∷ pair 1 0 ∷ pair 2 3 ∷ pair 3 4294967292 ∷ pair 4 0 ∷ pair 5 0 ∷ pair 1 0 ∷ pair 2 1 ∷ pair 2 2147483647 ∷ pair 4 0 ∷ pair 5 0 ∷ []) (fill_nodes 3667887359 0 0)
+job_177 = parsing (pair 1 14 ∷ pair 0 4294967294 ∷ pair 1 0 ∷ pair 2 0 ∷ pair 3 2147483646 ∷ pair 4 0 ∷ pair 5 0 ∷ pair 1 0 ∷ pair 2 13 ∷ pair 3 0 ∷ pair 4 1 ∷ pair 5 0 ∷ []) (fill_nodes 0 0 6)
 
 abbrev answer_177 : Answer
-answer_177 = tree_is 11 0 0 ([])
+answer_177 = tree_is 11 0 0 (node 0 0 0 0 0 0 0 0 ∷ node 1 1 1 1 1 1 1 1 ∷ node 0 2 2 2 2 2 2 2 ∷ node 1 3 3 3 3 3 3 3 ∷ node 0 4 4 4 4 4 4 4 ∷ node 1 5 5 5 5 5 5 5 ∷ [])
 
--- at most 5, 31 or 33 candidates
+-- a multiplier's bits of 1 read
 abbrev job_178 : Job
-job_178 = thresholds (4294967291 ∷ 4294967292 ∷ 4294967293 ∷ 4294967294 ∷ 4294967295 ∷ run 29 0 1 ([])) 4294967295
+job_178 = parsing (pair 1 17 ∷ pair 0 0 ∷ pair 1 0 ∷ pair 2 6 ∷ pair 3 67108862 ∷ pair 4 0 ∷ pair 5 0 ∷ pair 1 0 ∷ pair 2 9 ∷ pair 3 0 ∷ pair 4 0 ∷ pair 5 1 ∷ []) (fill_nodes 1 0 0)
 
 abbrev answer_178 : Answer
-answer_178 = integers (words (4294967291 ∷ 4294967292 ∷ 4294967293 ∷ 4294967294 ∷ 4294967295 ∷ run 27 0 1 ([])))
+answer_178 = tree_is 11 0 0 ([])
 
--- stride 1 for 2,048 rows; probes from the second row
+-- a property in another context
 abbrev job_179 : Job
-job_179 = thresholds (4294967291 ∷ 4294967292 ∷ 4294967293 ∷ 4294967294 ∷ 4294967295 ∷ run 2043 0 1 ([])) 5
+job_179 = parsing (pair 2 12 ∷ pair 0 536870912 ∷ pair 1 0 ∷ pair 2 2 ∷ pair 3 210 ∷ pair 4 0 ∷ pair 5 0 ∷ pair 1 0 ∷ pair 2 13 ∷ pair 3 62 ∷ pair 4 0 ∷ pair 5 0 ∷ []) (fill_nodes 1 0 6)
 
 abbrev answer_179 : Answer
-answer_179 = integers (words (4294967291 ∷ 403 ∷ 811 ∷ 1222 ∷ 1630 ∷ []))
+answer_179 = tree_is 11 0 0 (node 1 1 1 1 1 1 1 1 ∷ node 0 2 2 2 2 2 2 2 ∷ node 1 3 3 3 3 3 3 3 ∷ node 0 4 4 4 4 4 4 4 ∷ node 1 5 5 5 5 5 5 5 ∷ node 0 6 6 6 6 6 6 6 ∷ [])
 
--- pruning by gt + (le + price)
+-- a value in another context
 abbrev job_180 : Job
-job_180 = pruning 763363328 (node 1 3 7 1 2 775946240 0 0 ∷ node 1 4 7 3 4 2139095040 0 0 ∷ node 0 0 0 0 0 3355443200 1 0 ∷ node 0 0 0 0 0 1207959552 2 0 ∷ node 0 0 0 0 0 763363328 3 0 ∷ []) (span 845399837 845399838 ∷ span 845399838 845399839 ∷ span 845399839 845399840 ∷ span 845399840 845399841 ∷ span 845399841 845399842 ∷ [])
+job_180 = parsing (pair 1 6 ∷ pair 1 44 ∷ pair 1 0 ∷ pair 2 2 ∷ pair 3 7158102 ∷ pair 4 0 ∷ pair 5 0 ∷ pair 1 0 ∷ pair 2 0 ∷ pair 3 65534 ∷ pair 4 0 ∷ pair 5 0 ∷ []) (fill_nodes 3776883435 0 3)
 
 abbrev answer_180 : Answer
-answer_180 = pruned_to (f64 0) 5 (node 1 3 7 1 4 775946240 0 0 ∷ node 1 4 7 2 3 2139095040 0 0 ∷ node 0 0 0 0 0 1207959552 2 0 ∷ node 0 0 0 0 0 763363328 3 0 ∷ node 0 0 0 0 0 3355443200 1 0 ∷ []) (span 845399837 845399838 ∷ span 845399838 845399839 ∷ span 845399840 845399841 ∷ span 845399841 845399842 ∷ span 845399839 845399840 ∷ [])
+answer_180 = tree_is 11 0 0 (node 1 3 3776883435 3776883435 3776883435 555657963 3 3776883435 ∷ node 0 4 3776883436 3776883436 3776883436 555657964 4 3776883436 ∷ node 1 5 3776883437 3776883437 3776883437 555657965 5 3776883437 ∷ [])
 
--- sampling: 7 before 3
+-- a predictor in another context
 abbrev job_181 : Job
-job_181 = sampling 4294967299 3 (replicate 2 0)
+job_181 = parsing (pair 1 0 ∷ pair 0 4294967294 ∷ pair 1 0 ∷ pair 2 11 ∷ pair 3 0 ∷ pair 4 0 ∷ pair 5 0 ∷ pair 1 0 ∷ pair 2 7 ∷ pair 3 2 ∷ pair 4 0 ∷ pair 5 0 ∷ []) (fill_nodes 249634509 0 6)
 
 abbrev answer_181 : Answer
-answer_181 = sample_is 3 0 0 (0 ∷ 0 ∷ [])
+answer_181 = tree_is 11 0 0 (node 1 21 249634509 249634509 249634509 249634509 5 249634509 ∷ node 0 22 249634510 249634510 249634510 249634510 6 249634510 ∷ node 1 23 249634511 249634511 249634511 249634511 7 249634511 ∷ node 0 0 249634512 249634512 249634512 249634512 8 249634512 ∷ node 1 1 249634513 249634513 249634513 249634513 9 249634513 ∷ node 0 2 249634514 249634514 249634514 249634514 10 249634514 ∷ [])
 
--- sampling: 65,536 rows refused
+-- an offset in another context
 abbrev job_182 : Job
-job_182 = sampling 65536 1 (replicate 1 3366687519)
+job_182 = parsing (pair 1 2 ∷ pair 0 14 ∷ pair 1 0 ∷ pair 2 9 ∷ pair 1 2147483646 ∷ pair 4 0 ∷ pair 5 0 ∷ pair 1 0 ∷ pair 2 9 ∷ pair 3 0 ∷ pair 4 0 ∷ pair 5 0 ∷ []) (fill_nodes 2287180741 0 3)
 
 abbrev answer_182 : Answer
-answer_182 = sample_is 0 0 1 (0 ∷ [])
+answer_182 = tree_is 11 0 0 (node 1 13 2287180741 2287180741 2287180741 139697093 13 2287180741 ∷ node 0 14 2287180742 2287180742 2287180742 139697094 0 2287180742 ∷ node 1 15 2287180743 2287180743 2287180743 139697095 1 2287180743 ∷ [])
 
--- lookup: 8 before 9
+-- a logarithm in another context
 abbrev job_183 : Job
-job_183 = looking 0 ((node 0 0 0 0 0 0 13 1 ∷ []) ++ fill_nodes 0 1 0) (4294967274 ∷ [])
+job_183 = parsing (pair 1 3 ∷ pair 0 4294967294 ∷ pair 1 0 ∷ pair 2 6 ∷ pair 3 0 ∷ pair 0 0 ∷ pair 5 0 ∷ pair 1 0 ∷ pair 2 7 ∷ pair 3 8388608 ∷ pair 4 0 ∷ pair 5 0 ∷ []) (fill_nodes 2877800853 0 3)
 
 abbrev answer_183 : Answer
-answer_183 = no_leaf_at 9 0
+answer_183 = tree_is 11 0 0 (node 1 21 2877800853 2877800853 2877800853 730317205 11 2877800853 ∷ node 0 22 2877800854 2877800854 2877800854 730317206 12 2877800854 ∷ node 1 23 2877800855 2877800855 2877800855 730317207 13 2877800855 ∷ [])
 
--- lookup: a count beyond the list passes
+-- bits in another context
 abbrev job_184 : Job
-job_184 = looking 4294967295 ((node 0 188 3650193776 4294967295 1001413669 2659779479 4 2147483648 ∷ []) ++ fill_nodes 0 1 0) (0 ∷ 44825 ∷ 3 ∷ 6 ∷ 4294962920 ∷ 3860 ∷ 4294967287 ∷ 1822723 ∷ 3 ∷ 4294951847 ∷ 0 ∷ 3 ∷ 136 ∷ 41 ∷ 111 ∷ 412 ∷ 0 ∷ 4294967295 ∷ 424 ∷ 4294966488 ∷ 1 ∷ 361 ∷ 3 ∷ 4294967150 ∷ [])
+job_184 = parsing (pair 1 12 ∷ pair 0 2147483647 ∷ pair 1 0 ∷ pair 2 9 ∷ pair 3 30492 ∷ pair 4 0 ∷ pair 0 0 ∷ pair 1 0 ∷ pair 2 4 ∷ pair 3 1048574 ∷ pair 4 0 ∷ pair 5 0 ∷ []) (fill_nodes 77672899 0 3)
 
 abbrev answer_184 : Answer
-answer_184 = no_leaf_at 8 0
+answer_184 = tree_is 11 0 0 (node 1 19 77672899 77672899 77672899 77672899 3 77672899 ∷ node 0 20 77672900 77672900 77672900 77672900 4 77672900 ∷ node 1 21 77672901 77672901 77672901 77672901 5 77672901 ∷ [])
 
--- contexts: context list not counted
+-- no symbol is a tree
 abbrev job_185 : Job
-job_185 = numbering 1 ((node 0 0 0 0 0 0 8 4294967289 ∷ []) ++ fill_nodes 0 1 2) (record { contexts = replicate 0 0; queue = replicate 1 0 })
+job_185 = parsing ([]) (fill_nodes 2072712597 0 28)
 
 abbrev answer_185 : Answer
-answer_185 = contexts_are 7 0 0 ([]) (replicate 1 (0))
+answer_185 = tree_is 11 0 0 (node 1 21 2072712597 2072712597 2072712597 998970773 11 2072712597 ∷ node 0 22 2072712598 2072712598 2072712598 998970774 12 2072712598 ∷ node 1 23 2072712599 2072712599 2072712599 998970775 13 2072712599 ∷ node 0 0 2072712600 2072712600 2072712600 998970776 0 2072712600 ∷ node 1 1 2072712601 2072712601 2072712601 998970777 1 2072712601 ∷ node 0 2 2072712602 2072712602 2072712602 998970778 2 2072712602 ∷ node 1 3 2072712603 2072712603 2072712603 998970779 3 2072712603 ∷ node 0 4 2072712604 2072712604 2072712604 998970780 4 2072712604 ∷ node 1 5 2072712605 2072712605 2072712605 998970781 5 2072712605 ∷ node 0 6 2072712606 2072712606 2072712606 998970782 6 2072712606 ∷ node 1 7 2072712607 2072712607 2072712607 998970783 7 2072712607 ∷ node 0 8 2072712608 2072712608 2072712608 998970784 8 2072712608 ∷ node 1 9 2072712609 2072712609 2072712609 998970785 9 2072712609 ∷ node 0 10 2072712610 2072712610 2072712610 998970786 10 2072712610 ∷ node 1 11 2072712611 2072712611 2072712611 998970787 11 2072712611 ∷ node 0 12 2072712612 2072712612 2072712612 998970788 12 2072712612 ∷ node 1 13 2072712613 2072712613 2072712613 998970789 13 2072712613 ∷ node 0 14 2072712614 2072712614 2072712614 998970790 0 2072712614 ∷ node 1 15 2072712615 2072712615 2072712615 998970791 1 2072712615 ∷ node 0 16 2072712616 2072712616 2072712616 998970792 2 2072712616 ∷ node 1 17 2072712617 2072712617 2072712617 998970793 3 2072712617 ∷ node 0 18 2072712618 2072712618 2072712618 998970794 4 2072712618 ∷ node 1 19 2072712619 2072712619 2072712619 998970795 5 2072712619 ∷ node 0 20 2072712620 2072712620 2072712620 998970796 6 2072712620 ∷ node 1 21 2072712621 2072712621 2072712621 998970797 7 2072712621 ∷ node 0 22 2072712622 2072712622 2072712622 998970798 8 2072712622 ∷ node 1 23 2072712623 2072712623 2072712623 998970799 9 2072712623 ∷ node 0 0 2072712624 2072712624 2072712624 998970800 10 2072712624 ∷ [])
 
--- gt the node itself passes
+-- a tree cut short between nodes
 abbrev job_186 : Job
-job_186 = numbering 3 ((node 1 16 3 0 1 0 0 0 ∷ node 0 0 0 0 0 0 12 0 ∷ node 0 0 0 0 0 0 7 0 ∷ []) ++ fill_nodes 202938515 3 0) (record { contexts = replicate 4 202938515; queue = replicate 10 202938515 })
+job_186 = parsing (pair 1 12 ∷ pair 0 910128836 ∷ []) (fill_nodes 232370347 0 17)
 
 abbrev answer_186 : Answer
-answer_186 = contexts_are 8 0 0 (202938515 ∷ 202938515 ∷ 202938515 ∷ 202938515 ∷ []) (replicate 10 (202938515))
+answer_186 = tree_is 11 0 0 (node 1 19 232370347 232370347 232370347 232370347 13 232370347 ∷ node 0 20 232370348 232370348 232370348 232370348 0 232370348 ∷ node 1 21 232370349 232370349 232370349 232370349 1 232370349 ∷ node 0 22 232370350 232370350 232370350 232370350 2 232370350 ∷ node 1 23 232370351 232370351 232370351 232370351 3 232370351 ∷ node 0 0 232370352 232370352 232370352 232370352 4 232370352 ∷ node 1 1 232370353 232370353 232370353 232370353 5 232370353 ∷ node 0 2 232370354 232370354 232370354 232370354 6 232370354 ∷ node 1 3 232370355 232370355 232370355 232370355 7 232370355 ∷ node 0 4 232370356 232370356 232370356 232370356 8 232370356 ∷ node 1 5 232370357 232370357 232370357 232370357 9 232370357 ∷ node 0 6 232370358 232370358 232370358 232370358 10 232370358 ∷ node 1 7 232370359 232370359 232370359 232370359 11 232370359 ∷ node 0 8 232370360 232370360 232370360 232370360 12 232370360 ∷ node 1 9 232370361 232370361 232370361 232370361 13 232370361 ∷ node 0 10 232370362 232370362 232370362 232370362 0 232370362 ∷ node 1 11 232370363 232370363 232370363 232370363 1 232370363 ∷ [])
 
--- le the node itself passes
+-- a leaf cut short
 abbrev job_187 : Job
-job_187 = numbering 3 ((node 1 19 4294967287 2 0 0 0 0 ∷ node 0 0 0 0 0 0 13 0 ∷ node 0 0 0 0 0 0 13 2147483648 ∷ []) ++ fill_nodes 0 3 0) (record { contexts = replicate 5 0; queue = replicate 3 0 })
+job_187 = parsing (pair 1 21 ∷ pair 0 33554430 ∷ pair 1 0 ∷ pair 2 2 ∷ pair 3 248 ∷ pair 4 0 ∷ pair 5 0 ∷ pair 1 0 ∷ pair 2 12 ∷ pair 3 44 ∷ pair 4 0 ∷ []) (fill_nodes 1554998937 0 6)
 
 abbrev answer_187 : Answer
-answer_187 = contexts_are 8 0 0 (0 ∷ 0 ∷ 0 ∷ 0 ∷ 0 ∷ []) (replicate 3 (0))
+answer_187 = tree_is 11 0 0 (node 1 9 1554998937 1554998937 1554998937 481257113 9 1554998937 ∷ node 0 10 1554998938 1554998938 1554998938 481257114 10 1554998938 ∷ node 1 11 1554998939 1554998939 1554998939 481257115 11 1554998939 ∷ node 0 12 1554998940 1554998940 1554998940 481257116 12 1554998940 ∷ node 1 13 1554998941 1554998941 1554998941 481257117 13 1554998941 ∷ node 0 14 1554998942 1554998942 1554998942 481257118 0 1554998942 ∷ [])
 
--- le the count passes
+-- a split cut short
 abbrev job_188 : Job
-job_188 = numbering 2 ((node 1 13 1 1 2 0 0 0 ∷ node 0 0 0 0 0 0 3 1 ∷ []) ++ fill_nodes 0 2 0) (record { contexts = replicate 2 0; queue = replicate 2 0 })
+job_188 = parsing (pair 1 20 ∷ []) (fill_nodes 2229699113 0 3)
 
 abbrev answer_188 : Answer
-answer_188 = contexts_are 8 0 0 (0 ∷ 0 ∷ []) (replicate 2 (0))
+answer_188 = tree_is 11 0 0 (node 1 17 2229699113 2229699113 2229699113 82215465 5 2229699113 ∷ node 0 18 2229699114 2229699114 2229699114 82215466 6 2229699114 ∷ node 1 19 2229699115 2229699115 2229699115 82215467 7 2229699115 ∷ [])
 
--- a node with two parents passes
+-- one symbol left over
 abbrev job_189 : Job
-job_189 = numbering 4 ((node 1 4 4294967294 1 2 0 0 0 ∷ node 0 0 0 0 0 0 2 2147483647 ∷ node 0 0 0 0 0 0 4294967295 0 ∷ node 1 0 0 1 2 0 0 0 ∷ []) ++ fill_nodes 1169858401 4 0) (record { contexts = replicate 4 1169858401; queue = replicate 4 1169858401 })
+job_189 = parsing (pair 1 21 ∷ pair 0 2147483646 ∷ pair 1 0 ∷ pair 2 4 ∷ pair 3 4294967292 ∷ pair 4 0 ∷ pair 5 0 ∷ pair 1 0 ∷ pair 2 11 ∷ pair 3 31494564 ∷ pair 4 0 ∷ pair 5 0 ∷ pair 5 0 ∷ []) (fill_nodes 0 0 0)
 
 abbrev answer_189 : Answer
-answer_189 = contexts_are 8 1 0 (1169858401 ∷ 1169858401 ∷ 1169858401 ∷ 1169858401 ∷ []) (replicate 4 (1169858401))
-
--- property 24 passes
-abbrev job_190 : Job
-job_190 = numbering 3 ((node 1 24 5 1 2 0 0 0 ∷ node 0 0 0 0 0 0 4294967295 2147483648 ∷ node 0 0 0 0 0 0 8 2147483648 ∷ []) ++ fill_nodes 1 3 2) (record { contexts = replicate 4 1; queue = replicate 3 1 })
-
-abbrev answer_190 : Answer
-answer_190 = contexts_are 8 0 0 (1 ∷ 1 ∷ 1 ∷ 1 ∷ []) (replicate 3 (1))
-
--- the rows above counted, or those under the threshold, or all, or one fewer
-abbrev job_191 : Job
-job_191 = scoring 40 (0 ∷ 3221225472 ∷ 3221225472 ∷ 0 ∷ 0 ∷ 2147483646 ∷ 0 ∷ 2147483646 ∷ 2147483647 ∷ 2147483648 ∷ 4294967295 ∷ []) (22 ∷ 38 ∷ 17 ∷ 7 ∷ 37 ∷ 32 ∷ 37 ∷ 11 ∷ 6 ∷ 19 ∷ 12 ∷ 14 ∷ 32 ∷ 2 ∷ 39 ∷ 30 ∷ 17 ∷ 7 ∷ 39 ∷ 32 ∷ 38 ∷ 11 ∷ 6 ∷ 19 ∷ 25 ∷ 1 ∷ 32 ∷ 2 ∷ 39 ∷ 30 ∷ 17 ∷ 9 ∷ 39 ∷ 32 ∷ 18 ∷ 35 ∷ 6 ∷ 19 ∷ 12 ∷ 1 ∷ 38 ∷ 2 ∷ 39 ∷ 28 ∷ 17 ∷ 7 ∷ 39 ∷ 32 ∷ 38 ∷ 11 ∷ 6 ∷ 19 ∷ 12 ∷ 22 ∷ 32 ∷ 2 ∷ 13 ∷ 30 ∷ 34 ∷ 7 ∷ 34 ∷ 2 ∷ 38 ∷ 11 ∷ 6 ∷ 19 ∷ 12 ∷ 38 ∷ 32 ∷ 2 ∷ 39 ∷ 5 ∷ 17 ∷ 7 ∷ 22 ∷ 32 ∷ 38 ∷ 11 ∷ 6 ∷ 19 ∷ 12 ∷ 15 ∷ 32 ∷ 3 ∷ 39 ∷ 30 ∷ 17 ∷ 7 ∷ 39 ∷ 32 ∷ 38 ∷ 11 ∷ 13 ∷ 19 ∷ 12 ∷ 5 ∷ 32 ∷ 36 ∷ 39 ∷ 30 ∷ 15 ∷ 7 ∷ 39 ∷ 32 ∷ 17 ∷ 11 ∷ 6 ∷ 19 ∷ 12 ∷ 1 ∷ 32 ∷ 2 ∷ 39 ∷ 30 ∷ 17 ∷ 7 ∷ 36 ∷ 32 ∷ 19 ∷ 34 ∷ 6 ∷ 19 ∷ 12 ∷ 23 ∷ 17 ∷ 8 ∷ 7 ∷ 2 ∷ 17 ∷ 7 ∷ 39 ∷ 32 ∷ 38 ∷ 23 ∷ 21 ∷ 19 ∷ 12 ∷ 1 ∷ 32 ∷ 2 ∷ 39 ∷ 30 ∷ 17 ∷ 7 ∷ 25 ∷ 32 ∷ 38 ∷ 22 ∷ 6 ∷ 19 ∷ 12 ∷ 1 ∷ 32 ∷ 2 ∷ []) (12 ∷ 13 ∷ 11 ∷ 2 ∷ []) (2147483648 ∷ 3221225472 ∷ 4294967295 ∷ 0 ∷ 1073741823 ∷ 2147483646 ∷ 2147483647 ∷ []) (1120272384 ∷ 0 ∷ 1065353216 ∷ 1070260237 ∷ 1073741824 ∷ 1075092088 ∷ 1076195335 ∷ 1077128116 ∷ 1077936128 ∷ 1078648845 ∷ 1079286392 ∷ 1079863124 ∷ [])
-
-abbrev answer_191 : Answer
-answer_191 = best_at 0 1098961861 8
-
--- the last of the lowest thresholds; the rows counted of another threshold
-abbrev job_192 : Job
-job_192 = scoring 16 (4294967293 ∷ 997 ∷ 1997 ∷ 2997 ∷ 3997 ∷ 4997 ∷ 5997 ∷ 6997 ∷ 7997 ∷ []) (run 14 0 0 (run 14 1 0 (run 14 2 0 (run 14 3 0 (run 14 4 0 (run 14 5 0 (run 14 6 0 (run 14 7 0 (run 14 8 0 ([])))))))))) (2 ∷ []) (4294967293 ∷ 997 ∷ 1997 ∷ 2997 ∷ 3997 ∷ 4997 ∷ 5997 ∷ 6997 ∷ 7997 ∷ []) (0 ∷ 0 ∷ 1065353216 ∷ 1073741824 ∷ 1073741824 ∷ 1073741824 ∷ 1077936128 ∷ 1077936128 ∷ 1077936128 ∷ 1077936128 ∷ [])
-
-abbrev answer_192 : Answer
-answer_192 = best_at 2997 1099956224 4
+answer_189 = tree_is 11 0 0 ([])
 
 -- a growth term regrouped; property 15 never
-abbrev lent_193 : Lent singles
-lent_193 = lent (4 ∷ 60258 ∷ 0 ∷ 4294963823 ∷ 0 ∷ 0 ∷ 0 ∷ 2 ∷ 4294965273 ∷ 594 ∷ 4294966950 ∷ 32 ∷ 392 ∷ 8 ∷ 0 ∷ 2 ∷ 0 ∷ 4294966796 ∷ 4 ∷ 5 ∷ 1 ∷ 1 ∷ 0 ∷ 2336 ∷ 1 ∷ 19377 ∷ 1 ∷ 4294963823 ∷ 1 ∷ 1 ∷ 1 ∷ 1 ∷ 4294965273 ∷ 594 ∷ 344 ∷ 130 ∷ 392 ∷ 2 ∷ 1 ∷ 1 ∷ 1 ∷ 4294966796 ∷ 1 ∷ 7 ∷ 8 ∷ 8 ∷ 0 ∷ 2336 ∷ 5 ∷ 4294943683 ∷ 1 ∷ 4294963823 ∷ 2 ∷ 2 ∷ 2 ∷ 2 ∷ 4294965273 ∷ 594 ∷ 55 ∷ 19 ∷ 392 ∷ 5 ∷ 2 ∷ 2 ∷ 2 ∷ 4294966796 ∷ 3 ∷ 4 ∷ 6 ∷ 6 ∷ 2 ∷ 2336 ∷ 0 ∷ 243589 ∷ 1 ∷ 4294963823 ∷ 3 ∷ 3 ∷ 3 ∷ 0 ∷ 4294965273 ∷ 594 ∷ 4294967272 ∷ 4294967187 ∷ 392 ∷ 8 ∷ 3 ∷ 4 ∷ 3 ∷ 4294966796 ∷ 2 ∷ 0 ∷ 8 ∷ 8 ∷ 2 ∷ 2336 ∷ 5 ∷ 4294897652 ∷ 1 ∷ 4294963823 ∷ 4 ∷ 4 ∷ 4 ∷ 0 ∷ 4294965273 ∷ 594 ∷ 4294967282 ∷ 35 ∷ 392 ∷ 0 ∷ 4 ∷ 5 ∷ 4 ∷ 4294966796 ∷ 2 ∷ 0 ∷ 2 ∷ 2 ∷ 4 ∷ 2336 ∷ 5 ∷ 4294869144 ∷ 0 ∷ 4294963823 ∷ 5 ∷ 5 ∷ 5 ∷ 2 ∷ 4294965273 ∷ 594 ∷ 146 ∷ 108 ∷ 392 ∷ 3 ∷ 5 ∷ 1 ∷ 5 ∷ 4294966796 ∷ 1 ∷ 7 ∷ 1 ∷ 1 ∷ 7 ∷ 2336 ∷ 5 ∷ 4294963793 ∷ 0 ∷ 4294963823 ∷ 6 ∷ 6 ∷ 6 ∷ 0 ∷ 4294965273 ∷ 594 ∷ 4294967270 ∷ 4294967193 ∷ 392 ∷ 3 ∷ 6 ∷ 2 ∷ 6 ∷ 4294966796 ∷ 2 ∷ 5 ∷ 8 ∷ 8 ∷ 0 ∷ 2336 ∷ 3 ∷ 4294944725 ∷ 0 ∷ 4294963823 ∷ 7 ∷ 7 ∷ 7 ∷ 2 ∷ 4294965273 ∷ 594 ∷ 95 ∷ 0 ∷ 392 ∷ 7 ∷ 7 ∷ 3 ∷ 7 ∷ 4294966796 ∷ 4 ∷ 4 ∷ 7 ∷ 7 ∷ 7 ∷ 2336 ∷ 1 ∷ 40130 ∷ 1 ∷ 4294963823 ∷ 8 ∷ 8 ∷ 8 ∷ 2 ∷ 4294965273 ∷ 594 ∷ 256 ∷ 141 ∷ 392 ∷ 3 ∷ 8 ∷ 1 ∷ 8 ∷ 4294966796 ∷ 1 ∷ 1 ∷ 8 ∷ 8 ∷ 5 ∷ 2336 ∷ 3 ∷ 107395 ∷ 1 ∷ 4294963823 ∷ 9 ∷ 9 ∷ 9 ∷ 1 ∷ 4294965273 ∷ 594 ∷ 138 ∷ 96 ∷ 392 ∷ 4 ∷ 9 ∷ 5 ∷ 9 ∷ 4294966796 ∷ 0 ∷ 4 ∷ 1 ∷ 1 ∷ 2 ∷ 2336 ∷ 2 ∷ 4294889451 ∷ 0 ∷ 4294963823 ∷ 10 ∷ 10 ∷ 9 ∷ 1 ∷ 4294965273 ∷ 594 ∷ 181 ∷ 4294967197 ∷ 392 ∷ 1 ∷ 10 ∷ 5 ∷ 10 ∷ 4294966796 ∷ 3 ∷ 2 ∷ 1 ∷ 0 ∷ 7 ∷ 2336 ∷ 3 ∷ 4258 ∷ 0 ∷ 4294963823 ∷ 11 ∷ 11 ∷ 11 ∷ 1 ∷ 4294965273 ∷ 594 ∷ 81 ∷ 15 ∷ 392 ∷ 2 ∷ 11 ∷ 1 ∷ 11 ∷ 4294966796 ∷ 2 ∷ 0 ∷ 2 ∷ 2 ∷ 2 ∷ 2336 ∷ []) (1 ∷ 1 ∷ 1 ∷ 2 ∷ 0 ∷ 1 ∷ 1 ∷ 1 ∷ 0 ∷ 1 ∷ 2 ∷ 1 ∷ 2 ∷ 2 ∷ 0 ∷ 2 ∷ 0 ∷ 2 ∷ 0 ∷ 0 ∷ 2 ∷ 1 ∷ 0 ∷ 1 ∷ 1 ∷ 1 ∷ 1 ∷ 2 ∷ 1 ∷ 1 ∷ 0 ∷ 1 ∷ 2 ∷ 2 ∷ 2 ∷ 1 ∷ 0 ∷ 2 ∷ 0 ∷ 2 ∷ 2 ∷ 2 ∷ 1 ∷ 2 ∷ 0 ∷ 1 ∷ 0 ∷ 1 ∷ 2 ∷ 1 ∷ 0 ∷ 1 ∷ 2 ∷ 2 ∷ 1 ∷ 0 ∷ 1 ∷ 0 ∷ 2 ∷ 1 ∷ 0 ∷ 2 ∷ 2 ∷ 0 ∷ 2 ∷ 1 ∷ 0 ∷ 0 ∷ 2 ∷ 0 ∷ 2 ∷ 2 ∷ 1 ∷ 1 ∷ 1 ∷ 0 ∷ 1 ∷ 0 ∷ 0 ∷ 2 ∷ 0 ∷ 1 ∷ 2 ∷ 1 ∷ 1 ∷ 1 ∷ 1 ∷ 0 ∷ 1 ∷ 1 ∷ 0 ∷ 1 ∷ 1 ∷ 1 ∷ 2 ∷ 0 ∷ 2 ∷ 2 ∷ 2 ∷ 1 ∷ 0 ∷ 1 ∷ 0 ∷ 0 ∷ 0 ∷ 0 ∷ 1 ∷ 0 ∷ 0 ∷ 2 ∷ 2 ∷ 2 ∷ 2 ∷ 2 ∷ 2 ∷ 0 ∷ 2 ∷ 1 ∷ 2 ∷ 2 ∷ 2 ∷ 2 ∷ 1 ∷ 0 ∷ 0 ∷ 2 ∷ 0 ∷ 2 ∷ 2 ∷ 1 ∷ 1 ∷ 0 ∷ 2 ∷ 2 ∷ 0 ∷ 0 ∷ 0 ∷ 2 ∷ 2 ∷ 2 ∷ 1 ∷ 0 ∷ 2 ∷ 0 ∷ 0 ∷ 0 ∷ 0 ∷ 2 ∷ 2 ∷ 1 ∷ 1 ∷ 2 ∷ 2 ∷ 2 ∷ 0 ∷ 1 ∷ 0 ∷ 1 ∷ 1 ∷ 2 ∷ 2 ∷ 0 ∷ 0 ∷ 2 ∷ 0 ∷ 0 ∷ 1 ∷ 1 ∷ []) (35 ∷ 35 ∷ 34 ∷ 34 ∷ 4294967283 ∷ 4294967284 ∷ 4294967284 ∷ 4294967292 ∷ 4294967287 ∷ 4294967282 ∷ 4294967259 ∷ 4294967282 ∷ []) (([]) ++ fill_nodes 665184333 0 9) 7 6 4264 665184333
+abbrev lent_190 : Lent singles
+lent_190 = lent (4 ∷ 60258 ∷ 0 ∷ 4294963823 ∷ 0 ∷ 0 ∷ 0 ∷ 2 ∷ 4294965273 ∷ 594 ∷ 4294966950 ∷ 32 ∷ 392 ∷ 8 ∷ 0 ∷ 2 ∷ 0 ∷ 4294966796 ∷ 4 ∷ 5 ∷ 1 ∷ 1 ∷ 0 ∷ 2336 ∷ 1 ∷ 19377 ∷ 1 ∷ 4294963823 ∷ 1 ∷ 1 ∷ 1 ∷ 1 ∷ 4294965273 ∷ 594 ∷ 344 ∷ 130 ∷ 392 ∷ 2 ∷ 1 ∷ 1 ∷ 1 ∷ 4294966796 ∷ 1 ∷ 7 ∷ 8 ∷ 8 ∷ 0 ∷ 2336 ∷ 5 ∷ 4294943683 ∷ 1 ∷ 4294963823 ∷ 2 ∷ 2 ∷ 2 ∷ 2 ∷ 4294965273 ∷ 594 ∷ 55 ∷ 19 ∷ 392 ∷ 5 ∷ 2 ∷ 2 ∷ 2 ∷ 4294966796 ∷ 3 ∷ 4 ∷ 6 ∷ 6 ∷ 2 ∷ 2336 ∷ 0 ∷ 243589 ∷ 1 ∷ 4294963823 ∷ 3 ∷ 3 ∷ 3 ∷ 0 ∷ 4294965273 ∷ 594 ∷ 4294967272 ∷ 4294967187 ∷ 392 ∷ 8 ∷ 3 ∷ 4 ∷ 3 ∷ 4294966796 ∷ 2 ∷ 0 ∷ 8 ∷ 8 ∷ 2 ∷ 2336 ∷ 5 ∷ 4294897652 ∷ 1 ∷ 4294963823 ∷ 4 ∷ 4 ∷ 4 ∷ 0 ∷ 4294965273 ∷ 594 ∷ 4294967282 ∷ 35 ∷ 392 ∷ 0 ∷ 4 ∷ 5 ∷ 4 ∷ 4294966796 ∷ 2 ∷ 0 ∷ 2 ∷ 2 ∷ 4 ∷ 2336 ∷ 5 ∷ 4294869144 ∷ 0 ∷ 4294963823 ∷ 5 ∷ 5 ∷ 5 ∷ 2 ∷ 4294965273 ∷ 594 ∷ 146 ∷ 108 ∷ 392 ∷ 3 ∷ 5 ∷ 1 ∷ 5 ∷ 4294966796 ∷ 1 ∷ 7 ∷ 1 ∷ 1 ∷ 7 ∷ 2336 ∷ 5 ∷ 4294963793 ∷ 0 ∷ 4294963823 ∷ 6 ∷ 6 ∷ 6 ∷ 0 ∷ 4294965273 ∷ 594 ∷ 4294967270 ∷ 4294967193 ∷ 392 ∷ 3 ∷ 6 ∷ 2 ∷ 6 ∷ 4294966796 ∷ 2 ∷ 5 ∷ 8 ∷ 8 ∷ 0 ∷ 2336 ∷ 3 ∷ 4294944725 ∷ 0 ∷ 4294963823 ∷ 7 ∷ 7 ∷ 7 ∷ 2 ∷ 4294965273 ∷ 594 ∷ 95 ∷ 0 ∷ 392 ∷ 7 ∷ 7 ∷ 3 ∷ 7 ∷ 4294966796 ∷ 4 ∷ 4 ∷ 7 ∷ 7 ∷ 7 ∷ 2336 ∷ 1 ∷ 40130 ∷ 1 ∷ 4294963823 ∷ 8 ∷ 8 ∷ 8 ∷ 2 ∷ 4294965273 ∷ 594 ∷ 256 ∷ 141 ∷ 392 ∷ 3 ∷ 8 ∷ 1 ∷ 8 ∷ 4294966796 ∷ 1 ∷ 1 ∷ 8 ∷ 8 ∷ 5 ∷ 2336 ∷ 3 ∷ 107395 ∷ 1 ∷ 4294963823 ∷ 9 ∷ 9 ∷ 9 ∷ 1 ∷ 4294965273 ∷ 594 ∷ 138 ∷ 96 ∷ 392 ∷ 4 ∷ 9 ∷ 5 ∷ 9 ∷ 4294966796 ∷ 0 ∷ 4 ∷ 1 ∷ 1 ∷ 2 ∷ 2336 ∷ 2 ∷ 4294889451 ∷ 0 ∷ 4294963823 ∷ 10 ∷ 10 ∷ 9 ∷ 1 ∷ 4294965273 ∷ 594 ∷ 181 ∷ 4294967197 ∷ 392 ∷ 1 ∷ 10 ∷ 5 ∷ 10 ∷ 4294966796 ∷ 3 ∷ 2 ∷ 1 ∷ 0 ∷ 7 ∷ 2336 ∷ 3 ∷ 4258 ∷ 0 ∷ 4294963823 ∷ 11 ∷ 11 ∷ 11 ∷ 1 ∷ 4294965273 ∷ 594 ∷ 81 ∷ 15 ∷ 392 ∷ 2 ∷ 11 ∷ 1 ∷ 11 ∷ 4294966796 ∷ 2 ∷ 0 ∷ 2 ∷ 2 ∷ 2 ∷ 2336 ∷ []) (1 ∷ 1 ∷ 1 ∷ 2 ∷ 0 ∷ 1 ∷ 1 ∷ 1 ∷ 0 ∷ 1 ∷ 2 ∷ 1 ∷ 2 ∷ 2 ∷ 0 ∷ 2 ∷ 0 ∷ 2 ∷ 0 ∷ 0 ∷ 2 ∷ 1 ∷ 0 ∷ 1 ∷ 1 ∷ 1 ∷ 1 ∷ 2 ∷ 1 ∷ 1 ∷ 0 ∷ 1 ∷ 2 ∷ 2 ∷ 2 ∷ 1 ∷ 0 ∷ 2 ∷ 0 ∷ 2 ∷ 2 ∷ 2 ∷ 1 ∷ 2 ∷ 0 ∷ 1 ∷ 0 ∷ 1 ∷ 2 ∷ 1 ∷ 0 ∷ 1 ∷ 2 ∷ 2 ∷ 1 ∷ 0 ∷ 1 ∷ 0 ∷ 2 ∷ 1 ∷ 0 ∷ 2 ∷ 2 ∷ 0 ∷ 2 ∷ 1 ∷ 0 ∷ 0 ∷ 2 ∷ 0 ∷ 2 ∷ 2 ∷ 1 ∷ 1 ∷ 1 ∷ 0 ∷ 1 ∷ 0 ∷ 0 ∷ 2 ∷ 0 ∷ 1 ∷ 2 ∷ 1 ∷ 1 ∷ 1 ∷ 1 ∷ 0 ∷ 1 ∷ 1 ∷ 0 ∷ 1 ∷ 1 ∷ 1 ∷ 2 ∷ 0 ∷ 2 ∷ 2 ∷ 2 ∷ 1 ∷ 0 ∷ 1 ∷ 0 ∷ 0 ∷ 0 ∷ 0 ∷ 1 ∷ 0 ∷ 0 ∷ 2 ∷ 2 ∷ 2 ∷ 2 ∷ 2 ∷ 2 ∷ 0 ∷ 2 ∷ 1 ∷ 2 ∷ 2 ∷ 2 ∷ 2 ∷ 1 ∷ 0 ∷ 0 ∷ 2 ∷ 0 ∷ 2 ∷ 2 ∷ 1 ∷ 1 ∷ 0 ∷ 2 ∷ 2 ∷ 0 ∷ 0 ∷ 0 ∷ 2 ∷ 2 ∷ 2 ∷ 1 ∷ 0 ∷ 2 ∷ 0 ∷ 0 ∷ 0 ∷ 0 ∷ 2 ∷ 2 ∷ 1 ∷ 1 ∷ 2 ∷ 2 ∷ 2 ∷ 0 ∷ 1 ∷ 0 ∷ 1 ∷ 1 ∷ 2 ∷ 2 ∷ 0 ∷ 0 ∷ 2 ∷ 0 ∷ 0 ∷ 1 ∷ 1 ∷ []) (35 ∷ 35 ∷ 34 ∷ 34 ∷ 4294967283 ∷ 4294967284 ∷ 4294967284 ∷ 4294967292 ∷ 4294967287 ∷ 4294967282 ∷ 4294967259 ∷ 4294967282 ∷ []) (([]) ++ fill_nodes 665184333 0 9) 7 6 4264 665184333
 
-abbrev job_193 : Job
-job_193 = learning (settings 3 4 2147483648 0 2 2 1 1 512 0 1) (0 ∷ 1098938929 ∷ 1104164471 ∷ 1102308445 ∷ 1095969378 ∷ 1104724561 ∷ 1094785538 ∷ 1099399790 ∷ 1077593208 ∷ 1106112144 ∷ 1103754589 ∷ 1104813981 ∷ 1106909171 ∷ []) lent_193
+abbrev job_190 : Job
+job_190 = learning (settings 3 4 2147483648 0 2 2 1 1 512 0 1) (0 ∷ 1098938929 ∷ 1104164471 ∷ 1102308445 ∷ 1095969378 ∷ 1104724561 ∷ 1094785538 ∷ 1099399790 ∷ 1077593208 ∷ 1106112144 ∷ 1103754589 ∷ 1104813981 ∷ 1106909171 ∷ []) lent_190
 
-abbrev answer_193 : Answer
-answer_193 = tree 3 2 13864998869303033856 13862631781024399360 (record { props = words (4 ∷ 60258 ∷ 0 ∷ 4294963823 ∷ 0 ∷ 0 ∷ 0 ∷ 2 ∷ 4294965273 ∷ 594 ∷ 4294966950 ∷ 32 ∷ 392 ∷ 8 ∷ 0 ∷ 2 ∷ 0 ∷ 4294966796 ∷ 4 ∷ 5 ∷ 1 ∷ 1 ∷ 0 ∷ 2336 ∷ 2 ∷ 4294889451 ∷ 0 ∷ 4294963823 ∷ 10 ∷ 10 ∷ 9 ∷ 1 ∷ 4294965273 ∷ 594 ∷ 181 ∷ 4294967197 ∷ 392 ∷ 1 ∷ 10 ∷ 5 ∷ 10 ∷ 4294966796 ∷ 3 ∷ 2 ∷ 1 ∷ 0 ∷ 7 ∷ 2336 ∷ 5 ∷ 4294943683 ∷ 1 ∷ 4294963823 ∷ 2 ∷ 2 ∷ 2 ∷ 2 ∷ 4294965273 ∷ 594 ∷ 55 ∷ 19 ∷ 392 ∷ 5 ∷ 2 ∷ 2 ∷ 2 ∷ 4294966796 ∷ 3 ∷ 4 ∷ 6 ∷ 6 ∷ 2 ∷ 2336 ∷ 0 ∷ 243589 ∷ 1 ∷ 4294963823 ∷ 3 ∷ 3 ∷ 3 ∷ 0 ∷ 4294965273 ∷ 594 ∷ 4294967272 ∷ 4294967187 ∷ 392 ∷ 8 ∷ 3 ∷ 4 ∷ 3 ∷ 4294966796 ∷ 2 ∷ 0 ∷ 8 ∷ 8 ∷ 2 ∷ 2336 ∷ 5 ∷ 4294897652 ∷ 1 ∷ 4294963823 ∷ 4 ∷ 4 ∷ 4 ∷ 0 ∷ 4294965273 ∷ 594 ∷ 4294967282 ∷ 35 ∷ 392 ∷ 0 ∷ 4 ∷ 5 ∷ 4 ∷ 4294966796 ∷ 2 ∷ 0 ∷ 2 ∷ 2 ∷ 4 ∷ 2336 ∷ 3 ∷ 107395 ∷ 1 ∷ 4294963823 ∷ 9 ∷ 9 ∷ 9 ∷ 1 ∷ 4294965273 ∷ 594 ∷ 138 ∷ 96 ∷ 392 ∷ 4 ∷ 9 ∷ 5 ∷ 9 ∷ 4294966796 ∷ 0 ∷ 4 ∷ 1 ∷ 1 ∷ 2 ∷ 2336 ∷ 5 ∷ 4294963793 ∷ 0 ∷ 4294963823 ∷ 6 ∷ 6 ∷ 6 ∷ 0 ∷ 4294965273 ∷ 594 ∷ 4294967270 ∷ 4294967193 ∷ 392 ∷ 3 ∷ 6 ∷ 2 ∷ 6 ∷ 4294966796 ∷ 2 ∷ 5 ∷ 8 ∷ 8 ∷ 0 ∷ 2336 ∷ 3 ∷ 4294944725 ∷ 0 ∷ 4294963823 ∷ 7 ∷ 7 ∷ 7 ∷ 2 ∷ 4294965273 ∷ 594 ∷ 95 ∷ 0 ∷ 392 ∷ 7 ∷ 7 ∷ 3 ∷ 7 ∷ 4294966796 ∷ 4 ∷ 4 ∷ 7 ∷ 7 ∷ 7 ∷ 2336 ∷ 1 ∷ 40130 ∷ 1 ∷ 4294963823 ∷ 8 ∷ 8 ∷ 8 ∷ 2 ∷ 4294965273 ∷ 594 ∷ 256 ∷ 141 ∷ 392 ∷ 3 ∷ 8 ∷ 1 ∷ 8 ∷ 4294966796 ∷ 1 ∷ 1 ∷ 8 ∷ 8 ∷ 5 ∷ 2336 ∷ 5 ∷ 4294869144 ∷ 0 ∷ 4294963823 ∷ 5 ∷ 5 ∷ 5 ∷ 2 ∷ 4294965273 ∷ 594 ∷ 146 ∷ 108 ∷ 392 ∷ 3 ∷ 5 ∷ 1 ∷ 5 ∷ 4294966796 ∷ 1 ∷ 7 ∷ 1 ∷ 1 ∷ 7 ∷ 2336 ∷ 3 ∷ 4258 ∷ 0 ∷ 4294963823 ∷ 11 ∷ 11 ∷ 11 ∷ 1 ∷ 4294965273 ∷ 594 ∷ 81 ∷ 15 ∷ 392 ∷ 2 ∷ 11 ∷ 1 ∷ 11 ∷ 4294966796 ∷ 2 ∷ 0 ∷ 2 ∷ 2 ∷ 2 ∷ 2336 ∷ 1 ∷ 19377 ∷ 1 ∷ 4294963823 ∷ 1 ∷ 1 ∷ 1 ∷ 1 ∷ 4294965273 ∷ 594 ∷ 344 ∷ 130 ∷ 392 ∷ 2 ∷ 1 ∷ 1 ∷ 1 ∷ 4294966796 ∷ 1 ∷ 7 ∷ 8 ∷ 8 ∷ 0 ∷ 2336 ∷ []); toks = (1 ∷ 1 ∷ 1 ∷ 2 ∷ 0 ∷ 1 ∷ 1 ∷ 1 ∷ 0 ∷ 1 ∷ 2 ∷ 1 ∷ 2 ∷ 2 ∷ 1 ∷ 0 ∷ 2 ∷ 0 ∷ 0 ∷ 0 ∷ 0 ∷ 2 ∷ 2 ∷ 1 ∷ 1 ∷ 2 ∷ 2 ∷ 2 ∷ 1 ∷ 1 ∷ 0 ∷ 1 ∷ 2 ∷ 2 ∷ 2 ∷ 1 ∷ 0 ∷ 2 ∷ 0 ∷ 2 ∷ 2 ∷ 2 ∷ 1 ∷ 2 ∷ 0 ∷ 1 ∷ 0 ∷ 1 ∷ 2 ∷ 1 ∷ 0 ∷ 1 ∷ 2 ∷ 2 ∷ 1 ∷ 0 ∷ 1 ∷ 0 ∷ 2 ∷ 1 ∷ 0 ∷ 2 ∷ 2 ∷ 0 ∷ 2 ∷ 1 ∷ 0 ∷ 0 ∷ 2 ∷ 0 ∷ 0 ∷ 2 ∷ 2 ∷ 1 ∷ 1 ∷ 0 ∷ 2 ∷ 2 ∷ 0 ∷ 0 ∷ 0 ∷ 2 ∷ 2 ∷ 2 ∷ 1 ∷ 1 ∷ 1 ∷ 0 ∷ 1 ∷ 1 ∷ 0 ∷ 1 ∷ 1 ∷ 1 ∷ 2 ∷ 0 ∷ 2 ∷ 2 ∷ 2 ∷ 1 ∷ 0 ∷ 1 ∷ 0 ∷ 0 ∷ 0 ∷ 0 ∷ 1 ∷ 0 ∷ 0 ∷ 2 ∷ 2 ∷ 2 ∷ 2 ∷ 2 ∷ 2 ∷ 0 ∷ 2 ∷ 1 ∷ 2 ∷ 2 ∷ 2 ∷ 2 ∷ 1 ∷ 0 ∷ 0 ∷ 2 ∷ 2 ∷ 2 ∷ 1 ∷ 1 ∷ 1 ∷ 0 ∷ 1 ∷ 0 ∷ 0 ∷ 2 ∷ 0 ∷ 1 ∷ 2 ∷ 1 ∷ 0 ∷ 1 ∷ 0 ∷ 1 ∷ 1 ∷ 2 ∷ 2 ∷ 0 ∷ 0 ∷ 2 ∷ 0 ∷ 0 ∷ 1 ∷ 1 ∷ 0 ∷ 2 ∷ 0 ∷ 2 ∷ 0 ∷ 0 ∷ 2 ∷ 1 ∷ 0 ∷ 1 ∷ 1 ∷ 1 ∷ 1 ∷ 2 ∷ []); res = words (35 ∷ 4294967259 ∷ 34 ∷ 34 ∷ 4294967283 ∷ 4294967282 ∷ 4294967284 ∷ 4294967292 ∷ 4294967287 ∷ 4294967284 ∷ 4294967282 ∷ 35 ∷ []); nodes = ((node 1 15 1 1 2 1128653302 9 0 ∷ node 0 0 0 0 0 3274980807 9 0 ∷ node 0 0 0 0 0 3254112900 9 0 ∷ []) ++ fill_nodes 665184333 3 6); spans = ((span 0 12 ∷ span 0 8 ∷ span 8 12 ∷ []) ++ fill_spans 665184333 3 4); queue = replicate 6 (no_waiting); counts = replicate 4264 (0) })
+abbrev answer_190 : Answer
+answer_190 = tree 3 2 13864998869303033856 13862631781024399360 (record { props = words (4 ∷ 60258 ∷ 0 ∷ 4294963823 ∷ 0 ∷ 0 ∷ 0 ∷ 2 ∷ 4294965273 ∷ 594 ∷ 4294966950 ∷ 32 ∷ 392 ∷ 8 ∷ 0 ∷ 2 ∷ 0 ∷ 4294966796 ∷ 4 ∷ 5 ∷ 1 ∷ 1 ∷ 0 ∷ 2336 ∷ 2 ∷ 4294889451 ∷ 0 ∷ 4294963823 ∷ 10 ∷ 10 ∷ 9 ∷ 1 ∷ 4294965273 ∷ 594 ∷ 181 ∷ 4294967197 ∷ 392 ∷ 1 ∷ 10 ∷ 5 ∷ 10 ∷ 4294966796 ∷ 3 ∷ 2 ∷ 1 ∷ 0 ∷ 7 ∷ 2336 ∷ 5 ∷ 4294943683 ∷ 1 ∷ 4294963823 ∷ 2 ∷ 2 ∷ 2 ∷ 2 ∷ 4294965273 ∷ 594 ∷ 55 ∷ 19 ∷ 392 ∷ 5 ∷ 2 ∷ 2 ∷ 2 ∷ 4294966796 ∷ 3 ∷ 4 ∷ 6 ∷ 6 ∷ 2 ∷ 2336 ∷ 0 ∷ 243589 ∷ 1 ∷ 4294963823 ∷ 3 ∷ 3 ∷ 3 ∷ 0 ∷ 4294965273 ∷ 594 ∷ 4294967272 ∷ 4294967187 ∷ 392 ∷ 8 ∷ 3 ∷ 4 ∷ 3 ∷ 4294966796 ∷ 2 ∷ 0 ∷ 8 ∷ 8 ∷ 2 ∷ 2336 ∷ 5 ∷ 4294897652 ∷ 1 ∷ 4294963823 ∷ 4 ∷ 4 ∷ 4 ∷ 0 ∷ 4294965273 ∷ 594 ∷ 4294967282 ∷ 35 ∷ 392 ∷ 0 ∷ 4 ∷ 5 ∷ 4 ∷ 4294966796 ∷ 2 ∷ 0 ∷ 2 ∷ 2 ∷ 4 ∷ 2336 ∷ 3 ∷ 107395 ∷ 1 ∷ 4294963823 ∷ 9 ∷ 9 ∷ 9 ∷ 1 ∷ 4294965273 ∷ 594 ∷ 138 ∷ 96 ∷ 392 ∷ 4 ∷ 9 ∷ 5 ∷ 9 ∷ 4294966796 ∷ 0 ∷ 4 ∷ 1 ∷ 1 ∷ 2 ∷ 2336 ∷ 5 ∷ 4294963793 ∷ 0 ∷ 4294963823 ∷ 6 ∷ 6 ∷ 6 ∷ 0 ∷ 4294965273 ∷ 594 ∷ 4294967270 ∷ 4294967193 ∷ 392 ∷ 3 ∷ 6 ∷ 2 ∷ 6 ∷ 4294966796 ∷ 2 ∷ 5 ∷ 8 ∷ 8 ∷ 0 ∷ 2336 ∷ 3 ∷ 4294944725 ∷ 0 ∷ 4294963823 ∷ 7 ∷ 7 ∷ 7 ∷ 2 ∷ 4294965273 ∷ 594 ∷ 95 ∷ 0 ∷ 392 ∷ 7 ∷ 7 ∷ 3 ∷ 7 ∷ 4294966796 ∷ 4 ∷ 4 ∷ 7 ∷ 7 ∷ 7 ∷ 2336 ∷ 1 ∷ 40130 ∷ 1 ∷ 4294963823 ∷ 8 ∷ 8 ∷ 8 ∷ 2 ∷ 4294965273 ∷ 594 ∷ 256 ∷ 141 ∷ 392 ∷ 3 ∷ 8 ∷ 1 ∷ 8 ∷ 4294966796 ∷ 1 ∷ 1 ∷ 8 ∷ 8 ∷ 5 ∷ 2336 ∷ 5 ∷ 4294869144 ∷ 0 ∷ 4294963823 ∷ 5 ∷ 5 ∷ 5 ∷ 2 ∷ 4294965273 ∷ 594 ∷ 146 ∷ 108 ∷ 392 ∷ 3 ∷ 5 ∷ 1 ∷ 5 ∷ 4294966796 ∷ 1 ∷ 7 ∷ 1 ∷ 1 ∷ 7 ∷ 2336 ∷ 3 ∷ 4258 ∷ 0 ∷ 4294963823 ∷ 11 ∷ 11 ∷ 11 ∷ 1 ∷ 4294965273 ∷ 594 ∷ 81 ∷ 15 ∷ 392 ∷ 2 ∷ 11 ∷ 1 ∷ 11 ∷ 4294966796 ∷ 2 ∷ 0 ∷ 2 ∷ 2 ∷ 2 ∷ 2336 ∷ 1 ∷ 19377 ∷ 1 ∷ 4294963823 ∷ 1 ∷ 1 ∷ 1 ∷ 1 ∷ 4294965273 ∷ 594 ∷ 344 ∷ 130 ∷ 392 ∷ 2 ∷ 1 ∷ 1 ∷ 1 ∷ 4294966796 ∷ 1 ∷ 7 ∷ 8 ∷ 8 ∷ 0 ∷ 2336 ∷ []); toks = (1 ∷ 1 ∷ 1 ∷ 2 ∷ 0 ∷ 1 ∷ 1 ∷ 1 ∷ 0 ∷ 1 ∷ 2 ∷ 1 ∷ 2 ∷ 2 ∷ 1 ∷ 0 ∷ 2 ∷ 0 ∷ 0 ∷ 0 ∷ 0 ∷ 2 ∷ 2 ∷ 1 ∷ 1 ∷ 2 ∷ 2 ∷ 2 ∷ 1 ∷ 1 ∷ 0 ∷ 1 ∷ 2 ∷ 2 ∷ 2 ∷ 1 ∷ 0 ∷ 2 ∷ 0 ∷ 2 ∷ 2 ∷ 2 ∷ 1 ∷ 2 ∷ 0 ∷ 1 ∷ 0 ∷ 1 ∷ 2 ∷ 1 ∷ 0 ∷ 1 ∷ 2 ∷ 2 ∷ 1 ∷ 0 ∷ 1 ∷ 0 ∷ 2 ∷ 1 ∷ 0 ∷ 2 ∷ 2 ∷ 0 ∷ 2 ∷ 1 ∷ 0 ∷ 0 ∷ 2 ∷ 0 ∷ 0 ∷ 2 ∷ 2 ∷ 1 ∷ 1 ∷ 0 ∷ 2 ∷ 2 ∷ 0 ∷ 0 ∷ 0 ∷ 2 ∷ 2 ∷ 2 ∷ 1 ∷ 1 ∷ 1 ∷ 0 ∷ 1 ∷ 1 ∷ 0 ∷ 1 ∷ 1 ∷ 1 ∷ 2 ∷ 0 ∷ 2 ∷ 2 ∷ 2 ∷ 1 ∷ 0 ∷ 1 ∷ 0 ∷ 0 ∷ 0 ∷ 0 ∷ 1 ∷ 0 ∷ 0 ∷ 2 ∷ 2 ∷ 2 ∷ 2 ∷ 2 ∷ 2 ∷ 0 ∷ 2 ∷ 1 ∷ 2 ∷ 2 ∷ 2 ∷ 2 ∷ 1 ∷ 0 ∷ 0 ∷ 2 ∷ 2 ∷ 2 ∷ 1 ∷ 1 ∷ 1 ∷ 0 ∷ 1 ∷ 0 ∷ 0 ∷ 2 ∷ 0 ∷ 1 ∷ 2 ∷ 1 ∷ 0 ∷ 1 ∷ 0 ∷ 1 ∷ 1 ∷ 2 ∷ 2 ∷ 0 ∷ 0 ∷ 2 ∷ 0 ∷ 0 ∷ 1 ∷ 1 ∷ 0 ∷ 2 ∷ 0 ∷ 2 ∷ 0 ∷ 0 ∷ 2 ∷ 1 ∷ 0 ∷ 1 ∷ 1 ∷ 1 ∷ 1 ∷ 2 ∷ []); res = words (35 ∷ 4294967259 ∷ 34 ∷ 34 ∷ 4294967283 ∷ 4294967282 ∷ 4294967284 ∷ 4294967292 ∷ 4294967287 ∷ 4294967284 ∷ 4294967282 ∷ 35 ∷ []); nodes = ((node 1 15 1 1 2 1128653302 9 0 ∷ node 0 0 0 0 0 3274980807 9 0 ∷ node 0 0 0 0 0 3254112900 9 0 ∷ []) ++ fill_nodes 665184333 3 6); spans = ((span 0 12 ∷ span 0 8 ∷ span 8 12 ∷ []) ++ fill_spans 665184333 3 4); queue = replicate 6 (no_waiting); counts = replicate 4264 (0) })
 
 -- the higher node number at equal gains
-abbrev lent_194 : Lent singles
-lent_194 = lent (0 ∷ 0 ∷ 2 ∷ 0 ∷ 0 ∷ 0 ∷ 0 ∷ 0 ∷ 0 ∷ 1 ∷ run 40 0 0 (1 ∷ 0 ∷ 0 ∷ 0 ∷ 0 ∷ 0 ∷ 0 ∷ 1 ∷ run 16 0 0 (3 ∷ run 30 0 0 (1 ∷ run 16 0 0 (2 ∷ run 23 0 0 (3 ∷ 0 ∷ 0 ∷ 0 ∷ 0 ∷ 0 ∷ 0 ∷ 1 ∷ run 16 0 0 (1 ∷ run 21 0 0 ([])))))))) (run 14 5 0 (run 14 0 0 (run 14 3 0 (run 14 6 0 (run 14 1 0 (run 14 4 0 (run 14 7 0 (run 14 2 0 ([]))))))))) ([]) (([]) ++ fill_nodes 1 0 6) 6 3 4544 1
+abbrev lent_191 : Lent singles
+lent_191 = lent (0 ∷ 0 ∷ 2 ∷ 0 ∷ 0 ∷ 0 ∷ 0 ∷ 0 ∷ 0 ∷ 1 ∷ run 40 0 0 (1 ∷ 0 ∷ 0 ∷ 0 ∷ 0 ∷ 0 ∷ 0 ∷ 1 ∷ run 16 0 0 (3 ∷ run 30 0 0 (1 ∷ run 16 0 0 (2 ∷ run 23 0 0 (3 ∷ 0 ∷ 0 ∷ 0 ∷ 0 ∷ 0 ∷ 0 ∷ 1 ∷ run 16 0 0 (1 ∷ run 21 0 0 ([])))))))) (run 14 5 0 (run 14 0 0 (run 14 3 0 (run 14 6 0 (run 14 1 0 (run 14 4 0 (run 14 7 0 (run 14 2 0 ([]))))))))) ([]) (([]) ++ fill_nodes 1 0 6) 6 3 4544 1
 
-abbrev job_194 : Job
-job_194 = learning (settings 8 3 0 0 0 1 2 1 3 0 0) (0 ∷ 0 ∷ 1065353216 ∷ 1069547520 ∷ 1073741824 ∷ 1074790400 ∷ 1075838976 ∷ 1076887552 ∷ 1077936128 ∷ []) lent_194
+abbrev job_191 : Job
+job_191 = learning (settings 8 3 0 0 0 1 2 1 3 0 0) (0 ∷ 0 ∷ 1065353216 ∷ 1069547520 ∷ 1073741824 ∷ 1074790400 ∷ 1075838976 ∷ 1076887552 ∷ 1077936128 ∷ []) lent_191
 
-abbrev answer_194 : Answer
-answer_194 = tree 5 3 4622945017495814144 4627448617123184640 (record { props = words (0 ∷ 0 ∷ 3 ∷ run 23 0 0 (3 ∷ 0 ∷ 0 ∷ 0 ∷ 0 ∷ 0 ∷ 0 ∷ 1 ∷ run 16 0 0 (2 ∷ run 23 0 0 (2 ∷ 0 ∷ 0 ∷ 0 ∷ 0 ∷ 0 ∷ 0 ∷ 1 ∷ run 23 0 0 (1 ∷ run 16 0 0 (1 ∷ 0 ∷ 0 ∷ 0 ∷ 0 ∷ 0 ∷ 0 ∷ 1 ∷ run 16 0 0 (1 ∷ run 45 0 0 ([])))))))); toks = (run 14 6 0 (run 14 7 0 (run 14 4 0 (run 14 5 0 (run 14 1 0 (run 14 3 0 (run 14 2 0 (run 14 0 0 ([]))))))))); res = words ([]); nodes = ((node 1 2 1 1 2 1103101952 0 0 ∷ node 1 2 2 3 4 1090519040 0 0 ∷ node 0 0 0 0 0 1090519040 0 0 ∷ node 0 0 0 0 0 1073741824 0 0 ∷ node 0 0 0 0 0 1073741824 0 0 ∷ []) ++ fill_nodes 1 5 1); spans = ((span 0 8 ∷ span 0 4 ∷ span 4 8 ∷ span 0 2 ∷ span 2 4 ∷ []) ++ fill_spans 1 5 1); queue = replicate 3 (no_waiting); counts = replicate 4544 (0) })
+abbrev answer_191 : Answer
+answer_191 = tree 5 3 4622945017495814144 4627448617123184640 (record { props = words (0 ∷ 0 ∷ 3 ∷ run 23 0 0 (3 ∷ 0 ∷ 0 ∷ 0 ∷ 0 ∷ 0 ∷ 0 ∷ 1 ∷ run 16 0 0 (2 ∷ run 23 0 0 (2 ∷ 0 ∷ 0 ∷ 0 ∷ 0 ∷ 0 ∷ 0 ∷ 1 ∷ run 23 0 0 (1 ∷ run 16 0 0 (1 ∷ 0 ∷ 0 ∷ 0 ∷ 0 ∷ 0 ∷ 0 ∷ 1 ∷ run 16 0 0 (1 ∷ run 45 0 0 ([])))))))); toks = (run 14 6 0 (run 14 7 0 (run 14 4 0 (run 14 5 0 (run 14 1 0 (run 14 3 0 (run 14 2 0 (run 14 0 0 ([]))))))))); res = words ([]); nodes = ((node 1 2 1 1 2 1103101952 0 0 ∷ node 1 2 2 3 4 1090519040 0 0 ∷ node 0 0 0 0 0 1090519040 0 0 ∷ node 0 0 0 0 0 1073741824 0 0 ∷ node 0 0 0 0 0 1073741824 0 0 ∷ []) ++ fill_nodes 1 5 1); spans = ((span 0 8 ∷ span 0 4 ∷ span 4 8 ∷ span 0 2 ∷ span 2 4 ∷ []) ++ fill_spans 1 5 1); queue = replicate 3 (no_waiting); counts = replicate 4544 (0) })
 
 -- the higher node number at equal gains, in a seed
-abbrev lent_195 : Lent singles
-lent_195 = lent (0 ∷ 0 ∷ 2 ∷ 0 ∷ 0 ∷ 0 ∷ 0 ∷ 0 ∷ 0 ∷ 1 ∷ run 40 0 0 (1 ∷ 0 ∷ 0 ∷ 0 ∷ 0 ∷ 0 ∷ 0 ∷ 1 ∷ run 16 0 0 (3 ∷ run 30 0 0 (1 ∷ run 16 0 0 (2 ∷ run 23 0 0 (3 ∷ 0 ∷ 0 ∷ 0 ∷ 0 ∷ 0 ∷ 0 ∷ 1 ∷ run 16 0 0 (1 ∷ run 21 0 0 ([])))))))) (run 14 5 0 (run 14 0 0 (run 14 3 0 (run 14 6 0 (run 14 1 0 (run 14 4 0 (run 14 7 0 (run 14 2 0 ([]))))))))) ([]) ((node 1 2 1 1 2 0 0 0 ∷ node 0 0 0 0 0 0 1 5 ∷ node 0 0 0 0 0 0 0 0 ∷ []) ++ fill_nodes 1 3 2) 5 3 4544 1
+abbrev lent_192 : Lent singles
+lent_192 = lent (0 ∷ 0 ∷ 2 ∷ 0 ∷ 0 ∷ 0 ∷ 0 ∷ 0 ∷ 0 ∷ 1 ∷ run 40 0 0 (1 ∷ 0 ∷ 0 ∷ 0 ∷ 0 ∷ 0 ∷ 0 ∷ 1 ∷ run 16 0 0 (3 ∷ run 30 0 0 (1 ∷ run 16 0 0 (2 ∷ run 23 0 0 (3 ∷ 0 ∷ 0 ∷ 0 ∷ 0 ∷ 0 ∷ 0 ∷ 1 ∷ run 16 0 0 (1 ∷ run 21 0 0 ([])))))))) (run 14 5 0 (run 14 0 0 (run 14 3 0 (run 14 6 0 (run 14 1 0 (run 14 4 0 (run 14 7 0 (run 14 2 0 ([]))))))))) ([]) ((node 1 2 1 1 2 0 0 0 ∷ node 0 0 0 0 0 0 1 5 ∷ node 0 0 0 0 0 0 0 0 ∷ []) ++ fill_nodes 1 3 2) 5 3 4544 1
 
-abbrev job_195 : Job
-job_195 = deepening (settings 8 3 0 0 0 1 2 1 3 0 0) (0 ∷ 0 ∷ 1065353216 ∷ 1069547520 ∷ 1073741824 ∷ 1074790400 ∷ 1075838976 ∷ 1076887552 ∷ 1077936128 ∷ []) 3 lent_195
+abbrev job_192 : Job
+job_192 = deepening (settings 8 3 0 0 0 1 2 1 3 0 0) (0 ∷ 0 ∷ 1065353216 ∷ 1069547520 ∷ 1073741824 ∷ 1074790400 ∷ 1075838976 ∷ 1076887552 ∷ 1077936128 ∷ []) 3 lent_192
 
-abbrev answer_195 : Answer
-answer_195 = tree 5 3 4622945017495814144 4627448617123184640 (record { props = words (0 ∷ 0 ∷ 3 ∷ 0 ∷ 0 ∷ 0 ∷ 0 ∷ 0 ∷ 0 ∷ 1 ∷ run 16 0 0 (3 ∷ run 23 0 0 (2 ∷ run 23 0 0 (2 ∷ 0 ∷ 0 ∷ 0 ∷ 0 ∷ 0 ∷ 0 ∷ 1 ∷ run 40 0 0 (1 ∷ 0 ∷ 0 ∷ 0 ∷ 0 ∷ 0 ∷ 0 ∷ 1 ∷ run 23 0 0 (1 ∷ run 16 0 0 (1 ∷ run 21 0 0 ([])))))))); toks = (run 14 7 0 (run 14 6 0 (run 14 4 0 (run 14 5 0 (run 14 0 0 (run 14 3 0 (run 14 1 0 (run 14 2 0 ([]))))))))); res = words ([]); nodes = ((node 1 2 1 1 2 2139095040 0 0 ∷ node 1 2 2 3 4 1090519040 0 0 ∷ node 0 0 0 0 0 1090519040 0 0 ∷ node 0 0 0 0 0 1073741824 0 0 ∷ node 0 0 0 0 0 1073741824 0 0 ∷ []) ++ fill_nodes 1 5 0); spans = ((span 0 0 ∷ span 0 4 ∷ span 4 8 ∷ span 0 2 ∷ span 2 4 ∷ []) ++ fill_spans 1 5 0); queue = replicate 3 (no_waiting); counts = replicate 4544 (0) })
+abbrev answer_192 : Answer
+answer_192 = tree 5 3 4622945017495814144 4627448617123184640 (record { props = words (0 ∷ 0 ∷ 3 ∷ 0 ∷ 0 ∷ 0 ∷ 0 ∷ 0 ∷ 0 ∷ 1 ∷ run 16 0 0 (3 ∷ run 23 0 0 (2 ∷ run 23 0 0 (2 ∷ 0 ∷ 0 ∷ 0 ∷ 0 ∷ 0 ∷ 0 ∷ 1 ∷ run 40 0 0 (1 ∷ 0 ∷ 0 ∷ 0 ∷ 0 ∷ 0 ∷ 0 ∷ 1 ∷ run 23 0 0 (1 ∷ run 16 0 0 (1 ∷ run 21 0 0 ([])))))))); toks = (run 14 7 0 (run 14 6 0 (run 14 4 0 (run 14 5 0 (run 14 0 0 (run 14 3 0 (run 14 1 0 (run 14 2 0 ([]))))))))); res = words ([]); nodes = ((node 1 2 1 1 2 2139095040 0 0 ∷ node 1 2 2 3 4 1090519040 0 0 ∷ node 0 0 0 0 0 1090519040 0 0 ∷ node 0 0 0 0 0 1073741824 0 0 ∷ node 0 0 0 0 0 1073741824 0 0 ∷ []) ++ fill_nodes 1 5 0); spans = ((span 0 0 ∷ span 0 4 ∷ span 4 8 ∷ span 0 2 ∷ span 2 4 ∷ []) ++ fill_spans 1 5 0); queue = replicate 3 (no_waiting); counts = replicate 4544 (0) })
 
 -- folding only on strictly less; pruning without the price
-abbrev lent_196 : Lent singles
-lent_196 = lent (run 26 0 0 (1 ∷ run 21 0 0 ([]))) (run 14 1 0 (run 14 2 0 ([]))) ([]) (([]) ++ fill_nodes 1 0 4) 4 2 4320 1
+abbrev lent_193 : Lent singles
+lent_193 = lent (run 26 0 0 (1 ∷ run 21 0 0 ([]))) (run 14 1 0 (run 14 2 0 ([]))) ([]) (([]) ++ fill_nodes 1 0 4) 4 2 4320 1
 
-abbrev job_196 : Job
-job_196 = learning (settings 4 2 0 1073741824 0 1 2 1 3 0 0) (0 ∷ 0 ∷ 1065353216 ∷ []) lent_196
+abbrev job_193 : Job
+job_193 = learning (settings 4 2 0 1073741824 0 1 2 1 3 0 0) (0 ∷ 0 ∷ 1065353216 ∷ []) lent_193
 
-abbrev answer_196 : Answer
-answer_196 = tree 1 1 4611686018427387904 4611686018427387904 (record { props = words (0 ∷ 0 ∷ 1 ∷ run 45 0 0 ([])); toks = (run 14 2 0 (run 14 1 0 ([]))); res = words ([]); nodes = ((node 0 0 0 0 0 1073741824 0 0 ∷ node 0 0 0 0 0 0 0 0 ∷ node 0 0 0 0 0 0 0 0 ∷ []) ++ fill_nodes 1 3 1); spans = ((span 0 2 ∷ span 0 0 ∷ span 0 0 ∷ []) ++ fill_spans 1 3 1); queue = replicate 2 (no_waiting); counts = replicate 4320 (0) })
+abbrev answer_193 : Answer
+answer_193 = tree 1 1 4611686018427387904 4611686018427387904 (record { props = words (0 ∷ 0 ∷ 1 ∷ run 45 0 0 ([])); toks = (run 14 2 0 (run 14 1 0 ([]))); res = words ([]); nodes = ((node 0 0 0 0 0 1073741824 0 0 ∷ node 0 0 0 0 0 0 0 0 ∷ node 0 0 0 0 0 0 0 0 ∷ []) ++ fill_nodes 1 3 1); spans = ((span 0 2 ∷ span 0 0 ∷ span 0 0 ∷ []) ++ fill_spans 1 3 1); queue = replicate 2 (no_waiting); counts = replicate 4320 (0) })
 
 -- the price in the estimated bits
-abbrev lent_197 : Lent singles
-lent_197 = lent (run 26 0 0 (1 ∷ run 21 0 0 ([]))) (run 14 1 0 (run 14 2 0 ([]))) ([]) (([]) ++ fill_nodes 1 0 4) 4 2 4320 1
+abbrev lent_194 : Lent singles
+lent_194 = lent (run 26 0 0 (1 ∷ run 21 0 0 ([]))) (run 14 1 0 (run 14 2 0 ([]))) ([]) (([]) ++ fill_nodes 1 0 4) 4 2 4320 1
 
-abbrev job_197 : Job
-job_197 = learning (settings 4 2 0 1071644672 0 1 2 1 3 0 0) (0 ∷ 0 ∷ 1065353216 ∷ []) lent_197
+abbrev job_194 : Job
+job_194 = learning (settings 4 2 0 1071644672 0 1 2 1 3 0 0) (0 ∷ 0 ∷ 1065353216 ∷ []) lent_194
 
-abbrev answer_197 : Answer
-answer_197 = tree 3 2 0 4611686018427387904 (record { props = words (0 ∷ 0 ∷ 1 ∷ run 45 0 0 ([])); toks = (run 14 2 0 (run 14 1 0 ([]))); res = words ([]); nodes = ((node 1 2 0 1 2 1073741824 0 0 ∷ node 0 0 0 0 0 0 0 0 ∷ node 0 0 0 0 0 0 0 0 ∷ []) ++ fill_nodes 1 3 1); spans = ((span 0 2 ∷ span 0 1 ∷ span 1 2 ∷ []) ++ fill_spans 1 3 1); queue = replicate 2 (no_waiting); counts = replicate 4320 (0) })
+abbrev answer_194 : Answer
+answer_194 = tree 3 2 0 4611686018427387904 (record { props = words (0 ∷ 0 ∷ 1 ∷ run 45 0 0 ([])); toks = (run 14 2 0 (run 14 1 0 ([]))); res = words ([]); nodes = ((node 1 2 0 1 2 1073741824 0 0 ∷ node 0 0 0 0 0 0 0 0 ∷ node 0 0 0 0 0 0 0 0 ∷ []) ++ fill_nodes 1 3 1); spans = ((span 0 2 ∷ span 0 1 ∷ span 1 2 ∷ []) ++ fill_spans 1 3 1); queue = replicate 2 (no_waiting); counts = replicate 4320 (0) })
 
 -- no settling
-abbrev lent_198 : Lent singles
-lent_198 = lent (run 27 0 0 (1 ∷ run 47 0 0 (1 ∷ run 47 0 0 (1 ∷ run 20 0 0 ([]))))) (run 84 9 0 ([])) (3 ∷ 40 ∷ 3 ∷ 40 ∷ 3 ∷ 41 ∷ []) (([]) ++ fill_nodes 1 0 6) 6 3 11264 1
+abbrev lent_195 : Lent singles
+lent_195 = lent (run 27 0 0 (1 ∷ run 47 0 0 (1 ∷ run 47 0 0 (1 ∷ run 20 0 0 ([]))))) (run 84 9 0 ([])) (3 ∷ 40 ∷ 3 ∷ 40 ∷ 3 ∷ 41 ∷ []) (([]) ++ fill_nodes 1 0 6) 6 3 11264 1
 
-abbrev job_198 : Job
-job_198 = learning (settings 128 3 0 1148846080 0 1 2 1 1 1 1) (0 ∷ 0 ∷ 1065353216 ∷ 1069547520 ∷ 1073741824 ∷ 1074790400 ∷ 1075838976 ∷ []) lent_198
+abbrev job_195 : Job
+job_195 = learning (settings 128 3 0 1148846080 0 1 2 1 1 1 1) (0 ∷ 0 ∷ 1065353216 ∷ 1069547520 ∷ 1073741824 ∷ 1074790400 ∷ 1075838976 ∷ []) lent_195
 
-abbrev answer_198 : Answer
-answer_198 = tree 1 1 4625759767262920704 0 (record { props = words (0 ∷ 0 ∷ 0 ∷ 1 ∷ run 23 0 0 (1 ∷ run 23 0 0 (1 ∷ run 92 0 0 ([])))); toks = (24 ∷ run 13 9 0 (24 ∷ run 13 9 0 (24 ∷ run 13 9 0 (0 ∷ run 13 9 0 (0 ∷ run 13 9 0 (0 ∷ run 13 9 0 ([]))))))); res = words (41 ∷ 40 ∷ 40 ∷ 3 ∷ 3 ∷ 3 ∷ []); nodes = ((node 0 0 0 0 0 1099956224 0 3 ∷ node 0 0 0 0 0 0 0 0 ∷ node 0 0 0 0 0 0 0 0 ∷ []) ++ fill_nodes 1 3 3); spans = ((span 0 6 ∷ span 0 0 ∷ span 0 0 ∷ []) ++ fill_spans 1 3 3); queue = replicate 3 (no_waiting); counts = replicate 11264 (0) })
+abbrev answer_195 : Answer
+answer_195 = tree 1 1 4625759767262920704 0 (record { props = words (0 ∷ 0 ∷ 0 ∷ 1 ∷ run 23 0 0 (1 ∷ run 23 0 0 (1 ∷ run 92 0 0 ([])))); toks = (24 ∷ run 13 9 0 (24 ∷ run 13 9 0 (24 ∷ run 13 9 0 (0 ∷ run 13 9 0 (0 ∷ run 13 9 0 (0 ∷ run 13 9 0 ([]))))))); res = words (41 ∷ 40 ∷ 40 ∷ 3 ∷ 3 ∷ 3 ∷ []); nodes = ((node 0 0 0 0 0 1099956224 0 3 ∷ node 0 0 0 0 0 0 0 0 ∷ node 0 0 0 0 0 0 0 0 ∷ []) ++ fill_nodes 1 3 3); spans = ((span 0 6 ∷ span 0 0 ∷ span 0 0 ∷ []) ++ fill_spans 1 3 3); queue = replicate 3 (no_waiting); counts = replicate 11264 (0) })
 
 -- settling always
-abbrev lent_199 : Lent singles
-lent_199 = lent (run 27 0 0 (1 ∷ run 47 0 0 (1 ∷ run 47 0 0 (1 ∷ run 20 0 0 ([]))))) (run 84 9 0 ([])) (3 ∷ 40 ∷ 3 ∷ 40 ∷ 3 ∷ 41 ∷ []) (([]) ++ fill_nodes 1 0 6) 6 3 11264 1
+abbrev lent_196 : Lent singles
+lent_196 = lent (run 27 0 0 (1 ∷ run 47 0 0 (1 ∷ run 47 0 0 (1 ∷ run 20 0 0 ([]))))) (run 84 9 0 ([])) (3 ∷ 40 ∷ 3 ∷ 40 ∷ 3 ∷ 41 ∷ []) (([]) ++ fill_nodes 1 0 6) 6 3 11264 1
 
-abbrev job_199 : Job
-job_199 = learning (settings 128 3 0 1148846080 0 1 2 1 1 1 0) (0 ∷ 0 ∷ 1065353216 ∷ 1069547520 ∷ 1073741824 ∷ 1074790400 ∷ 1075838976 ∷ []) lent_199
+abbrev job_196 : Job
+job_196 = learning (settings 128 3 0 1148846080 0 1 2 1 1 1 0) (0 ∷ 0 ∷ 1065353216 ∷ 1069547520 ∷ 1073741824 ∷ 1074790400 ∷ 1075838976 ∷ []) lent_196
 
-abbrev answer_199 : Answer
-answer_199 = tree 1 1 4625759767262920704 0 (record { props = words (0 ∷ 0 ∷ 0 ∷ 1 ∷ run 23 0 0 (1 ∷ run 23 0 0 (1 ∷ run 92 0 0 ([])))); toks = (2 ∷ run 13 9 0 (0 ∷ run 13 9 0 (0 ∷ run 13 9 0 (0 ∷ run 13 9 0 (0 ∷ run 13 9 0 (0 ∷ run 13 9 0 ([]))))))); res = words (41 ∷ 40 ∷ 40 ∷ 3 ∷ 3 ∷ 3 ∷ []); nodes = ((node 0 0 0 0 0 1099956224 0 3 ∷ node 0 0 0 0 0 0 0 0 ∷ node 0 0 0 0 0 0 0 0 ∷ []) ++ fill_nodes 1 3 3); spans = ((span 0 6 ∷ span 0 0 ∷ span 0 0 ∷ []) ++ fill_spans 1 3 3); queue = replicate 3 (no_waiting); counts = replicate 11264 (0) })
+abbrev answer_196 : Answer
+answer_196 = tree 1 1 4625759767262920704 0 (record { props = words (0 ∷ 0 ∷ 0 ∷ 1 ∷ run 23 0 0 (1 ∷ run 23 0 0 (1 ∷ run 92 0 0 ([])))); toks = (2 ∷ run 13 9 0 (0 ∷ run 13 9 0 (0 ∷ run 13 9 0 (0 ∷ run 13 9 0 (0 ∷ run 13 9 0 (0 ∷ run 13 9 0 ([]))))))); res = words (41 ∷ 40 ∷ 40 ∷ 3 ∷ 3 ∷ 3 ∷ []); nodes = ((node 0 0 0 0 0 1099956224 0 3 ∷ node 0 0 0 0 0 0 0 0 ∷ node 0 0 0 0 0 0 0 0 ∷ []) ++ fill_nodes 1 3 3); spans = ((span 0 6 ∷ span 0 0 ∷ span 0 0 ∷ []) ++ fill_spans 1 3 3); queue = replicate 3 (no_waiting); counts = replicate 11264 (0) })
 
 -- a mode of residuals that spread over 4,098 values
-abbrev lent_200 : Lent singles
-lent_200 = lent (run 27 0 0 (1 ∷ run 47 0 0 (1 ∷ run 47 0 0 (1 ∷ run 20 0 0 ([]))))) (run 84 9 0 ([])) (4294967289 ∷ 4090 ∷ 4294967289 ∷ 4090 ∷ 4294967289 ∷ 4090 ∷ []) (([]) ++ fill_nodes 1 0 6) 6 3 11264 1
+abbrev lent_197 : Lent singles
+lent_197 = lent (run 27 0 0 (1 ∷ run 47 0 0 (1 ∷ run 47 0 0 (1 ∷ run 20 0 0 ([]))))) (run 84 9 0 ([])) (4294967289 ∷ 4090 ∷ 4294967289 ∷ 4090 ∷ 4294967289 ∷ 4090 ∷ []) (([]) ++ fill_nodes 1 0 6) 6 3 11264 1
 
-abbrev job_200 : Job
-job_200 = learning (settings 128 3 0 0 0 1 2 1 1 1 0) (0 ∷ 0 ∷ 1065353216 ∷ 1069547520 ∷ 1073741824 ∷ 1074790400 ∷ 1075838976 ∷ []) lent_200
+abbrev job_197 : Job
+job_197 = learning (settings 128 3 0 0 0 1 2 1 1 1 0) (0 ∷ 0 ∷ 1065353216 ∷ 1069547520 ∷ 1073741824 ∷ 1074790400 ∷ 1075838976 ∷ []) lent_197
 
-abbrev answer_200 : Answer
-answer_200 = tree 3 2 0 0 (record { props = words (0 ∷ 0 ∷ 0 ∷ 1 ∷ run 23 0 0 (1 ∷ run 23 0 0 (1 ∷ run 92 0 0 ([])))); toks = (0 ∷ run 13 9 0 (0 ∷ run 13 9 0 (0 ∷ run 13 9 0 (0 ∷ run 13 9 0 (0 ∷ run 13 9 0 (0 ∷ run 13 9 0 ([]))))))); res = words (4090 ∷ 4090 ∷ 4090 ∷ 4294967289 ∷ 4294967289 ∷ 4294967289 ∷ []); nodes = ((node 1 3 0 1 2 1108344832 0 0 ∷ node 0 0 0 0 0 0 0 4090 ∷ node 0 0 0 0 0 0 0 4294967289 ∷ []) ++ fill_nodes 1 3 3); spans = ((span 0 6 ∷ span 0 3 ∷ span 3 6 ∷ []) ++ fill_spans 1 3 3); queue = replicate 3 (no_waiting); counts = replicate 11264 (0) })
+abbrev answer_197 : Answer
+answer_197 = tree 3 2 0 0 (record { props = words (0 ∷ 0 ∷ 0 ∷ 1 ∷ run 23 0 0 (1 ∷ run 23 0 0 (1 ∷ run 92 0 0 ([])))); toks = (0 ∷ run 13 9 0 (0 ∷ run 13 9 0 (0 ∷ run 13 9 0 (0 ∷ run 13 9 0 (0 ∷ run 13 9 0 (0 ∷ run 13 9 0 ([]))))))); res = words (4090 ∷ 4090 ∷ 4090 ∷ 4294967289 ∷ 4294967289 ∷ 4294967289 ∷ []); nodes = ((node 1 3 0 1 2 1108344832 0 0 ∷ node 0 0 0 0 0 0 0 4090 ∷ node 0 0 0 0 0 0 0 4294967289 ∷ []) ++ fill_nodes 1 3 3); spans = ((span 0 6 ∷ span 0 3 ∷ span 3 6 ∷ []) ++ fill_spans 1 3 3); queue = replicate 3 (no_waiting); counts = replicate 11264 (0) })
 
 -- an empty leaf's offset lost, its cost kept
-abbrev lent_201 : Lent singles
-lent_201 = lent (run 26 0 0 (1 ∷ run 23 0 0 (1 ∷ 0 ∷ 0 ∷ 0 ∷ 0 ∷ 0 ∷ 0 ∷ 1 ∷ run 14 0 0 ([])))) (run 14 1 0 (run 14 2 0 (run 14 3 0 ([])))) ([]) ((node 1 2 5 1 2 0 0 0 ∷ node 0 200 4294967295 9 9 77 12 4294967291 ∷ node 0 0 0 0 0 0 3 3 ∷ []) ++ fill_nodes 1 3 4) 7 4 4544 1
+abbrev lent_198 : Lent singles
+lent_198 = lent (run 26 0 0 (1 ∷ run 23 0 0 (1 ∷ 0 ∷ 0 ∷ 0 ∷ 0 ∷ 0 ∷ 0 ∷ 1 ∷ run 14 0 0 ([])))) (run 14 1 0 (run 14 2 0 (run 14 3 0 ([])))) ([]) ((node 1 2 5 1 2 0 0 0 ∷ node 0 200 4294967295 9 9 77 12 4294967291 ∷ node 0 0 0 0 0 0 3 3 ∷ []) ++ fill_nodes 1 3 4) 7 4 4544 1
 
-abbrev job_201 : Job
-job_201 = deepening (settings 8 4 0 0 0 1 2 1 3 0 0) (0 ∷ 0 ∷ 1065353216 ∷ 1069547520 ∷ []) 3 lent_201
+abbrev job_198 : Job
+job_198 = deepening (settings 8 4 0 0 0 1 2 1 3 0 0) (0 ∷ 0 ∷ 1065353216 ∷ 1069547520 ∷ []) 3 lent_198
 
-abbrev answer_201 : Answer
-answer_201 = tree 7 4 0 4616752568008179712 (record { props = words (0 ∷ 0 ∷ 1 ∷ 0 ∷ 0 ∷ 0 ∷ 0 ∷ 0 ∷ 0 ∷ 1 ∷ run 16 0 0 (1 ∷ run 45 0 0 ([]))); toks = (run 14 3 0 (run 14 2 0 (run 14 1 0 ([])))); res = words ([]); nodes = ((node 1 2 5 1 2 2139095040 0 0 ∷ node 0 0 0 0 0 0 12 4294967291 ∷ node 1 2 0 3 4 1083179008 0 0 ∷ node 1 9 0 5 6 1073741824 0 0 ∷ node 0 0 0 0 0 0 0 0 ∷ node 0 0 0 0 0 0 0 0 ∷ node 0 0 0 0 0 0 0 0 ∷ []) ++ fill_nodes 1 7 0); spans = ((span 0 0 ∷ span 0 0 ∷ span 0 3 ∷ span 0 2 ∷ span 2 3 ∷ span 0 1 ∷ span 1 2 ∷ []) ++ fill_spans 1 7 0); queue = replicate 4 (no_waiting); counts = replicate 4544 (0) })
+abbrev answer_198 : Answer
+answer_198 = tree 7 4 0 4616752568008179712 (record { props = words (0 ∷ 0 ∷ 1 ∷ 0 ∷ 0 ∷ 0 ∷ 0 ∷ 0 ∷ 0 ∷ 1 ∷ run 16 0 0 (1 ∷ run 45 0 0 ([]))); toks = (run 14 3 0 (run 14 2 0 (run 14 1 0 ([])))); res = words ([]); nodes = ((node 1 2 5 1 2 2139095040 0 0 ∷ node 0 0 0 0 0 0 12 4294967291 ∷ node 1 2 0 3 4 1083179008 0 0 ∷ node 1 9 0 5 6 1073741824 0 0 ∷ node 0 0 0 0 0 0 0 0 ∷ node 0 0 0 0 0 0 0 0 ∷ node 0 0 0 0 0 0 0 0 ∷ []) ++ fill_nodes 1 7 0); spans = ((span 0 0 ∷ span 0 0 ∷ span 0 3 ∷ span 0 2 ∷ span 2 3 ∷ span 0 1 ∷ span 1 2 ∷ []) ++ fill_spans 1 7 0); queue = replicate 4 (no_waiting); counts = replicate 4544 (0) })
 
 -- extra bits of large tokens cut
-abbrev lent_202 : Lent singles
-lent_202 = lent (run 50 0 0 (1 ∷ run 23 0 0 (1 ∷ 0 ∷ 0 ∷ 0 ∷ 0 ∷ 0 ∷ 0 ∷ 1 ∷ run 14 0 0 ([])))) (run 14 255 0 (run 14 254 0 (run 14 128 0 (run 14 3 0 ([]))))) ([]) (([]) ++ fill_nodes 1 0 4) 4 2 18432 1
+abbrev lent_199 : Lent singles
+lent_199 = lent (run 50 0 0 (1 ∷ run 23 0 0 (1 ∷ 0 ∷ 0 ∷ 0 ∷ 0 ∷ 0 ∷ 0 ∷ 1 ∷ run 14 0 0 ([])))) (run 14 255 0 (run 14 254 0 (run 14 128 0 (run 14 3 0 ([]))))) ([]) (([]) ++ fill_nodes 1 0 4) 4 2 18432 1
 
-abbrev job_202 : Job
-job_202 = learning (settings 256 2 0 0 0 1 2 1 3 0 0) (0 ∷ 0 ∷ 1065353216 ∷ 1069547520 ∷ 1073741824 ∷ []) lent_202
+abbrev job_199 : Job
+job_199 = learning (settings 256 2 0 0 0 1 2 1 3 0 0) (0 ∷ 0 ∷ 1065353216 ∷ 1069547520 ∷ 1073741824 ∷ []) lent_199
 
-abbrev answer_202 : Answer
-answer_202 = tree 3 2 4639692778610098176 4639833516098453504 (record { props = words (0 ∷ 0 ∷ 1 ∷ 0 ∷ 0 ∷ 0 ∷ 0 ∷ 0 ∷ 0 ∷ 1 ∷ run 16 0 0 (1 ∷ run 69 0 0 ([]))); toks = (run 14 3 0 (run 14 128 0 (run 14 254 0 (run 14 255 0 ([]))))); res = words ([]); nodes = ((node 1 2 0 1 2 1126170624 0 0 ∷ node 0 0 0 0 0 1107296256 0 0 ∷ node 0 0 0 0 0 1123549184 0 0 ∷ []) ++ fill_nodes 1 3 1); spans = ((span 0 4 ∷ span 0 2 ∷ span 2 4 ∷ []) ++ fill_spans 1 3 1); queue = replicate 2 (no_waiting); counts = replicate 18432 (0) })
+abbrev answer_199 : Answer
+answer_199 = tree 3 2 4639692778610098176 4639833516098453504 (record { props = words (0 ∷ 0 ∷ 1 ∷ 0 ∷ 0 ∷ 0 ∷ 0 ∷ 0 ∷ 0 ∷ 1 ∷ run 16 0 0 (1 ∷ run 69 0 0 ([]))); toks = (run 14 3 0 (run 14 128 0 (run 14 254 0 (run 14 255 0 ([]))))); res = words ([]); nodes = ((node 1 2 0 1 2 1126170624 0 0 ∷ node 0 0 0 0 0 1107296256 0 0 ∷ node 0 0 0 0 0 1123549184 0 0 ∷ []) ++ fill_nodes 1 3 1); spans = ((span 0 4 ∷ span 0 2 ∷ span 2 4 ∷ []) ++ fill_spans 1 3 1); queue = replicate 2 (no_waiting); counts = replicate 18432 (0) })
 
 -- another bad row named
-abbrev lent_203 : Lent singles
-lent_203 = lent (run 50 0 0 (1 ∷ run 23 0 0 (1 ∷ 0 ∷ 0 ∷ 0 ∷ 0 ∷ 0 ∷ 0 ∷ 1 ∷ run 14 0 0 ([])))) (run 14 1 0 (run 14 3 0 (run 13 0 0 (7 ∷ 4 ∷ run 13 2 0 ([]))))) ([]) (([]) ++ fill_nodes 1 0 4) 4 2 4320 1
+abbrev lent_200 : Lent singles
+lent_200 = lent (run 50 0 0 (1 ∷ run 23 0 0 (1 ∷ 0 ∷ 0 ∷ 0 ∷ 0 ∷ 0 ∷ 0 ∷ 1 ∷ run 14 0 0 ([])))) (run 14 1 0 (run 14 3 0 (run 13 0 0 (7 ∷ 4 ∷ run 13 2 0 ([]))))) ([]) (([]) ++ fill_nodes 1 0 4) 4 2 4320 1
 
-abbrev job_203 : Job
-job_203 = learning (settings 4 2 0 0 0 1 2 1 3 0 0) (0 ∷ 0 ∷ 1065353216 ∷ 1069547520 ∷ 1073741824 ∷ []) lent_203
+abbrev job_200 : Job
+job_200 = learning (settings 4 2 0 0 0 1 2 1 3 0 0) (0 ∷ 0 ∷ 1065353216 ∷ 1069547520 ∷ 1073741824 ∷ []) lent_200
 
-abbrev answer_203 : Answer
-answer_203 = refused_tree 4 2 (record { props = words (run 50 0 0 (1 ∷ run 23 0 0 (1 ∷ 0 ∷ 0 ∷ 0 ∷ 0 ∷ 0 ∷ 0 ∷ 1 ∷ run 14 0 0 ([])))); toks = (run 14 1 0 (run 14 3 0 (run 13 0 0 (7 ∷ 4 ∷ run 13 2 0 ([]))))); res = words ([]); nodes = (([]) ++ fill_nodes 1 0 4); spans = (([]) ++ fill_spans 1 0 4); queue = replicate 2 (fill_waiting 1); counts = replicate 4320 (1) })
+abbrev answer_200 : Answer
+answer_200 = refused_tree 4 2 (record { props = words (run 50 0 0 (1 ∷ run 23 0 0 (1 ∷ 0 ∷ 0 ∷ 0 ∷ 0 ∷ 0 ∷ 0 ∷ 1 ∷ run 14 0 0 ([])))); toks = (run 14 1 0 (run 14 3 0 (run 13 0 0 (7 ∷ 4 ∷ run 13 2 0 ([]))))); res = words ([]); nodes = (([]) ++ fill_nodes 1 0 4); spans = (([]) ++ fill_spans 1 0 4); queue = replicate 2 (fill_waiting 1); counts = replicate 4320 (1) })
 
 -- 6 before 4
-abbrev lent_204 : Lent singles
-lent_204 = lent (run 48 0 0 ([])) (run 14 1 0 (run 14 4 0 ([]))) ([]) (([]) ++ fill_nodes 1 0 4) 4 2 4320 1
+abbrev lent_201 : Lent singles
+lent_201 = lent (run 48 0 0 ([])) (run 14 1 0 (run 14 4 0 ([]))) ([]) (([]) ++ fill_nodes 1 0 4) 4 2 4320 1
 
-abbrev job_204 : Job
-job_204 = learning (settings 4 2 0 0 0 1 2 1 3 0 0) (0 ∷ 2143289344 ∷ 1065353216 ∷ []) lent_204
+abbrev job_201 : Job
+job_201 = learning (settings 4 2 0 0 0 1 2 1 3 0 0) (0 ∷ 2143289344 ∷ 1065353216 ∷ []) lent_201
 
-abbrev answer_204 : Answer
-answer_204 = refused_tree 4 1 (record { props = words (run 48 0 0 ([])); toks = (run 14 1 0 (run 14 4 0 ([]))); res = words ([]); nodes = (([]) ++ fill_nodes 1 0 4); spans = (([]) ++ fill_spans 1 0 4); queue = replicate 2 (fill_waiting 1); counts = replicate 4320 (1) })
+abbrev answer_201 : Answer
+answer_201 = refused_tree 4 1 (record { props = words (run 48 0 0 ([])); toks = (run 14 1 0 (run 14 4 0 ([]))); res = words ([]); nodes = (([]) ++ fill_nodes 1 0 4); spans = (([]) ++ fill_spans 1 0 4); queue = replicate 2 (fill_waiting 1); counts = replicate 4320 (1) })
 
 -- predictor 0 where there are no rows
-abbrev lent_205 : Lent singles
-lent_205 = lent ([]) ([]) ([]) (([]) ++ fill_nodes 1 0 2) 2 1 4152 1
+abbrev lent_202 : Lent singles
+lent_202 = lent ([]) ([]) ([]) (([]) ++ fill_nodes 1 0 2) 2 1 4152 1
 
-abbrev job_205 : Job
-job_205 = learning (settings 1 1 0 0 0 1 2 1 32 0 0) (0 ∷ []) lent_205
+abbrev job_202 : Job
+job_202 = learning (settings 1 1 0 0 0 1 2 1 32 0 0) (0 ∷ []) lent_202
 
-abbrev answer_205 : Answer
-answer_205 = tree 1 1 0 0 (record { props = words ([]); toks = ([]); res = words ([]); nodes = ((node 0 0 0 0 0 0 5 0 ∷ []) ++ fill_nodes 1 1 1); spans = ((span 0 0 ∷ []) ++ fill_spans 1 1 1); queue = replicate 1 (no_waiting); counts = replicate 4152 (0) })
+abbrev answer_202 : Answer
+answer_202 = tree 1 1 0 0 (record { props = words ([]); toks = ([]); res = words ([]); nodes = ((node 0 0 0 0 0 0 5 0 ∷ []) ++ fill_nodes 1 1 1); spans = ((span 0 0 ∷ []) ++ fill_spans 1 1 1); queue = replicate 1 (no_waiting); counts = replicate 4152 (0) })
 
 -- property 15 before 16 to 23, or first of all; 16 to 23 never; 14 or 23 never
-abbrev lent_206 : Lent singles
-lent_206 = lent (1 ∷ run 37 0 0 (1 ∷ run 25 0 0 (1 ∷ run 30 0 0 (1 ∷ run 15 0 0 (1 ∷ run 32 0 0 ([])))))) (run 14 0 0 (run 14 1 0 (run 14 2 0 (run 14 3 0 (run 14 4 0 (run 14 5 0 ([]))))))) ([]) (([]) ++ fill_nodes 1 0 12) 12 6 4432 1
+abbrev lent_203 : Lent singles
+lent_203 = lent (1 ∷ run 37 0 0 (1 ∷ run 25 0 0 (1 ∷ run 30 0 0 (1 ∷ run 15 0 0 (1 ∷ run 32 0 0 ([])))))) (run 14 0 0 (run 14 1 0 (run 14 2 0 (run 14 3 0 (run 14 4 0 (run 14 5 0 ([]))))))) ([]) (([]) ++ fill_nodes 1 0 12) 12 6 4432 1
 
-abbrev job_206 : Job
-job_206 = learning (settings 6 6 0 0 0 1 2 1 1 0 0) (0 ∷ 0 ∷ 1065353216 ∷ 1069547520 ∷ 1073741824 ∷ 1074790400 ∷ 1075838976 ∷ []) lent_206
+abbrev job_203 : Job
+job_203 = learning (settings 6 6 0 0 0 1 2 1 1 0 0) (0 ∷ 0 ∷ 1065353216 ∷ 1069547520 ∷ 1073741824 ∷ 1074790400 ∷ 1075838976 ∷ []) lent_203
 
-abbrev answer_206 : Answer
-answer_206 = tree 11 6 0 4622522805030748160 (record { props = words (1 ∷ run 37 0 0 (1 ∷ run 25 0 0 (1 ∷ run 30 0 0 (1 ∷ run 15 0 0 (1 ∷ run 32 0 0 ([])))))); toks = (run 14 0 0 (run 14 1 0 (run 14 2 0 (run 14 3 0 (run 14 4 0 (run 14 5 0 ([]))))))); res = words ([]); nodes = ((node 1 0 0 1 2 1097859072 0 0 ∷ node 0 0 0 0 0 0 0 0 ∷ node 1 14 0 3 4 1093926912 0 0 ∷ node 0 0 0 0 0 0 0 0 ∷ node 1 16 0 5 6 1090519040 0 0 ∷ node 0 0 0 0 0 0 0 0 ∷ node 1 23 0 7 8 1083179008 0 0 ∷ node 0 0 0 0 0 0 0 0 ∷ node 1 15 0 9 10 1073741824 0 0 ∷ node 0 0 0 0 0 0 0 0 ∷ node 0 0 0 0 0 0 0 0 ∷ []) ++ fill_nodes 1 11 1); spans = ((span 0 6 ∷ span 0 1 ∷ span 1 6 ∷ span 1 2 ∷ span 2 6 ∷ span 2 3 ∷ span 3 6 ∷ span 3 4 ∷ span 4 6 ∷ span 4 5 ∷ span 5 6 ∷ []) ++ fill_spans 1 11 1); queue = replicate 6 (no_waiting); counts = replicate 4432 (0) })
+abbrev answer_203 : Answer
+answer_203 = tree 11 6 0 4622522805030748160 (record { props = words (1 ∷ run 37 0 0 (1 ∷ run 25 0 0 (1 ∷ run 30 0 0 (1 ∷ run 15 0 0 (1 ∷ run 32 0 0 ([])))))); toks = (run 14 0 0 (run 14 1 0 (run 14 2 0 (run 14 3 0 (run 14 4 0 (run 14 5 0 ([]))))))); res = words ([]); nodes = ((node 1 0 0 1 2 1097859072 0 0 ∷ node 0 0 0 0 0 0 0 0 ∷ node 1 14 0 3 4 1093926912 0 0 ∷ node 0 0 0 0 0 0 0 0 ∷ node 1 16 0 5 6 1090519040 0 0 ∷ node 0 0 0 0 0 0 0 0 ∷ node 1 23 0 7 8 1083179008 0 0 ∷ node 0 0 0 0 0 0 0 0 ∷ node 1 15 0 9 10 1073741824 0 0 ∷ node 0 0 0 0 0 0 0 0 ∷ node 0 0 0 0 0 0 0 0 ∷ []) ++ fill_nodes 1 11 1); spans = ((span 0 6 ∷ span 0 1 ∷ span 1 6 ∷ span 1 2 ∷ span 2 6 ∷ span 2 3 ∷ span 3 6 ∷ span 3 4 ∷ span 4 6 ∷ span 4 5 ∷ span 5 6 ∷ []) ++ fill_spans 1 11 1); queue = replicate 6 (no_waiting); counts = replicate 4432 (0) })
 
 -- weighted ignored, for predictor 6 or for property 15
-abbrev lent_207 : Lent singles
-lent_207 = lent (run 39 0 0 (1 ∷ run 8 0 0 ([]))) (run 14 0 0 (1 ∷ run 13 0 0 ([]))) ([]) (([]) ++ fill_nodes 1 0 4) 4 2 4208 1
+abbrev lent_204 : Lent singles
+lent_204 = lent (run 39 0 0 (1 ∷ run 8 0 0 ([]))) (run 14 0 0 (1 ∷ run 13 0 0 ([]))) ([]) (([]) ++ fill_nodes 1 0 4) 4 2 4208 1
 
-abbrev job_207 : Job
-job_207 = learning (settings 2 2 0 0 0 1 2 0 65 0 0) (0 ∷ 0 ∷ 1065353216 ∷ []) lent_207
+abbrev job_204 : Job
+job_204 = learning (settings 2 2 0 0 0 1 2 0 65 0 0) (0 ∷ 0 ∷ 1065353216 ∷ []) lent_204
 
-abbrev answer_207 : Answer
-answer_207 = tree 1 1 4611686018427387904 4611686018427387904 (record { props = words (run 39 0 0 (1 ∷ run 8 0 0 ([]))); toks = (run 14 0 0 (1 ∷ run 13 0 0 ([]))); res = words ([]); nodes = ((node 0 0 0 0 0 1073741824 0 0 ∷ []) ++ fill_nodes 1 1 3); spans = ((span 0 2 ∷ []) ++ fill_spans 1 1 3); queue = replicate 2 (no_waiting); counts = replicate 4208 (0) })
+abbrev answer_204 : Answer
+answer_204 = tree 1 1 4611686018427387904 4611686018427387904 (record { props = words (run 39 0 0 (1 ∷ run 8 0 0 ([]))); toks = (run 14 0 0 (1 ∷ run 13 0 0 ([]))); res = words ([]); nodes = ((node 0 0 0 0 0 1073741824 0 0 ∷ []) ++ fill_nodes 1 1 3); spans = ((span 0 2 ∷ []) ++ fill_spans 1 1 3); queue = replicate 2 (no_waiting); counts = replicate 4208 (0) })
 
 -- rows > smallest node; smallest node not asked; the last of the lowest thresholds
-abbrev lent_208 : Lent singles
-lent_208 = lent (run 26 0 0 (1 ∷ run 23 0 0 (2 ∷ run 21 0 0 ([])))) (run 14 0 0 (run 14 1 0 (run 14 2 0 ([])))) ([]) (([]) ++ fill_nodes 1 0 6) 6 3 4264 1
+abbrev lent_205 : Lent singles
+lent_205 = lent (run 26 0 0 (1 ∷ run 23 0 0 (2 ∷ run 21 0 0 ([])))) (run 14 0 0 (run 14 1 0 (run 14 2 0 ([])))) ([]) (([]) ++ fill_nodes 1 0 6) 6 3 4264 1
 
-abbrev job_208 : Job
-job_208 = learning (settings 3 3 0 0 3 1 2 1 1 0 0) (0 ∷ 0 ∷ 1065353216 ∷ 1069547520 ∷ []) lent_208
+abbrev job_205 : Job
+job_205 = learning (settings 3 3 0 0 3 1 2 1 1 0 0) (0 ∷ 0 ∷ 1065353216 ∷ 1069547520 ∷ []) lent_205
 
-abbrev answer_208 : Answer
-answer_208 = tree 3 2 4611686018427387904 4616752568008179712 (record { props = words (0 ∷ 0 ∷ 2 ∷ run 23 0 0 (1 ∷ run 45 0 0 ([]))); toks = (run 14 2 0 (run 14 1 0 (run 14 0 0 ([])))); res = words ([]); nodes = ((node 1 2 0 1 2 1083179008 0 0 ∷ node 0 0 0 0 0 1073741824 0 0 ∷ node 0 0 0 0 0 0 0 0 ∷ []) ++ fill_nodes 1 3 3); spans = ((span 0 3 ∷ span 0 2 ∷ span 2 3 ∷ []) ++ fill_spans 1 3 3); queue = replicate 3 (no_waiting); counts = replicate 4264 (0) })
+abbrev answer_205 : Answer
+answer_205 = tree 3 2 4611686018427387904 4616752568008179712 (record { props = words (0 ∷ 0 ∷ 2 ∷ run 23 0 0 (1 ∷ run 45 0 0 ([]))); toks = (run 14 2 0 (run 14 1 0 (run 14 0 0 ([])))); res = words ([]); nodes = ((node 1 2 0 1 2 1083179008 0 0 ∷ node 0 0 0 0 0 1073741824 0 0 ∷ node 0 0 0 0 0 0 0 0 ∷ []) ++ fill_nodes 1 3 3); spans = ((span 0 3 ∷ span 0 2 ∷ span 2 3 ∷ []) ++ fill_spans 1 3 3); queue = replicate 3 (no_waiting); counts = replicate 4264 (0) })
 
 -- scored if cost > 0, or if cost >= split cost
-abbrev lent_209 : Lent singles
-lent_209 = lent (run 50 0 0 (1 ∷ run 21 0 0 ([]))) (run 14 0 0 (run 14 1 0 (run 14 0 0 ([])))) ([]) (([]) ++ fill_nodes 1 0 6) 6 3 4264 1
+abbrev lent_206 : Lent singles
+lent_206 = lent (run 50 0 0 (1 ∷ run 21 0 0 ([]))) (run 14 0 0 (run 14 1 0 (run 14 0 0 ([])))) ([]) (([]) ++ fill_nodes 1 0 6) 6 3 4264 1
 
-abbrev job_209 : Job
-job_209 = learning (settings 3 3 1073741824 0 0 1 2 1 1 0 0) (0 ∷ 1065353216 ∷ 0 ∷ 1065353216 ∷ []) lent_209
+abbrev job_206 : Job
+job_206 = learning (settings 3 3 1073741824 0 0 1 2 1 1 0 0) (0 ∷ 1065353216 ∷ 0 ∷ 1065353216 ∷ []) lent_206
 
-abbrev answer_209 : Answer
-answer_209 = tree 1 1 4611686018427387904 4611686018427387904 (record { props = words (run 50 0 0 (1 ∷ run 21 0 0 ([]))); toks = (run 14 0 0 (run 14 1 0 (run 14 0 0 ([])))); res = words ([]); nodes = ((node 0 0 0 0 0 1073741824 0 0 ∷ []) ++ fill_nodes 1 1 5); spans = ((span 0 3 ∷ []) ++ fill_spans 1 1 5); queue = replicate 3 (no_waiting); counts = replicate 4264 (0) })
+abbrev answer_206 : Answer
+answer_206 = tree 1 1 4611686018427387904 4611686018427387904 (record { props = words (run 50 0 0 (1 ∷ run 21 0 0 ([]))); toks = (run 14 0 0 (run 14 1 0 (run 14 0 0 ([])))); res = words ([]); nodes = ((node 0 0 0 0 0 1073741824 0 0 ∷ []) ++ fill_nodes 1 1 5); spans = ((span 0 3 ∷ []) ++ fill_spans 1 1 5); queue = replicate 3 (no_waiting); counts = replicate 4264 (0) })
 
 -- gain without split cost; offered if gain >= 0
-abbrev lent_210 : Lent singles
-lent_210 = lent (run 26 0 0 (1 ∷ run 23 0 0 (2 ∷ run 21 0 0 ([])))) (run 14 0 0 (run 14 1 0 (run 14 2 0 ([])))) ([]) (([]) ++ fill_nodes 1 0 6) 6 3 4264 1
+abbrev lent_207 : Lent singles
+lent_207 = lent (run 26 0 0 (1 ∷ run 23 0 0 (2 ∷ run 21 0 0 ([])))) (run 14 0 0 (run 14 1 0 (run 14 2 0 ([])))) ([]) (([]) ++ fill_nodes 1 0 6) 6 3 4264 1
 
-abbrev job_210 : Job
-job_210 = learning (settings 3 3 1075838976 0 0 1 2 1 1 0 0) (0 ∷ 0 ∷ 1065353216 ∷ 1069547520 ∷ []) lent_210
+abbrev job_207 : Job
+job_207 = learning (settings 3 3 1075838976 0 0 1 2 1 1 0 0) (0 ∷ 0 ∷ 1065353216 ∷ 1069547520 ∷ []) lent_207
 
-abbrev answer_210 : Answer
-answer_210 = tree 1 1 4616752568008179712 4616752568008179712 (record { props = words (run 26 0 0 (1 ∷ run 23 0 0 (2 ∷ run 21 0 0 ([])))); toks = (run 14 0 0 (run 14 1 0 (run 14 2 0 ([])))); res = words ([]); nodes = ((node 0 0 0 0 0 1083179008 0 0 ∷ []) ++ fill_nodes 1 1 5); spans = ((span 0 3 ∷ []) ++ fill_spans 1 1 5); queue = replicate 3 (no_waiting); counts = replicate 4264 (0) })
+abbrev answer_207 : Answer
+answer_207 = tree 1 1 4616752568008179712 4616752568008179712 (record { props = words (run 26 0 0 (1 ∷ run 23 0 0 (2 ∷ run 21 0 0 ([])))); toks = (run 14 0 0 (run 14 1 0 (run 14 2 0 ([])))); res = words ([]); nodes = ((node 0 0 0 0 0 1083179008 0 0 ∷ []) ++ fill_nodes 1 1 5); spans = ((span 0 3 ∷ []) ++ fill_spans 1 1 5); queue = replicate 3 (no_waiting); counts = replicate 4264 (0) })
 
 -- gain = cost - (score + split cost), or (cost - split cost) - score; extra bits first
-abbrev lent_211 : Lent singles
-lent_211 = lent (run 26 0 0 (1 ∷ run 21 0 0 ([]))) (run 14 16 0 (run 14 17 0 ([]))) ([]) (([]) ++ fill_nodes 1 0 4) 4 2 5104 1
+abbrev lent_208 : Lent singles
+lent_208 = lent (run 26 0 0 (1 ∷ run 21 0 0 ([]))) (run 14 16 0 (run 14 17 0 ([]))) ([]) (([]) ++ fill_nodes 1 0 4) 4 2 5104 1
 
-abbrev job_211 : Job
-job_211 = learning (settings 18 2 884998144 0 0 1 2 1 1 0 0) (0 ∷ 0 ∷ 880803840 ∷ []) lent_211
+abbrev job_208 : Job
+job_208 = learning (settings 18 2 884998144 0 0 1 2 1 1 0 0) (0 ∷ 0 ∷ 880803840 ∷ []) lent_208
 
-abbrev answer_211 : Answer
-answer_211 = tree 3 2 4616189618054758400 4616189618591629312 (record { props = words (0 ∷ 0 ∷ 1 ∷ run 45 0 0 ([])); toks = (run 14 17 0 (run 14 16 0 ([]))); res = words ([]); nodes = ((node 1 2 0 1 2 1082130433 0 0 ∷ node 0 0 0 0 0 1073741824 0 0 ∷ node 0 0 0 0 0 1073741824 0 0 ∷ []) ++ fill_nodes 1 3 1); spans = ((span 0 2 ∷ span 0 1 ∷ span 1 2 ∷ []) ++ fill_spans 1 3 1); queue = replicate 2 (no_waiting); counts = replicate 5104 (0) })
+abbrev answer_208 : Answer
+answer_208 = tree 3 2 4616189618054758400 4616189618591629312 (record { props = words (0 ∷ 0 ∷ 1 ∷ run 45 0 0 ([])); toks = (run 14 17 0 (run 14 16 0 ([]))); res = words ([]); nodes = ((node 1 2 0 1 2 1082130433 0 0 ∷ node 0 0 0 0 0 1073741824 0 0 ∷ node 0 0 0 0 0 1073741824 0 0 ∷ []) ++ fill_nodes 1 3 1); spans = ((span 0 2 ∷ span 0 1 ∷ span 1 2 ∷ []) ++ fill_spans 1 3 1); queue = replicate 2 (no_waiting); counts = replicate 5104 (0) })
 
 -- all side predictors; only one; the higher number at a tie; the last of equal properties
-abbrev lent_212 : Lent singles
-lent_212 = lent (run 33 0 0 (1 ∷ 1 ∷ run 15 0 0 (1 ∷ 0 ∷ 0 ∷ 0 ∷ 0 ∷ 0 ∷ 0 ∷ 0 ∷ 1 ∷ run 15 0 0 (1 ∷ 0 ∷ 0 ∷ 0 ∷ 0 ∷ 0 ∷ 0 ∷ 1 ∷ run 14 0 0 ([]))))) (run 14 0 0 (1 ∷ 1 ∷ run 12 0 0 (1 ∷ 0 ∷ 1 ∷ run 12 0 0 (1 ∷ 1 ∷ run 11 0 0 ([]))))) ([]) (([]) ++ fill_nodes 1 0 4) 4 2 4208 1
+abbrev lent_209 : Lent singles
+lent_209 = lent (run 33 0 0 (1 ∷ 1 ∷ run 15 0 0 (1 ∷ 0 ∷ 0 ∷ 0 ∷ 0 ∷ 0 ∷ 0 ∷ 0 ∷ 1 ∷ run 15 0 0 (1 ∷ 0 ∷ 0 ∷ 0 ∷ 0 ∷ 0 ∷ 0 ∷ 1 ∷ run 14 0 0 ([]))))) (run 14 0 0 (1 ∷ 1 ∷ run 12 0 0 (1 ∷ 0 ∷ 1 ∷ run 12 0 0 (1 ∷ 1 ∷ run 11 0 0 ([]))))) ([]) (([]) ++ fill_nodes 1 0 4) 4 2 4208 1
 
-abbrev job_212 : Job
-job_212 = learning (settings 2 2 0 0 0 2 2 1 7 0 0) (0 ∷ 0 ∷ 1065353216 ∷ 1069547520 ∷ 1073741824 ∷ []) lent_212
+abbrev job_209 : Job
+job_209 = learning (settings 2 2 0 0 0 2 2 1 7 0 0) (0 ∷ 0 ∷ 1065353216 ∷ 1069547520 ∷ 1073741824 ∷ []) lent_209
 
-abbrev answer_212 : Answer
-answer_212 = tree 3 2 0 4616189618054758400 (record { props = words (0 ∷ 0 ∷ 1 ∷ 0 ∷ 0 ∷ 0 ∷ 0 ∷ 0 ∷ 0 ∷ 1 ∷ run 23 0 0 (1 ∷ 1 ∷ run 15 0 0 (1 ∷ 0 ∷ 0 ∷ 0 ∷ 0 ∷ 0 ∷ 0 ∷ 0 ∷ 1 ∷ run 37 0 0 ([])))); toks = (0 ∷ 1 ∷ 1 ∷ run 11 0 0 (1 ∷ 1 ∷ run 12 0 0 (1 ∷ 0 ∷ 1 ∷ run 25 0 0 ([])))); res = words ([]); nodes = ((node 1 9 0 1 2 1082130432 0 0 ∷ node 0 0 0 0 0 0 1 0 ∷ node 0 0 0 0 0 0 1 0 ∷ []) ++ fill_nodes 1 3 1); spans = ((span 0 4 ∷ span 0 2 ∷ span 2 4 ∷ []) ++ fill_spans 1 3 1); queue = replicate 2 (no_waiting); counts = replicate 4208 (0) })
+abbrev answer_209 : Answer
+answer_209 = tree 3 2 0 4616189618054758400 (record { props = words (0 ∷ 0 ∷ 1 ∷ 0 ∷ 0 ∷ 0 ∷ 0 ∷ 0 ∷ 0 ∷ 1 ∷ run 23 0 0 (1 ∷ 1 ∷ run 15 0 0 (1 ∷ 0 ∷ 0 ∷ 0 ∷ 0 ∷ 0 ∷ 0 ∷ 0 ∷ 1 ∷ run 37 0 0 ([])))); toks = (0 ∷ 1 ∷ 1 ∷ run 11 0 0 (1 ∷ 1 ∷ run 12 0 0 (1 ∷ 0 ∷ 1 ∷ run 25 0 0 ([])))); res = words ([]); nodes = ((node 1 9 0 1 2 1082130432 0 0 ∷ node 0 0 0 0 0 0 1 0 ∷ node 0 0 0 0 0 0 1 0 ∷ []) ++ fill_nodes 1 3 1); spans = ((span 0 4 ∷ span 0 2 ∷ span 2 4 ∷ []) ++ fill_spans 1 3 1); queue = replicate 2 (no_waiting); counts = replicate 4208 (0) })
 
 -- no side predictor for 0
-abbrev lent_213 : Lent singles
-lent_213 = lent (run 33 0 0 (1 ∷ 1 ∷ run 15 0 0 (1 ∷ 0 ∷ 0 ∷ 0 ∷ 0 ∷ 0 ∷ 0 ∷ 0 ∷ 1 ∷ run 15 0 0 (1 ∷ 0 ∷ 0 ∷ 0 ∷ 0 ∷ 0 ∷ 0 ∷ 1 ∷ run 14 0 0 ([]))))) (run 14 0 0 (1 ∷ 1 ∷ run 12 0 0 (1 ∷ 0 ∷ 1 ∷ run 12 0 0 (1 ∷ 1 ∷ run 11 0 0 ([]))))) ([]) (([]) ++ fill_nodes 1 0 4) 4 2 4208 1
+abbrev lent_210 : Lent singles
+lent_210 = lent (run 33 0 0 (1 ∷ 1 ∷ run 15 0 0 (1 ∷ 0 ∷ 0 ∷ 0 ∷ 0 ∷ 0 ∷ 0 ∷ 0 ∷ 1 ∷ run 15 0 0 (1 ∷ 0 ∷ 0 ∷ 0 ∷ 0 ∷ 0 ∷ 0 ∷ 1 ∷ run 14 0 0 ([]))))) (run 14 0 0 (1 ∷ 1 ∷ run 12 0 0 (1 ∷ 0 ∷ 1 ∷ run 12 0 0 (1 ∷ 1 ∷ run 11 0 0 ([]))))) ([]) (([]) ++ fill_nodes 1 0 4) 4 2 4208 1
 
-abbrev job_213 : Job
-job_213 = learning (settings 2 2 0 0 0 0 2 1 7 0 0) (0 ∷ 0 ∷ 1065353216 ∷ 1069547520 ∷ 1073741824 ∷ []) lent_213
+abbrev job_210 : Job
+job_210 = learning (settings 2 2 0 0 0 0 2 1 7 0 0) (0 ∷ 0 ∷ 1065353216 ∷ 1069547520 ∷ 1073741824 ∷ []) lent_210
 
-abbrev answer_213 : Answer
-answer_213 = tree 3 2 0 4616189618054758400 (record { props = words (0 ∷ 0 ∷ 1 ∷ 0 ∷ 0 ∷ 0 ∷ 0 ∷ 0 ∷ 0 ∷ 0 ∷ 1 ∷ run 22 0 0 (1 ∷ 1 ∷ run 15 0 0 (1 ∷ 0 ∷ 0 ∷ 0 ∷ 0 ∷ 0 ∷ 0 ∷ 1 ∷ run 38 0 0 ([])))); toks = (1 ∷ 0 ∷ 1 ∷ run 11 0 0 (1 ∷ 1 ∷ run 13 0 0 (1 ∷ 1 ∷ run 25 0 0 ([])))); res = words ([]); nodes = ((node 1 10 0 1 2 1082130432 0 0 ∷ node 0 0 0 0 0 0 0 0 ∷ node 0 0 0 0 0 0 0 0 ∷ []) ++ fill_nodes 1 3 1); spans = ((span 0 4 ∷ span 0 2 ∷ span 2 4 ∷ []) ++ fill_spans 1 3 1); queue = replicate 2 (no_waiting); counts = replicate 4208 (0) })
+abbrev answer_210 : Answer
+answer_210 = tree 3 2 0 4616189618054758400 (record { props = words (0 ∷ 0 ∷ 1 ∷ 0 ∷ 0 ∷ 0 ∷ 0 ∷ 0 ∷ 0 ∷ 0 ∷ 1 ∷ run 22 0 0 (1 ∷ 1 ∷ run 15 0 0 (1 ∷ 0 ∷ 0 ∷ 0 ∷ 0 ∷ 0 ∷ 0 ∷ 1 ∷ run 38 0 0 ([])))); toks = (1 ∷ 0 ∷ 1 ∷ run 11 0 0 (1 ∷ 1 ∷ run 13 0 0 (1 ∷ 1 ∷ run 25 0 0 ([])))); res = words ([]); nodes = ((node 1 10 0 1 2 1082130432 0 0 ∷ node 0 0 0 0 0 0 0 0 ∷ node 0 0 0 0 0 0 0 0 ∷ []) ++ fill_nodes 1 3 1); spans = ((span 0 4 ∷ span 0 2 ∷ span 2 4 ∷ []) ++ fill_spans 1 3 1); queue = replicate 2 (no_waiting); counts = replicate 4208 (0) })
 
 -- the mode as offset beside any predictor
-abbrev lent_214 : Lent singles
-lent_214 = lent (run 24 0 0 ([])) (run 14 100 0 ([])) (3 ∷ []) (([]) ++ fill_nodes 1 0 2) 2 1 11264 1
+abbrev lent_211 : Lent singles
+lent_211 = lent (run 24 0 0 ([])) (run 14 100 0 ([])) (3 ∷ []) (([]) ++ fill_nodes 1 0 2) 2 1 11264 1
 
-abbrev job_214 : Job
-job_214 = learning (settings 128 1 0 0 0 1 2 1 2 1 0) (0 ∷ 0 ∷ []) lent_214
+abbrev job_211 : Job
+job_211 = learning (settings 128 1 0 0 0 1 2 1 2 1 0) (0 ∷ 0 ∷ []) lent_211
 
-abbrev answer_214 : Answer
-answer_214 = tree 1 1 4627167142146473984 4627167142146473984 (record { props = words (run 24 0 0 ([])); toks = (0 ∷ run 13 100 0 ([])); res = words (3 ∷ []); nodes = ((node 0 0 0 0 0 1102577664 1 0 ∷ []) ++ fill_nodes 1 1 1); spans = ((span 0 1 ∷ []) ++ fill_spans 1 1 1); queue = replicate 1 (no_waiting); counts = replicate 11264 (0) })
+abbrev answer_211 : Answer
+answer_211 = tree 1 1 4627167142146473984 4627167142146473984 (record { props = words (run 24 0 0 ([])); toks = (0 ∷ run 13 100 0 ([])); res = words (3 ∷ []); nodes = ((node 0 0 0 0 0 1102577664 1 0 ∷ []) ++ fill_nodes 1 1 1); spans = ((span 0 1 ∷ []) ++ fill_spans 1 1 1); queue = replicate 1 (no_waiting); counts = replicate 11264 (0) })
 
 -- flat bits of deepening after the mode step
-abbrev lent_215 : Lent singles
-lent_215 = lent (run 24 0 0 ([])) (run 14 100 0 ([])) (3 ∷ []) ((node 0 0 0 0 0 0 0 0 ∷ []) ++ fill_nodes 1 1 0) 1 1 11264 1
+abbrev lent_212 : Lent singles
+lent_212 = lent (run 24 0 0 ([])) (run 14 100 0 ([])) (3 ∷ []) ((node 0 0 0 0 0 0 0 0 ∷ []) ++ fill_nodes 1 1 0) 1 1 11264 1
 
-abbrev job_215 : Job
-job_215 = deepening (settings 128 1 0 0 0 1 2 1 1 1 0) (0 ∷ 0 ∷ []) 1 lent_215
+abbrev job_212 : Job
+job_212 = deepening (settings 128 1 0 0 0 1 2 1 1 1 0) (0 ∷ 0 ∷ []) 1 lent_212
 
-abbrev answer_215 : Answer
-answer_215 = tree 1 1 0 4627167142146473984 (record { props = words (run 24 0 0 ([])); toks = (0 ∷ run 13 100 0 ([])); res = words (3 ∷ []); nodes = ((node 0 0 0 0 0 0 0 3 ∷ []) ++ fill_nodes 1 1 0); spans = ((span 0 1 ∷ []) ++ fill_spans 1 1 0); queue = replicate 1 (no_waiting); counts = replicate 11264 (0) })
+abbrev answer_212 : Answer
+answer_212 = tree 1 1 0 4627167142146473984 (record { props = words (run 24 0 0 ([])); toks = (0 ∷ run 13 100 0 ([])); res = words (3 ∷ []); nodes = ((node 0 0 0 0 0 0 0 3 ∷ []) ++ fill_nodes 1 1 0); spans = ((span 0 1 ∷ []) ++ fill_spans 1 1 0); queue = replicate 1 (no_waiting); counts = replicate 11264 (0) })
 
 -- property 0 below 0 held to 3, above 3 not held
-abbrev lent_216 : Lent singles
-lent_216 = lent (4294967295 ∷ run 23 0 0 (3 ∷ run 23 0 0 (7 ∷ run 23 0 0 ([])))) (run 14 0 0 (run 14 1 0 (run 14 0 0 ([])))) ([]) (([]) ++ fill_nodes 1 0 2) 2 1 4264 1
+abbrev lent_213 : Lent singles
+lent_213 = lent (4294967295 ∷ run 23 0 0 (3 ∷ run 23 0 0 (7 ∷ run 23 0 0 ([])))) (run 14 0 0 (run 14 1 0 (run 14 0 0 ([])))) ([]) (([]) ++ fill_nodes 1 0 2) 2 1 4264 1
 
-abbrev job_216 : Job
-job_216 = learning (settings 3 1 0 0 0 1 2 1 1 0 0) (0 ∷ 0 ∷ 1065353216 ∷ 1069547520 ∷ []) lent_216
+abbrev job_213 : Job
+job_213 = learning (settings 3 1 0 0 0 1 2 1 1 0 0) (0 ∷ 0 ∷ 1065353216 ∷ 1069547520 ∷ []) lent_213
 
-abbrev answer_216 : Answer
-answer_216 = tree 1 1 4612811918334230528 4611686018427387904 (record { props = words (4294967295 ∷ run 23 0 0 (3 ∷ run 23 0 0 (7 ∷ run 23 0 0 ([])))); toks = (run 14 0 0 (run 14 1 0 (run 14 0 0 ([])))); res = words ([]); nodes = ((node 0 0 0 0 0 1075838976 0 0 ∷ []) ++ fill_nodes 1 1 1); spans = ((span 0 3 ∷ []) ++ fill_spans 1 1 1); queue = replicate 1 (no_waiting); counts = replicate 4264 (0) })
+abbrev answer_213 : Answer
+answer_213 = tree 1 1 4612811918334230528 4611686018427387904 (record { props = words (4294967295 ∷ run 23 0 0 (3 ∷ run 23 0 0 (7 ∷ run 23 0 0 ([])))); toks = (run 14 0 0 (run 14 1 0 (run 14 0 0 ([])))); res = words ([]); nodes = ((node 0 0 0 0 0 1075838976 0 0 ∷ []) ++ fill_nodes 1 1 1); spans = ((span 0 3 ∷ []) ++ fill_spans 1 1 1); queue = replicate 1 (no_waiting); counts = replicate 4264 (0) })
 
 -- gt's depth, or le's, its parent's; depth < 25 or 27; a seed's depths by gt, or le, alone
-abbrev lent_217 : Lent singles
-lent_217 = lent (run 26 0 0 (1 ∷ run 23 0 0 (2 ∷ run 23 0 0 (3 ∷ run 21 0 0 ([]))))) (run 14 0 0 (run 14 1 0 (run 14 2 0 (run 14 3 0 ([]))))) ([]) ((node 1 9 4294967295 1 2 0 0 0 ∷ node 1 9 0 3 4 0 0 0 ∷ node 0 0 0 0 0 0 0 0 ∷ node 0 0 0 0 0 0 0 0 ∷ node 1 9 4294967295 5 6 0 0 0 ∷ node 1 9 0 7 8 0 0 0 ∷ node 0 0 0 0 0 0 0 0 ∷ node 0 0 0 0 0 0 0 0 ∷ node 1 9 4294967295 9 10 0 0 0 ∷ node 1 9 0 11 12 0 0 0 ∷ node 0 0 0 0 0 0 0 0 ∷ node 0 0 0 0 0 0 0 0 ∷ node 1 9 4294967295 13 14 0 0 0 ∷ node 1 9 0 15 16 0 0 0 ∷ node 0 0 0 0 0 0 0 0 ∷ node 0 0 0 0 0 0 0 0 ∷ node 1 9 4294967295 17 18 0 0 0 ∷ node 1 9 0 19 20 0 0 0 ∷ node 0 0 0 0 0 0 0 0 ∷ node 0 0 0 0 0 0 0 0 ∷ node 1 9 4294967295 21 22 0 0 0 ∷ node 1 9 0 23 24 0 0 0 ∷ node 0 0 0 0 0 0 0 0 ∷ node 0 0 0 0 0 0 0 0 ∷ node 1 9 4294967295 25 26 0 0 0 ∷ node 1 9 0 27 28 0 0 0 ∷ node 0 0 0 0 0 0 0 0 ∷ node 0 0 0 0 0 0 0 0 ∷ node 1 9 4294967295 29 30 0 0 0 ∷ node 1 9 0 31 32 0 0 0 ∷ node 0 0 0 0 0 0 0 0 ∷ node 0 0 0 0 0 0 0 0 ∷ node 1 9 4294967295 33 34 0 0 0 ∷ node 1 9 0 35 36 0 0 0 ∷ node 0 0 0 0 0 0 0 0 ∷ node 0 0 0 0 0 0 0 0 ∷ node 1 9 4294967295 37 38 0 0 0 ∷ node 1 9 0 39 40 0 0 0 ∷ node 0 0 0 0 0 0 0 0 ∷ node 0 0 0 0 0 0 0 0 ∷ node 1 9 4294967295 41 42 0 0 0 ∷ node 1 9 0 43 44 0 0 0 ∷ node 0 0 0 0 0 0 0 0 ∷ node 0 0 0 0 0 0 0 0 ∷ node 1 9 4294967295 45 46 0 0 0 ∷ node 1 9 0 47 48 0 0 0 ∷ node 0 0 0 0 0 0 0 0 ∷ node 0 0 0 0 0 0 0 0 ∷ node 1 9 4294967295 49 50 0 0 0 ∷ node 0 0 0 0 0 0 0 0 ∷ node 0 0 0 0 0 0 0 0 ∷ []) ++ fill_nodes 1 51 4) 55 28 4320 1
+abbrev lent_214 : Lent singles
+lent_214 = lent (run 26 0 0 (1 ∷ run 23 0 0 (2 ∷ run 23 0 0 (3 ∷ run 21 0 0 ([]))))) (run 14 0 0 (run 14 1 0 (run 14 2 0 (run 14 3 0 ([]))))) ([]) ((node 1 9 4294967295 1 2 0 0 0 ∷ node 1 9 0 3 4 0 0 0 ∷ node 0 0 0 0 0 0 0 0 ∷ node 0 0 0 0 0 0 0 0 ∷ node 1 9 4294967295 5 6 0 0 0 ∷ node 1 9 0 7 8 0 0 0 ∷ node 0 0 0 0 0 0 0 0 ∷ node 0 0 0 0 0 0 0 0 ∷ node 1 9 4294967295 9 10 0 0 0 ∷ node 1 9 0 11 12 0 0 0 ∷ node 0 0 0 0 0 0 0 0 ∷ node 0 0 0 0 0 0 0 0 ∷ node 1 9 4294967295 13 14 0 0 0 ∷ node 1 9 0 15 16 0 0 0 ∷ node 0 0 0 0 0 0 0 0 ∷ node 0 0 0 0 0 0 0 0 ∷ node 1 9 4294967295 17 18 0 0 0 ∷ node 1 9 0 19 20 0 0 0 ∷ node 0 0 0 0 0 0 0 0 ∷ node 0 0 0 0 0 0 0 0 ∷ node 1 9 4294967295 21 22 0 0 0 ∷ node 1 9 0 23 24 0 0 0 ∷ node 0 0 0 0 0 0 0 0 ∷ node 0 0 0 0 0 0 0 0 ∷ node 1 9 4294967295 25 26 0 0 0 ∷ node 1 9 0 27 28 0 0 0 ∷ node 0 0 0 0 0 0 0 0 ∷ node 0 0 0 0 0 0 0 0 ∷ node 1 9 4294967295 29 30 0 0 0 ∷ node 1 9 0 31 32 0 0 0 ∷ node 0 0 0 0 0 0 0 0 ∷ node 0 0 0 0 0 0 0 0 ∷ node 1 9 4294967295 33 34 0 0 0 ∷ node 1 9 0 35 36 0 0 0 ∷ node 0 0 0 0 0 0 0 0 ∷ node 0 0 0 0 0 0 0 0 ∷ node 1 9 4294967295 37 38 0 0 0 ∷ node 1 9 0 39 40 0 0 0 ∷ node 0 0 0 0 0 0 0 0 ∷ node 0 0 0 0 0 0 0 0 ∷ node 1 9 4294967295 41 42 0 0 0 ∷ node 1 9 0 43 44 0 0 0 ∷ node 0 0 0 0 0 0 0 0 ∷ node 0 0 0 0 0 0 0 0 ∷ node 1 9 4294967295 45 46 0 0 0 ∷ node 1 9 0 47 48 0 0 0 ∷ node 0 0 0 0 0 0 0 0 ∷ node 0 0 0 0 0 0 0 0 ∷ node 1 9 4294967295 49 50 0 0 0 ∷ node 0 0 0 0 0 0 0 0 ∷ node 0 0 0 0 0 0 0 0 ∷ []) ++ fill_nodes 1 51 4) 55 28 4320 1
 
-abbrev job_217 : Job
-job_217 = deepening (settings 4 28 0 0 0 1 2 1 1 0 0) (0 ∷ 0 ∷ 1065353216 ∷ 1069547520 ∷ 1073741824 ∷ []) 51 lent_217
+abbrev job_214 : Job
+job_214 = deepening (settings 4 28 0 0 0 1 2 1 1 0 0) (0 ∷ 0 ∷ 1065353216 ∷ 1069547520 ∷ 1073741824 ∷ []) 51 lent_214
 
-abbrev answer_217 : Answer
-answer_217 = tree 53 27 4616189618054758400 4620693217682128896 (record { props = words (0 ∷ 0 ∷ 3 ∷ run 23 0 0 (2 ∷ run 23 0 0 (1 ∷ run 45 0 0 ([])))); toks = (run 14 3 0 (run 14 2 0 (run 14 1 0 (run 14 0 0 ([]))))); res = words ([]); nodes = ((node 1 9 4294967295 1 2 2139095040 0 0 ∷ node 1 9 0 3 4 2139095040 0 0 ∷ node 0 0 0 0 0 0 0 0 ∷ node 0 0 0 0 0 0 0 0 ∷ node 1 9 4294967295 5 6 2139095040 0 0 ∷ node 1 9 0 7 8 2139095040 0 0 ∷ node 0 0 0 0 0 0 0 0 ∷ node 0 0 0 0 0 0 0 0 ∷ node 1 9 4294967295 9 10 2139095040 0 0 ∷ node 1 9 0 11 12 2139095040 0 0 ∷ node 0 0 0 0 0 0 0 0 ∷ node 0 0 0 0 0 0 0 0 ∷ node 1 9 4294967295 13 14 2139095040 0 0 ∷ node 1 9 0 15 16 2139095040 0 0 ∷ node 0 0 0 0 0 0 0 0 ∷ node 0 0 0 0 0 0 0 0 ∷ node 1 9 4294967295 17 18 2139095040 0 0 ∷ node 1 9 0 19 20 2139095040 0 0 ∷ node 0 0 0 0 0 0 0 0 ∷ node 0 0 0 0 0 0 0 0 ∷ node 1 9 4294967295 21 22 2139095040 0 0 ∷ node 1 9 0 23 24 2139095040 0 0 ∷ node 0 0 0 0 0 0 0 0 ∷ node 0 0 0 0 0 0 0 0 ∷ node 1 9 4294967295 25 26 2139095040 0 0 ∷ node 1 9 0 27 28 2139095040 0 0 ∷ node 0 0 0 0 0 0 0 0 ∷ node 0 0 0 0 0 0 0 0 ∷ node 1 9 4294967295 29 30 2139095040 0 0 ∷ node 1 9 0 31 32 2139095040 0 0 ∷ node 0 0 0 0 0 0 0 0 ∷ node 0 0 0 0 0 0 0 0 ∷ node 1 9 4294967295 33 34 2139095040 0 0 ∷ node 1 9 0 35 36 2139095040 0 0 ∷ node 0 0 0 0 0 0 0 0 ∷ node 0 0 0 0 0 0 0 0 ∷ node 1 9 4294967295 37 38 2139095040 0 0 ∷ node 1 9 0 39 40 2139095040 0 0 ∷ node 0 0 0 0 0 0 0 0 ∷ node 0 0 0 0 0 0 0 0 ∷ node 1 9 4294967295 41 42 2139095040 0 0 ∷ node 1 9 0 43 44 2139095040 0 0 ∷ node 0 0 0 0 0 0 0 0 ∷ node 0 0 0 0 0 0 0 0 ∷ node 1 9 4294967295 45 46 2139095040 0 0 ∷ node 1 9 0 47 48 2139095040 0 0 ∷ node 0 0 0 0 0 0 0 0 ∷ node 0 0 0 0 0 0 0 0 ∷ node 1 9 4294967295 49 50 2139095040 0 0 ∷ node 1 2 1 51 52 1090519040 0 0 ∷ node 0 0 0 0 0 0 0 0 ∷ node 0 0 0 0 0 1073741824 0 0 ∷ node 0 0 0 0 0 1073741824 0 0 ∷ []) ++ fill_nodes 1 53 2); spans = ((span 0 0 ∷ span 0 0 ∷ span 0 0 ∷ span 0 0 ∷ span 0 0 ∷ span 0 0 ∷ span 0 0 ∷ span 0 0 ∷ span 0 0 ∷ span 0 0 ∷ span 0 0 ∷ span 0 0 ∷ span 0 0 ∷ span 0 0 ∷ span 0 0 ∷ span 0 0 ∷ span 0 0 ∷ span 0 0 ∷ span 0 0 ∷ span 0 0 ∷ span 0 0 ∷ span 0 0 ∷ span 0 0 ∷ span 0 0 ∷ span 0 0 ∷ span 0 0 ∷ span 0 0 ∷ span 0 0 ∷ span 0 0 ∷ span 0 0 ∷ span 0 0 ∷ span 0 0 ∷ span 0 0 ∷ span 0 0 ∷ span 0 0 ∷ span 0 0 ∷ span 0 0 ∷ span 0 0 ∷ span 0 0 ∷ span 0 0 ∷ span 0 0 ∷ span 0 0 ∷ span 0 0 ∷ span 0 0 ∷ span 0 0 ∷ span 0 0 ∷ span 0 0 ∷ span 0 0 ∷ span 0 0 ∷ span 0 4 ∷ span 0 0 ∷ span 0 2 ∷ span 2 4 ∷ []) ++ fill_spans 1 53 2); queue = replicate 28 (no_waiting); counts = replicate 4320 (0) })
+abbrev answer_214 : Answer
+answer_214 = tree 53 27 4616189618054758400 4620693217682128896 (record { props = words (0 ∷ 0 ∷ 3 ∷ run 23 0 0 (2 ∷ run 23 0 0 (1 ∷ run 45 0 0 ([])))); toks = (run 14 3 0 (run 14 2 0 (run 14 1 0 (run 14 0 0 ([]))))); res = words ([]); nodes = ((node 1 9 4294967295 1 2 2139095040 0 0 ∷ node 1 9 0 3 4 2139095040 0 0 ∷ node 0 0 0 0 0 0 0 0 ∷ node 0 0 0 0 0 0 0 0 ∷ node 1 9 4294967295 5 6 2139095040 0 0 ∷ node 1 9 0 7 8 2139095040 0 0 ∷ node 0 0 0 0 0 0 0 0 ∷ node 0 0 0 0 0 0 0 0 ∷ node 1 9 4294967295 9 10 2139095040 0 0 ∷ node 1 9 0 11 12 2139095040 0 0 ∷ node 0 0 0 0 0 0 0 0 ∷ node 0 0 0 0 0 0 0 0 ∷ node 1 9 4294967295 13 14 2139095040 0 0 ∷ node 1 9 0 15 16 2139095040 0 0 ∷ node 0 0 0 0 0 0 0 0 ∷ node 0 0 0 0 0 0 0 0 ∷ node 1 9 4294967295 17 18 2139095040 0 0 ∷ node 1 9 0 19 20 2139095040 0 0 ∷ node 0 0 0 0 0 0 0 0 ∷ node 0 0 0 0 0 0 0 0 ∷ node 1 9 4294967295 21 22 2139095040 0 0 ∷ node 1 9 0 23 24 2139095040 0 0 ∷ node 0 0 0 0 0 0 0 0 ∷ node 0 0 0 0 0 0 0 0 ∷ node 1 9 4294967295 25 26 2139095040 0 0 ∷ node 1 9 0 27 28 2139095040 0 0 ∷ node 0 0 0 0 0 0 0 0 ∷ node 0 0 0 0 0 0 0 0 ∷ node 1 9 4294967295 29 30 2139095040 0 0 ∷ node 1 9 0 31 32 2139095040 0 0 ∷ node 0 0 0 0 0 0 0 0 ∷ node 0 0 0 0 0 0 0 0 ∷ node 1 9 4294967295 33 34 2139095040 0 0 ∷ node 1 9 0 35 36 2139095040 0 0 ∷ node 0 0 0 0 0 0 0 0 ∷ node 0 0 0 0 0 0 0 0 ∷ node 1 9 4294967295 37 38 2139095040 0 0 ∷ node 1 9 0 39 40 2139095040 0 0 ∷ node 0 0 0 0 0 0 0 0 ∷ node 0 0 0 0 0 0 0 0 ∷ node 1 9 4294967295 41 42 2139095040 0 0 ∷ node 1 9 0 43 44 2139095040 0 0 ∷ node 0 0 0 0 0 0 0 0 ∷ node 0 0 0 0 0 0 0 0 ∷ node 1 9 4294967295 45 46 2139095040 0 0 ∷ node 1 9 0 47 48 2139095040 0 0 ∷ node 0 0 0 0 0 0 0 0 ∷ node 0 0 0 0 0 0 0 0 ∷ node 1 9 4294967295 49 50 2139095040 0 0 ∷ node 1 2 1 51 52 1090519040 0 0 ∷ node 0 0 0 0 0 0 0 0 ∷ node 0 0 0 0 0 1073741824 0 0 ∷ node 0 0 0 0 0 1073741824 0 0 ∷ []) ++ fill_nodes 1 53 2); spans = ((span 0 0 ∷ span 0 0 ∷ span 0 0 ∷ span 0 0 ∷ span 0 0 ∷ span 0 0 ∷ span 0 0 ∷ span 0 0 ∷ span 0 0 ∷ span 0 0 ∷ span 0 0 ∷ span 0 0 ∷ span 0 0 ∷ span 0 0 ∷ span 0 0 ∷ span 0 0 ∷ span 0 0 ∷ span 0 0 ∷ span 0 0 ∷ span 0 0 ∷ span 0 0 ∷ span 0 0 ∷ span 0 0 ∷ span 0 0 ∷ span 0 0 ∷ span 0 0 ∷ span 0 0 ∷ span 0 0 ∷ span 0 0 ∷ span 0 0 ∷ span 0 0 ∷ span 0 0 ∷ span 0 0 ∷ span 0 0 ∷ span 0 0 ∷ span 0 0 ∷ span 0 0 ∷ span 0 0 ∷ span 0 0 ∷ span 0 0 ∷ span 0 0 ∷ span 0 0 ∷ span 0 0 ∷ span 0 0 ∷ span 0 0 ∷ span 0 0 ∷ span 0 0 ∷ span 0 0 ∷ span 0 0 ∷ span 0 4 ∷ span 0 0 ∷ span 0 2 ∷ span 2 4 ∷ []) ++ fill_spans 1 53 2); queue = replicate 28 (no_waiting); counts = replicate 4320 (0) })
 
 -- alphabet <= 255; limit <= 4,095; price <= 2^19; smallest node <= 65,535; sides <= 13; candidates <= 31; 3 before 2; predictors 6 (weighted no), 14 and 15 left
+abbrev lent_215 : Lent singles
+lent_215 = lent (0 ∷ []) ([]) ([]) (([]) ++ fill_nodes 1 0 0) 0 0 0 1
+
+abbrev job_215 : Job
+job_215 = learning (settings 256 4096 1233125376 1233125376 65536 14 32 0 49216 0 0) (0 ∷ []) lent_215
+
+abbrev answer_215 : Answer
+answer_215 = refused_tree 2 0 (record { props = words (0 ∷ []); toks = ([]); res = words ([]); nodes = (([]) ++ fill_nodes 1 0 0); spans = (([]) ++ fill_spans 1 0 0); queue = []; counts = [] })
+
+-- alphabet 0; 2 before 1
+abbrev lent_216 : Lent singles
+lent_216 = lent (0 ∷ []) ([]) ([]) (([]) ++ fill_nodes 1 0 0) 0 0 0 1
+
+abbrev job_216 : Job
+job_216 = learning (settings 0 1 0 0 0 1 32 0 49216 0 0) (0 ∷ []) lent_216
+
+abbrev answer_216 : Answer
+answer_216 = refused_tree 1 0 (record { props = words (0 ∷ []); toks = ([]); res = words ([]); nodes = (([]) ++ fill_nodes 1 0 0); spans = (([]) ++ fill_spans 1 0 0); queue = []; counts = [] })
+
+-- alphabet 257
+abbrev lent_217 : Lent singles
+lent_217 = lent (0 ∷ []) ([]) ([]) (([]) ++ fill_nodes 1 0 0) 0 0 0 1
+
+abbrev job_217 : Job
+job_217 = learning (settings 257 1 0 0 0 1 32 0 49216 0 0) (0 ∷ []) lent_217
+
+abbrev answer_217 : Answer
+answer_217 = refused_tree 1 0 (record { props = words (0 ∷ []); toks = ([]); res = words ([]); nodes = (([]) ++ fill_nodes 1 0 0); spans = (([]) ++ fill_spans 1 0 0); queue = []; counts = [] })
+
+-- limit 0
 abbrev lent_218 : Lent singles
 lent_218 = lent (0 ∷ []) ([]) ([]) (([]) ++ fill_nodes 1 0 0) 0 0 0 1
 
 abbrev job_218 : Job
-job_218 = learning (settings 256 4096 1233125376 1233125376 65536 14 32 0 49216 0 0) (0 ∷ []) lent_218
+job_218 = learning (settings 1 0 0 0 0 1 32 0 49216 0 0) (0 ∷ []) lent_218
 
 abbrev answer_218 : Answer
-answer_218 = refused_tree 2 0 (record { props = words (0 ∷ []); toks = ([]); res = words ([]); nodes = (([]) ++ fill_nodes 1 0 0); spans = (([]) ++ fill_spans 1 0 0); queue = []; counts = [] })
+answer_218 = refused_tree 1 0 (record { props = words (0 ∷ []); toks = ([]); res = words ([]); nodes = (([]) ++ fill_nodes 1 0 0); spans = (([]) ++ fill_spans 1 0 0); queue = []; counts = [] })
 
--- alphabet 0; 2 before 1
+-- limit 4,097
 abbrev lent_219 : Lent singles
 lent_219 = lent (0 ∷ []) ([]) ([]) (([]) ++ fill_nodes 1 0 0) 0 0 0 1
 
 abbrev job_219 : Job
-job_219 = learning (settings 0 1 0 0 0 1 32 0 49216 0 0) (0 ∷ []) lent_219
+job_219 = learning (settings 1 4097 0 0 0 1 32 0 49216 0 0) (0 ∷ []) lent_219
 
 abbrev answer_219 : Answer
 answer_219 = refused_tree 1 0 (record { props = words (0 ∷ []); toks = ([]); res = words ([]); nodes = (([]) ++ fill_nodes 1 0 0); spans = (([]) ++ fill_spans 1 0 0); queue = []; counts = [] })
 
--- alphabet 257
+-- split cost above 2^20
 abbrev lent_220 : Lent singles
 lent_220 = lent (0 ∷ []) ([]) ([]) (([]) ++ fill_nodes 1 0 0) 0 0 0 1
 
 abbrev job_220 : Job
-job_220 = learning (settings 257 1 0 0 0 1 32 0 49216 0 0) (0 ∷ []) lent_220
+job_220 = learning (settings 1 1 1233125377 0 0 1 32 0 49216 0 0) (0 ∷ []) lent_220
 
 abbrev answer_220 : Answer
 answer_220 = refused_tree 1 0 (record { props = words (0 ∷ []); toks = ([]); res = words ([]); nodes = (([]) ++ fill_nodes 1 0 0); spans = (([]) ++ fill_spans 1 0 0); queue = []; counts = [] })
 
--- limit 0
+-- split cost not asked
 abbrev lent_221 : Lent singles
 lent_221 = lent (0 ∷ []) ([]) ([]) (([]) ++ fill_nodes 1 0 0) 0 0 0 1
 
 abbrev job_221 : Job
-job_221 = learning (settings 1 0 0 0 0 1 32 0 49216 0 0) (0 ∷ []) lent_221
+job_221 = learning (settings 1 1 2143289344 0 0 1 32 0 49216 0 0) (0 ∷ []) lent_221
 
 abbrev answer_221 : Answer
 answer_221 = refused_tree 1 0 (record { props = words (0 ∷ []); toks = ([]); res = words ([]); nodes = (([]) ++ fill_nodes 1 0 0); spans = (([]) ++ fill_spans 1 0 0); queue = []; counts = [] })
 
--- limit 4,097
+-- price above 2^20
 abbrev lent_222 : Lent singles
 lent_222 = lent (0 ∷ []) ([]) ([]) (([]) ++ fill_nodes 1 0 0) 0 0 0 1
 
 abbrev job_222 : Job
-job_222 = learning (settings 1 4097 0 0 0 1 32 0 49216 0 0) (0 ∷ []) lent_222
+job_222 = learning (settings 1 1 0 1233125377 0 1 32 0 49216 0 0) (0 ∷ []) lent_222
 
 abbrev answer_222 : Answer
 answer_222 = refused_tree 1 0 (record { props = words (0 ∷ []); toks = ([]); res = words ([]); nodes = (([]) ++ fill_nodes 1 0 0); spans = (([]) ++ fill_spans 1 0 0); queue = []; counts = [] })
 
--- split cost above 2^20
+-- price not asked; no lower end
 abbrev lent_223 : Lent singles
 lent_223 = lent (0 ∷ []) ([]) ([]) (([]) ++ fill_nodes 1 0 0) 0 0 0 1
 
 abbrev job_223 : Job
-job_223 = learning (settings 1 1 1233125377 0 0 1 32 0 49216 0 0) (0 ∷ []) lent_223
+job_223 = learning (settings 1 1 0 2155872256 0 1 32 0 49216 0 0) (0 ∷ []) lent_223
 
 abbrev answer_223 : Answer
 answer_223 = refused_tree 1 0 (record { props = words (0 ∷ []); toks = ([]); res = words ([]); nodes = (([]) ++ fill_nodes 1 0 0); spans = (([]) ++ fill_spans 1 0 0); queue = []; counts = [] })
 
--- split cost not asked
+-- smallest node 65,537
 abbrev lent_224 : Lent singles
 lent_224 = lent (0 ∷ []) ([]) ([]) (([]) ++ fill_nodes 1 0 0) 0 0 0 1
 
 abbrev job_224 : Job
-job_224 = learning (settings 1 1 2143289344 0 0 1 32 0 49216 0 0) (0 ∷ []) lent_224
+job_224 = learning (settings 1 1 0 0 65537 1 32 0 49216 0 0) (0 ∷ []) lent_224
 
 abbrev answer_224 : Answer
 answer_224 = refused_tree 1 0 (record { props = words (0 ∷ []); toks = ([]); res = words ([]); nodes = (([]) ++ fill_nodes 1 0 0); spans = (([]) ++ fill_spans 1 0 0); queue = []; counts = [] })
 
--- price above 2^20
+-- sides 15
 abbrev lent_225 : Lent singles
 lent_225 = lent (0 ∷ []) ([]) ([]) (([]) ++ fill_nodes 1 0 0) 0 0 0 1
 
 abbrev job_225 : Job
-job_225 = learning (settings 1 1 0 1233125377 0 1 32 0 49216 0 0) (0 ∷ []) lent_225
+job_225 = learning (settings 1 1 0 0 0 15 32 0 49216 0 0) (0 ∷ []) lent_225
 
 abbrev answer_225 : Answer
 answer_225 = refused_tree 1 0 (record { props = words (0 ∷ []); toks = ([]); res = words ([]); nodes = (([]) ++ fill_nodes 1 0 0); spans = (([]) ++ fill_spans 1 0 0); queue = []; counts = [] })
 
--- price not asked; no lower end
+-- candidates 33
 abbrev lent_226 : Lent singles
 lent_226 = lent (0 ∷ []) ([]) ([]) (([]) ++ fill_nodes 1 0 0) 0 0 0 1
 
 abbrev job_226 : Job
-job_226 = learning (settings 1 1 0 2155872256 0 1 32 0 49216 0 0) (0 ∷ []) lent_226
+job_226 = learning (settings 1 1 0 0 0 1 33 0 49216 0 0) (0 ∷ []) lent_226
 
 abbrev answer_226 : Answer
 answer_226 = refused_tree 1 0 (record { props = words (0 ∷ []); toks = ([]); res = words ([]); nodes = (([]) ++ fill_nodes 1 0 0); spans = (([]) ++ fill_spans 1 0 0); queue = []; counts = [] })
 
--- smallest node 65,537
+-- alphabet 127 passes; 6 before 5
 abbrev lent_227 : Lent singles
-lent_227 = lent (0 ∷ []) ([]) ([]) (([]) ++ fill_nodes 1 0 0) 0 0 0 1
+lent_227 = lent (run 24 0 0 ([])) (run 14 0 0 ([])) (0 ∷ []) (([]) ++ fill_nodes 1 0 0) 0 0 0 1
 
 abbrev job_227 : Job
-job_227 = learning (settings 1 1 0 0 65537 1 32 0 49216 0 0) (0 ∷ []) lent_227
+job_227 = learning (settings 127 1 0 0 0 1 32 1 65535 1 0) ([]) lent_227
 
 abbrev answer_227 : Answer
-answer_227 = refused_tree 1 0 (record { props = words (0 ∷ []); toks = ([]); res = words ([]); nodes = (([]) ++ fill_nodes 1 0 0); spans = (([]) ++ fill_spans 1 0 0); queue = []; counts = [] })
+answer_227 = refused_tree 5 0 (record { props = words (run 24 0 0 ([])); toks = (run 14 0 0 ([])); res = words (0 ∷ []); nodes = (([]) ++ fill_nodes 1 0 0); spans = (([]) ++ fill_spans 1 0 0); queue = []; counts = [] })
 
--- sides 15
+-- 5 without modal offsets
 abbrev lent_228 : Lent singles
-lent_228 = lent (0 ∷ []) ([]) ([]) (([]) ++ fill_nodes 1 0 0) 0 0 0 1
+lent_228 = lent (run 24 0 0 ([])) (run 14 0 0 ([])) (0 ∷ []) (([]) ++ fill_nodes 1 0 0) 0 0 0 1
 
 abbrev job_228 : Job
-job_228 = learning (settings 1 1 0 0 0 15 32 0 49216 0 0) (0 ∷ []) lent_228
+job_228 = learning (settings 127 1 0 0 0 1 32 1 65535 0 0) ([]) lent_228
 
 abbrev answer_228 : Answer
-answer_228 = refused_tree 1 0 (record { props = words (0 ∷ []); toks = ([]); res = words ([]); nodes = (([]) ++ fill_nodes 1 0 0); spans = (([]) ++ fill_spans 1 0 0); queue = []; counts = [] })
+answer_228 = refused_tree 6 0 (record { props = words (run 24 0 0 ([])); toks = (run 14 0 0 ([])); res = words (0 ∷ []); nodes = (([]) ++ fill_nodes 1 0 0); spans = (([]) ++ fill_spans 1 0 0); queue = []; counts = [] })
 
--- candidates 33
+-- 5 without residuals
 abbrev lent_229 : Lent singles
-lent_229 = lent (0 ∷ []) ([]) ([]) (([]) ++ fill_nodes 1 0 0) 0 0 0 1
+lent_229 = lent (run 24 0 0 ([])) (run 14 0 0 ([])) ([]) (([]) ++ fill_nodes 1 0 0) 0 0 0 1
 
 abbrev job_229 : Job
-job_229 = learning (settings 1 1 0 0 0 1 33 0 49216 0 0) (0 ∷ []) lent_229
+job_229 = learning (settings 127 1 0 0 0 1 32 1 65535 1 0) ([]) lent_229
 
 abbrev answer_229 : Answer
-answer_229 = refused_tree 1 0 (record { props = words (0 ∷ []); toks = ([]); res = words ([]); nodes = (([]) ++ fill_nodes 1 0 0); spans = (([]) ++ fill_spans 1 0 0); queue = []; counts = [] })
+answer_229 = refused_tree 6 0 (record { props = words (run 24 0 0 ([])); toks = (run 14 0 0 ([])); res = words ([]); nodes = (([]) ++ fill_nodes 1 0 0); spans = (([]) ++ fill_spans 1 0 0); queue = []; counts = [] })
 
--- alphabet 127 passes; 6 before 5
+-- 5 before 4
 abbrev lent_230 : Lent singles
-lent_230 = lent (run 24 0 0 ([])) (run 14 0 0 ([])) (0 ∷ []) (([]) ++ fill_nodes 1 0 0) 0 0 0 1
+lent_230 = lent (run 24 0 0 ([])) (run 13 0 0 (127 ∷ [])) (0 ∷ []) (([]) ++ fill_nodes 1 0 0) 0 0 0 1
 
 abbrev job_230 : Job
 job_230 = learning (settings 127 1 0 0 0 1 32 1 65535 1 0) ([]) lent_230
 
 abbrev answer_230 : Answer
-answer_230 = refused_tree 5 0 (record { props = words (run 24 0 0 ([])); toks = (run 14 0 0 ([])); res = words (0 ∷ []); nodes = (([]) ++ fill_nodes 1 0 0); spans = (([]) ++ fill_spans 1 0 0); queue = []; counts = [] })
+answer_230 = refused_tree 4 0 (record { props = words (run 24 0 0 ([])); toks = (run 13 0 0 (127 ∷ [])); res = words (0 ∷ []); nodes = (([]) ++ fill_nodes 1 0 0); spans = (([]) ++ fill_spans 1 0 0); queue = []; counts = [] })
 
--- 5 without modal offsets
+-- 4 before 3; tokens not counted
 abbrev lent_231 : Lent singles
-lent_231 = lent (run 24 0 0 ([])) (run 14 0 0 ([])) (0 ∷ []) (([]) ++ fill_nodes 1 0 0) 0 0 0 1
+lent_231 = lent (run 24 0 0 ([])) (127 ∷ run 14 0 0 ([])) (0 ∷ []) (([]) ++ fill_nodes 1 0 0) 0 0 0 1
 
 abbrev job_231 : Job
-job_231 = learning (settings 127 1 0 0 0 1 32 1 65535 0 0) ([]) lent_231
+job_231 = learning (settings 127 1 0 0 0 1 32 1 65535 1 0) ([]) lent_231
 
 abbrev answer_231 : Answer
-answer_231 = refused_tree 6 0 (record { props = words (run 24 0 0 ([])); toks = (run 14 0 0 ([])); res = words (0 ∷ []); nodes = (([]) ++ fill_nodes 1 0 0); spans = (([]) ++ fill_spans 1 0 0); queue = []; counts = [] })
+answer_231 = refused_tree 3 0 (record { props = words (run 24 0 0 ([])); toks = (127 ∷ run 14 0 0 ([])); res = words (0 ∷ []); nodes = (([]) ++ fill_nodes 1 0 0); spans = (([]) ++ fill_spans 1 0 0); queue = []; counts = [] })
 
--- 5 without residuals
+-- properties of part of a row
 abbrev lent_232 : Lent singles
-lent_232 = lent (run 24 0 0 ([])) (run 14 0 0 ([])) ([]) (([]) ++ fill_nodes 1 0 0) 0 0 0 1
+lent_232 = lent (run 25 0 0 ([])) (run 14 0 0 ([])) (0 ∷ []) (([]) ++ fill_nodes 1 0 0) 0 0 0 1
 
 abbrev job_232 : Job
 job_232 = learning (settings 127 1 0 0 0 1 32 1 65535 1 0) ([]) lent_232
 
 abbrev answer_232 : Answer
-answer_232 = refused_tree 6 0 (record { props = words (run 24 0 0 ([])); toks = (run 14 0 0 ([])); res = words ([]); nodes = (([]) ++ fill_nodes 1 0 0); spans = (([]) ++ fill_spans 1 0 0); queue = []; counts = [] })
+answer_232 = refused_tree 3 0 (record { props = words (run 25 0 0 ([])); toks = (run 14 0 0 ([])); res = words (0 ∷ []); nodes = (([]) ++ fill_nodes 1 0 0); spans = (([]) ++ fill_spans 1 0 0); queue = []; counts = [] })
 
--- 5 before 4
+-- residuals not counted
 abbrev lent_233 : Lent singles
-lent_233 = lent (run 24 0 0 ([])) (run 13 0 0 (127 ∷ [])) (0 ∷ []) (([]) ++ fill_nodes 1 0 0) 0 0 0 1
+lent_233 = lent (run 24 0 0 ([])) (run 14 0 0 ([])) (0 ∷ 0 ∷ []) (([]) ++ fill_nodes 1 0 0) 0 0 0 1
 
 abbrev job_233 : Job
 job_233 = learning (settings 127 1 0 0 0 1 32 1 65535 1 0) ([]) lent_233
 
 abbrev answer_233 : Answer
-answer_233 = refused_tree 4 0 (record { props = words (run 24 0 0 ([])); toks = (run 13 0 0 (127 ∷ [])); res = words (0 ∷ []); nodes = (([]) ++ fill_nodes 1 0 0); spans = (([]) ++ fill_spans 1 0 0); queue = []; counts = [] })
-
--- 4 before 3; tokens not counted
-abbrev lent_234 : Lent singles
-lent_234 = lent (run 24 0 0 ([])) (127 ∷ run 14 0 0 ([])) (0 ∷ []) (([]) ++ fill_nodes 1 0 0) 0 0 0 1
-
-abbrev job_234 : Job
-job_234 = learning (settings 127 1 0 0 0 1 32 1 65535 1 0) ([]) lent_234
-
-abbrev answer_234 : Answer
-answer_234 = refused_tree 3 0 (record { props = words (run 24 0 0 ([])); toks = (127 ∷ run 14 0 0 ([])); res = words (0 ∷ []); nodes = (([]) ++ fill_nodes 1 0 0); spans = (([]) ++ fill_spans 1 0 0); queue = []; counts = [] })
-
--- properties of part of a row
-abbrev lent_235 : Lent singles
-lent_235 = lent (run 25 0 0 ([])) (run 14 0 0 ([])) (0 ∷ []) (([]) ++ fill_nodes 1 0 0) 0 0 0 1
-
-abbrev job_235 : Job
-job_235 = learning (settings 127 1 0 0 0 1 32 1 65535 1 0) ([]) lent_235
-
-abbrev answer_235 : Answer
-answer_235 = refused_tree 3 0 (record { props = words (run 25 0 0 ([])); toks = (run 14 0 0 ([])); res = words (0 ∷ []); nodes = (([]) ++ fill_nodes 1 0 0); spans = (([]) ++ fill_spans 1 0 0); queue = []; counts = [] })
-
--- residuals not counted
-abbrev lent_236 : Lent singles
-lent_236 = lent (run 24 0 0 ([])) (run 14 0 0 ([])) (0 ∷ 0 ∷ []) (([]) ++ fill_nodes 1 0 0) 0 0 0 1
-
-abbrev job_236 : Job
-job_236 = learning (settings 127 1 0 0 0 1 32 1 65535 1 0) ([]) lent_236
-
-abbrev answer_236 : Answer
-answer_236 = refused_tree 3 0 (record { props = words (run 24 0 0 ([])); toks = (run 14 0 0 ([])); res = words (0 ∷ 0 ∷ []); nodes = (([]) ++ fill_nodes 1 0 0); spans = (([]) ++ fill_spans 1 0 0); queue = []; counts = [] })
+answer_233 = refused_tree 3 0 (record { props = words (run 24 0 0 ([])); toks = (run 14 0 0 ([])); res = words (0 ∷ 0 ∷ []); nodes = (([]) ++ fill_nodes 1 0 0); spans = (([]) ++ fill_spans 1 0 0); queue = []; counts = [] })
 
 -- logarithm 0 looked at; logarithms to 31
+abbrev lent_234 : Lent singles
+lent_234 = lent (run 24 0 0 ([])) (run 14 0 0 ([])) ([]) (([]) ++ fill_nodes 1 0 0) 0 0 0 1
+
+abbrev job_234 : Job
+job_234 = learning (settings 1 1 0 0 0 1 32 1 65535 0 0) (2143289344 ∷ 1107296256 ∷ 2143289344 ∷ []) lent_234
+
+abbrev answer_234 : Answer
+answer_234 = refused_tree 7 0 (record { props = words (run 24 0 0 ([])); toks = (run 14 0 0 ([])); res = words ([]); nodes = (([]) ++ fill_nodes 1 0 0); spans = (([]) ++ fill_spans 1 0 0); queue = []; counts = [] })
+
+-- logarithms one short; 7 before 6
+abbrev lent_235 : Lent singles
+lent_235 = lent (run 24 0 0 ([])) (run 14 0 0 ([])) ([]) (([]) ++ fill_nodes 1 0 0) 0 0 0 1
+
+abbrev job_235 : Job
+job_235 = learning (settings 1 1 0 0 0 1 32 1 65535 0 0) (0 ∷ []) lent_235
+
+abbrev answer_235 : Answer
+answer_235 = refused_tree 6 0 (record { props = words (run 24 0 0 ([])); toks = (run 14 0 0 ([])); res = words ([]); nodes = (([]) ++ fill_nodes 1 0 0); spans = (([]) ++ fill_spans 1 0 0); queue = []; counts = [] })
+
+-- logarithms to 33
+abbrev lent_236 : Lent singles
+lent_236 = lent (run 24 0 0 ([])) (run 14 0 0 ([])) ([]) (([]) ++ fill_nodes 1 0 0) 0 0 0 1
+
+abbrev job_236 : Job
+job_236 = learning (settings 1 1 0 0 0 1 32 1 65535 0 0) (0 ∷ 1107296257 ∷ []) lent_236
+
+abbrev answer_236 : Answer
+answer_236 = refused_tree 6 0 (record { props = words (run 24 0 0 ([])); toks = (run 14 0 0 ([])); res = words ([]); nodes = (([]) ++ fill_nodes 1 0 0); spans = (([]) ++ fill_spans 1 0 0); queue = []; counts = [] })
+
+-- logarithms below 0
 abbrev lent_237 : Lent singles
 lent_237 = lent (run 24 0 0 ([])) (run 14 0 0 ([])) ([]) (([]) ++ fill_nodes 1 0 0) 0 0 0 1
 
 abbrev job_237 : Job
-job_237 = learning (settings 1 1 0 0 0 1 32 1 65535 0 0) (2143289344 ∷ 1107296256 ∷ 2143289344 ∷ []) lent_237
+job_237 = learning (settings 1 1 0 0 0 1 32 1 65535 0 0) (0 ∷ 2155872256 ∷ []) lent_237
 
 abbrev answer_237 : Answer
-answer_237 = refused_tree 7 0 (record { props = words (run 24 0 0 ([])); toks = (run 14 0 0 ([])); res = words ([]); nodes = (([]) ++ fill_nodes 1 0 0); spans = (([]) ++ fill_spans 1 0 0); queue = []; counts = [] })
+answer_237 = refused_tree 6 0 (record { props = words (run 24 0 0 ([])); toks = (run 14 0 0 ([])); res = words ([]); nodes = (([]) ++ fill_nodes 1 0 0); spans = (([]) ++ fill_spans 1 0 0); queue = []; counts = [] })
 
--- logarithms one short; 7 before 6
+-- a logarithm that is no number
 abbrev lent_238 : Lent singles
 lent_238 = lent (run 24 0 0 ([])) (run 14 0 0 ([])) ([]) (([]) ++ fill_nodes 1 0 0) 0 0 0 1
 
 abbrev job_238 : Job
-job_238 = learning (settings 1 1 0 0 0 1 32 1 65535 0 0) (0 ∷ []) lent_238
+job_238 = learning (settings 1 1 0 0 0 1 32 1 65535 0 0) (0 ∷ 2143289344 ∷ []) lent_238
 
 abbrev answer_238 : Answer
 answer_238 = refused_tree 6 0 (record { props = words (run 24 0 0 ([])); toks = (run 14 0 0 ([])); res = words ([]); nodes = (([]) ++ fill_nodes 1 0 0); spans = (([]) ++ fill_spans 1 0 0); queue = []; counts = [] })
 
--- logarithms to 33
+-- count space 15A, c + 3
 abbrev lent_239 : Lent singles
-lent_239 = lent (run 24 0 0 ([])) (run 14 0 0 ([])) ([]) (([]) ++ fill_nodes 1 0 0) 0 0 0 1
+lent_239 = lent ([]) ([]) ([]) (([]) ++ fill_nodes 1 0 3) 3 2 4586 1
 
 abbrev job_239 : Job
-job_239 = learning (settings 1 1 0 0 0 1 32 1 65535 0 0) (0 ∷ 1107296257 ∷ []) lent_239
+job_239 = learning (settings 1 2 0 0 0 14 32 1 65535 0 0) (0 ∷ []) lent_239
 
 abbrev answer_239 : Answer
-answer_239 = refused_tree 6 0 (record { props = words (run 24 0 0 ([])); toks = (run 14 0 0 ([])); res = words ([]); nodes = (([]) ++ fill_nodes 1 0 0); spans = (([]) ++ fill_spans 1 0 0); queue = []; counts = [] })
-
--- logarithms below 0
-abbrev lent_240 : Lent singles
-lent_240 = lent (run 24 0 0 ([])) (run 14 0 0 ([])) ([]) (([]) ++ fill_nodes 1 0 0) 0 0 0 1
-
-abbrev job_240 : Job
-job_240 = learning (settings 1 1 0 0 0 1 32 1 65535 0 0) (0 ∷ 2155872256 ∷ []) lent_240
-
-abbrev answer_240 : Answer
-answer_240 = refused_tree 6 0 (record { props = words (run 24 0 0 ([])); toks = (run 14 0 0 ([])); res = words ([]); nodes = (([]) ++ fill_nodes 1 0 0); spans = (([]) ++ fill_spans 1 0 0); queue = []; counts = [] })
-
--- a logarithm that is no number
-abbrev lent_241 : Lent singles
-lent_241 = lent (run 24 0 0 ([])) (run 14 0 0 ([])) ([]) (([]) ++ fill_nodes 1 0 0) 0 0 0 1
-
-abbrev job_241 : Job
-job_241 = learning (settings 1 1 0 0 0 1 32 1 65535 0 0) (0 ∷ 2143289344 ∷ []) lent_241
-
-abbrev answer_241 : Answer
-answer_241 = refused_tree 6 0 (record { props = words (run 24 0 0 ([])); toks = (run 14 0 0 ([])); res = words ([]); nodes = (([]) ++ fill_nodes 1 0 0); spans = (([]) ++ fill_spans 1 0 0); queue = []; counts = [] })
-
--- count space 15A, c + 3
-abbrev lent_242 : Lent singles
-lent_242 = lent ([]) ([]) ([]) (([]) ++ fill_nodes 1 0 3) 3 2 4586 1
-
-abbrev job_242 : Job
-job_242 = learning (settings 1 2 0 0 0 14 32 1 65535 0 0) (0 ∷ []) lent_242
-
-abbrev answer_242 : Answer
-answer_242 = tree 1 1 0 0 (record { props = words ([]); toks = ([]); res = words ([]); nodes = ((node 0 0 0 0 0 0 0 0 ∷ []) ++ fill_nodes 1 1 2); spans = ((span 0 0 ∷ []) ++ fill_spans 1 1 2); queue = replicate 2 (no_waiting); counts = replicate 4586 (0) })
+answer_239 = tree 1 1 0 0 (record { props = words ([]); toks = ([]); res = words ([]); nodes = ((node 0 0 0 0 0 0 0 0 ∷ []) ++ fill_nodes 1 1 2); spans = ((span 0 0 ∷ []) ++ fill_spans 1 1 2); queue = replicate 2 (no_waiting); counts = replicate 4586 (0) })
 
 -- count space c + 1
-abbrev lent_243 : Lent singles
-lent_243 = lent ([]) ([]) ([]) (([]) ++ fill_nodes 1 0 3) 3 2 4585 1
+abbrev lent_240 : Lent singles
+lent_240 = lent ([]) ([]) ([]) (([]) ++ fill_nodes 1 0 3) 3 2 4585 1
 
-abbrev job_243 : Job
-job_243 = learning (settings 1 2 0 0 0 14 32 1 65535 0 0) (0 ∷ []) lent_243
+abbrev job_240 : Job
+job_240 = learning (settings 1 2 0 0 0 14 32 1 65535 0 0) (0 ∷ []) lent_240
 
-abbrev answer_243 : Answer
-answer_243 = refused_tree 7 0 (record { props = words ([]); toks = ([]); res = words ([]); nodes = (([]) ++ fill_nodes 1 0 3); spans = (([]) ++ fill_spans 1 0 3); queue = replicate 2 (fill_waiting 1); counts = replicate 4585 (1) })
+abbrev answer_240 : Answer
+answer_240 = refused_tree 7 0 (record { props = words ([]); toks = ([]); res = words ([]); nodes = (([]) ++ fill_nodes 1 0 3); spans = (([]) ++ fill_spans 1 0 3); queue = replicate 2 (fill_waiting 1); counts = replicate 4585 (1) })
 
 -- count space 4,095 + .., 55A
+abbrev lent_241 : Lent singles
+lent_241 = lent ([]) ([]) ([]) (([]) ++ fill_nodes 1 0 3) 3 2 4151 1
+
+abbrev job_241 : Job
+job_241 = learning (settings 1 2 0 0 0 1 0 1 65535 0 0) (0 ∷ []) lent_241
+
+abbrev answer_241 : Answer
+answer_241 = refused_tree 7 0 (record { props = words ([]); toks = ([]); res = words ([]); nodes = (([]) ++ fill_nodes 1 0 3); spans = (([]) ++ fill_spans 1 0 3); queue = replicate 2 (fill_waiting 1); counts = replicate 4151 (1) })
+
+-- nodes one short
+abbrev lent_242 : Lent singles
+lent_242 = lent ([]) ([]) ([]) (([]) ++ fill_nodes 1 0 2) 3 2 4152 1
+
+abbrev job_242 : Job
+job_242 = learning (settings 1 2 0 0 0 1 0 1 65535 0 0) (0 ∷ []) lent_242
+
+abbrev answer_242 : Answer
+answer_242 = refused_tree 7 0 (record { props = words ([]); toks = ([]); res = words ([]); nodes = (([]) ++ fill_nodes 1 0 2); spans = (([]) ++ fill_spans 1 0 3); queue = replicate 2 (fill_waiting 1); counts = replicate 4152 (1) })
+
+-- spans not counted
+abbrev lent_243 : Lent singles
+lent_243 = lent ([]) ([]) ([]) (([]) ++ fill_nodes 1 0 3) 2 2 4152 1
+
+abbrev job_243 : Job
+job_243 = learning (settings 1 2 0 0 0 1 0 1 65535 0 0) (0 ∷ []) lent_243
+
+abbrev answer_243 : Answer
+answer_243 = refused_tree 7 0 (record { props = words ([]); toks = ([]); res = words ([]); nodes = (([]) ++ fill_nodes 1 0 3); spans = (([]) ++ fill_spans 1 0 2); queue = replicate 2 (fill_waiting 1); counts = replicate 4152 (1) })
+
+-- queue not counted
 abbrev lent_244 : Lent singles
-lent_244 = lent ([]) ([]) ([]) (([]) ++ fill_nodes 1 0 3) 3 2 4151 1
+lent_244 = lent ([]) ([]) ([]) (([]) ++ fill_nodes 1 0 3) 3 1 4152 1
 
 abbrev job_244 : Job
 job_244 = learning (settings 1 2 0 0 0 1 0 1 65535 0 0) (0 ∷ []) lent_244
 
 abbrev answer_244 : Answer
-answer_244 = refused_tree 7 0 (record { props = words ([]); toks = ([]); res = words ([]); nodes = (([]) ++ fill_nodes 1 0 3); spans = (([]) ++ fill_spans 1 0 3); queue = replicate 2 (fill_waiting 1); counts = replicate 4151 (1) })
-
--- nodes one short
-abbrev lent_245 : Lent singles
-lent_245 = lent ([]) ([]) ([]) (([]) ++ fill_nodes 1 0 2) 3 2 4152 1
-
-abbrev job_245 : Job
-job_245 = learning (settings 1 2 0 0 0 1 0 1 65535 0 0) (0 ∷ []) lent_245
-
-abbrev answer_245 : Answer
-answer_245 = refused_tree 7 0 (record { props = words ([]); toks = ([]); res = words ([]); nodes = (([]) ++ fill_nodes 1 0 2); spans = (([]) ++ fill_spans 1 0 3); queue = replicate 2 (fill_waiting 1); counts = replicate 4152 (1) })
-
--- spans not counted
-abbrev lent_246 : Lent singles
-lent_246 = lent ([]) ([]) ([]) (([]) ++ fill_nodes 1 0 3) 2 2 4152 1
-
-abbrev job_246 : Job
-job_246 = learning (settings 1 2 0 0 0 1 0 1 65535 0 0) (0 ∷ []) lent_246
-
-abbrev answer_246 : Answer
-answer_246 = refused_tree 7 0 (record { props = words ([]); toks = ([]); res = words ([]); nodes = (([]) ++ fill_nodes 1 0 3); spans = (([]) ++ fill_spans 1 0 2); queue = replicate 2 (fill_waiting 1); counts = replicate 4152 (1) })
-
--- queue not counted
-abbrev lent_247 : Lent singles
-lent_247 = lent ([]) ([]) ([]) (([]) ++ fill_nodes 1 0 3) 3 1 4152 1
-
-abbrev job_247 : Job
-job_247 = learning (settings 1 2 0 0 0 1 0 1 65535 0 0) (0 ∷ []) lent_247
-
-abbrev answer_247 : Answer
-answer_247 = refused_tree 7 0 (record { props = words ([]); toks = ([]); res = words ([]); nodes = (([]) ++ fill_nodes 1 0 3); spans = (([]) ++ fill_spans 1 0 3); queue = replicate 1 (fill_waiting 1); counts = replicate 4152 (1) })
+answer_244 = refused_tree 7 0 (record { props = words ([]); toks = ([]); res = words ([]); nodes = (([]) ++ fill_nodes 1 0 3); spans = (([]) ++ fill_spans 1 0 3); queue = replicate 1 (fill_waiting 1); counts = replicate 4152 (1) })
 
 -- a node without a parent passes
+abbrev lent_245 : Lent singles
+lent_245 = lent (run 24 0 0 ([])) (run 14 0 0 ([])) ([]) ((node 1 0 0 1 2 0 0 0 ∷ node 0 0 0 0 0 0 0 0 ∷ node 0 0 0 0 0 0 0 0 ∷ []) ++ fill_nodes 1 3 1) 4 1 4152 1
+
+abbrev job_245 : Job
+job_245 = deepening (settings 1 1 0 0 0 1 0 1 65535 0 0) (0 ∷ 0 ∷ []) 4 lent_245
+
+abbrev answer_245 : Answer
+answer_245 = refused_tree 8 3 (record { props = words (run 24 0 0 ([])); toks = (run 14 0 0 ([])); res = words ([]); nodes = ((node 1 0 0 1 2 0 0 0 ∷ node 0 0 0 0 0 0 0 0 ∷ node 0 0 0 0 0 0 0 0 ∷ []) ++ fill_nodes 1 3 1); spans = (([]) ++ fill_spans 1 0 4); queue = replicate 1 (fill_waiting 1); counts = replicate 4152 (1) })
+
+-- a seed of no node passes
+abbrev lent_246 : Lent singles
+lent_246 = lent (run 24 0 0 ([])) (run 14 0 0 ([])) ([]) ((node 1 0 0 1 2 0 0 0 ∷ node 0 0 0 0 0 0 0 0 ∷ node 0 0 0 0 0 0 0 0 ∷ []) ++ fill_nodes 1 3 1) 4 1 4152 1
+
+abbrev job_246 : Job
+job_246 = deepening (settings 1 1 0 0 0 1 0 1 65535 0 0) (0 ∷ 0 ∷ []) 0 lent_246
+
+abbrev answer_246 : Answer
+answer_246 = refused_tree 8 0 (record { props = words (run 24 0 0 ([])); toks = (run 14 0 0 ([])); res = words ([]); nodes = ((node 1 0 0 1 2 0 0 0 ∷ node 0 0 0 0 0 0 0 0 ∷ node 0 0 0 0 0 0 0 0 ∷ []) ++ fill_nodes 1 3 1); spans = (([]) ++ fill_spans 1 0 4); queue = replicate 1 (fill_waiting 1); counts = replicate 4152 (1) })
+
+-- a seed's nodes not counted
+abbrev lent_247 : Lent singles
+lent_247 = lent (run 24 0 0 ([])) (run 14 0 0 ([])) ([]) ((node 1 0 0 1 2 0 0 0 ∷ node 0 0 0 0 0 0 0 0 ∷ node 0 0 0 0 0 0 0 0 ∷ []) ++ fill_nodes 1 3 0) 4 1 4152 1
+
+abbrev job_247 : Job
+job_247 = deepening (settings 1 1 0 0 0 1 0 1 65535 0 0) (0 ∷ 0 ∷ []) 4 lent_247
+
+abbrev answer_247 : Answer
+answer_247 = refused_tree 7 0 (record { props = words (run 24 0 0 ([])); toks = (run 14 0 0 ([])); res = words ([]); nodes = ((node 1 0 0 1 2 0 0 0 ∷ node 0 0 0 0 0 0 0 0 ∷ node 0 0 0 0 0 0 0 0 ∷ []) ++ fill_nodes 1 3 0); spans = (([]) ++ fill_spans 1 0 4); queue = replicate 1 (fill_waiting 1); counts = replicate 4152 (1) })
+
+-- a seed's spans not counted; 8 before 7
 abbrev lent_248 : Lent singles
-lent_248 = lent (run 24 0 0 ([])) (run 14 0 0 ([])) ([]) ((node 1 0 0 1 2 0 0 0 ∷ node 0 0 0 0 0 0 0 0 ∷ node 0 0 0 0 0 0 0 0 ∷ []) ++ fill_nodes 1 3 1) 4 1 4152 1
+lent_248 = lent (run 24 0 0 ([])) (run 14 0 0 ([])) ([]) ((node 1 0 0 1 2 0 0 0 ∷ node 0 0 0 0 0 0 0 0 ∷ node 0 0 0 0 0 0 0 0 ∷ []) ++ fill_nodes 1 3 1) 3 1 4152 1
 
 abbrev job_248 : Job
 job_248 = deepening (settings 1 1 0 0 0 1 0 1 65535 0 0) (0 ∷ 0 ∷ []) 4 lent_248
 
 abbrev answer_248 : Answer
-answer_248 = refused_tree 8 3 (record { props = words (run 24 0 0 ([])); toks = (run 14 0 0 ([])); res = words ([]); nodes = ((node 1 0 0 1 2 0 0 0 ∷ node 0 0 0 0 0 0 0 0 ∷ node 0 0 0 0 0 0 0 0 ∷ []) ++ fill_nodes 1 3 1); spans = (([]) ++ fill_spans 1 0 4); queue = replicate 1 (fill_waiting 1); counts = replicate 4152 (1) })
-
--- a seed of no node passes
-abbrev lent_249 : Lent singles
-lent_249 = lent (run 24 0 0 ([])) (run 14 0 0 ([])) ([]) ((node 1 0 0 1 2 0 0 0 ∷ node 0 0 0 0 0 0 0 0 ∷ node 0 0 0 0 0 0 0 0 ∷ []) ++ fill_nodes 1 3 1) 4 1 4152 1
-
-abbrev job_249 : Job
-job_249 = deepening (settings 1 1 0 0 0 1 0 1 65535 0 0) (0 ∷ 0 ∷ []) 0 lent_249
-
-abbrev answer_249 : Answer
-answer_249 = refused_tree 8 0 (record { props = words (run 24 0 0 ([])); toks = (run 14 0 0 ([])); res = words ([]); nodes = ((node 1 0 0 1 2 0 0 0 ∷ node 0 0 0 0 0 0 0 0 ∷ node 0 0 0 0 0 0 0 0 ∷ []) ++ fill_nodes 1 3 1); spans = (([]) ++ fill_spans 1 0 4); queue = replicate 1 (fill_waiting 1); counts = replicate 4152 (1) })
-
--- a seed's nodes not counted
-abbrev lent_250 : Lent singles
-lent_250 = lent (run 24 0 0 ([])) (run 14 0 0 ([])) ([]) ((node 1 0 0 1 2 0 0 0 ∷ node 0 0 0 0 0 0 0 0 ∷ node 0 0 0 0 0 0 0 0 ∷ []) ++ fill_nodes 1 3 0) 4 1 4152 1
-
-abbrev job_250 : Job
-job_250 = deepening (settings 1 1 0 0 0 1 0 1 65535 0 0) (0 ∷ 0 ∷ []) 4 lent_250
-
-abbrev answer_250 : Answer
-answer_250 = refused_tree 7 0 (record { props = words (run 24 0 0 ([])); toks = (run 14 0 0 ([])); res = words ([]); nodes = ((node 1 0 0 1 2 0 0 0 ∷ node 0 0 0 0 0 0 0 0 ∷ node 0 0 0 0 0 0 0 0 ∷ []) ++ fill_nodes 1 3 0); spans = (([]) ++ fill_spans 1 0 4); queue = replicate 1 (fill_waiting 1); counts = replicate 4152 (1) })
-
--- a seed's spans not counted; 8 before 7
-abbrev lent_251 : Lent singles
-lent_251 = lent (run 24 0 0 ([])) (run 14 0 0 ([])) ([]) ((node 1 0 0 1 2 0 0 0 ∷ node 0 0 0 0 0 0 0 0 ∷ node 0 0 0 0 0 0 0 0 ∷ []) ++ fill_nodes 1 3 1) 3 1 4152 1
-
-abbrev job_251 : Job
-job_251 = deepening (settings 1 1 0 0 0 1 0 1 65535 0 0) (0 ∷ 0 ∷ []) 4 lent_251
-
-abbrev answer_251 : Answer
-answer_251 = refused_tree 7 0 (record { props = words (run 24 0 0 ([])); toks = (run 14 0 0 ([])); res = words ([]); nodes = ((node 1 0 0 1 2 0 0 0 ∷ node 0 0 0 0 0 0 0 0 ∷ node 0 0 0 0 0 0 0 0 ∷ []) ++ fill_nodes 1 3 1); spans = (([]) ++ fill_spans 1 0 3); queue = replicate 1 (fill_waiting 1); counts = replicate 4152 (1) })
+answer_248 = refused_tree 7 0 (record { props = words (run 24 0 0 ([])); toks = (run 14 0 0 ([])); res = words ([]); nodes = ((node 1 0 0 1 2 0 0 0 ∷ node 0 0 0 0 0 0 0 0 ∷ node 0 0 0 0 0 0 0 0 ∷ []) ++ fill_nodes 1 3 1); spans = (([]) ++ fill_spans 1 0 3); queue = replicate 1 (fill_waiting 1); counts = replicate 4152 (1) })
 
 -- count space for a seed not asked, or without its rows
-abbrev lent_252 : Lent singles
-lent_252 = lent (run 24 0 0 ([])) (run 14 0 0 ([])) ([]) ((node 1 0 0 1 2 0 0 0 ∷ node 0 0 0 0 0 0 0 0 ∷ node 0 0 0 0 0 0 0 0 ∷ []) ++ fill_nodes 1 3 2074) 2077 1 4154 1
+abbrev lent_249 : Lent singles
+lent_249 = lent (run 24 0 0 ([])) (run 14 0 0 ([])) ([]) ((node 1 0 0 1 2 0 0 0 ∷ node 0 0 0 0 0 0 0 0 ∷ node 0 0 0 0 0 0 0 0 ∷ []) ++ fill_nodes 1 3 2074) 2077 1 4154 1
 
-abbrev job_252 : Job
-job_252 = deepening (settings 1 1 0 0 0 1 0 1 65535 0 0) (0 ∷ 0 ∷ []) 2077 lent_252
+abbrev job_249 : Job
+job_249 = deepening (settings 1 1 0 0 0 1 0 1 65535 0 0) (0 ∷ 0 ∷ []) 2077 lent_249
 
-abbrev answer_252 : Answer
-answer_252 = refused_tree 7 0 (record { props = words (run 24 0 0 ([])); toks = (run 14 0 0 ([])); res = words ([]); nodes = ((node 1 0 0 1 2 0 0 0 ∷ node 0 0 0 0 0 0 0 0 ∷ node 0 0 0 0 0 0 0 0 ∷ []) ++ fill_nodes 1 3 2074); spans = (([]) ++ fill_spans 1 0 2077); queue = replicate 1 (fill_waiting 1); counts = replicate 4154 (1) })
+abbrev answer_249 : Answer
+answer_249 = refused_tree 7 0 (record { props = words (run 24 0 0 ([])); toks = (run 14 0 0 ([])); res = words ([]); nodes = ((node 1 0 0 1 2 0 0 0 ∷ node 0 0 0 0 0 0 0 0 ∷ node 0 0 0 0 0 0 0 0 ∷ []) ++ fill_nodes 1 3 2074); spans = (([]) ++ fill_spans 1 0 2077); queue = replicate 1 (fill_waiting 1); counts = replicate 4154 (1) })
 
 -- 8,190 nodes
-abbrev job_253 : Job
-job_253 = numbering 8191 ((node 1 0 0 1 2 0 0 0 ∷ node 0 0 0 0 0 0 14 0 ∷ []) ++ fill_nodes 1 2 8189) (record { contexts = replicate 0 1; queue = replicate 0 1 })
+abbrev job_250 : Job
+job_250 = numbering 8191 ((node 1 0 0 1 2 0 0 0 ∷ node 0 0 0 0 0 0 14 0 ∷ []) ++ fill_nodes 1 2 8189) (record { contexts = replicate 0 1; queue = replicate 0 1 })
 
-abbrev answer_253 : Answer
-answer_253 = contexts_are 8 1 0 ([]) ([])
+abbrev answer_250 : Answer
+answer_250 = contexts_are 8 1 0 ([]) ([])
 
 -- 8,192 nodes
-abbrev job_254 : Job
-job_254 = numbering 8192 ((node 1 0 0 1 2 0 0 0 ∷ node 0 0 0 0 0 0 14 0 ∷ []) ++ fill_nodes 1 2 8190) (record { contexts = replicate 0 1; queue = replicate 0 1 })
+abbrev job_251 : Job
+job_251 = numbering 8192 ((node 1 0 0 1 2 0 0 0 ∷ node 0 0 0 0 0 0 14 0 ∷ []) ++ fill_nodes 1 2 8190) (record { contexts = replicate 0 1; queue = replicate 0 1 })
 
-abbrev answer_254 : Answer
-answer_254 = contexts_are 8 0 0 ([]) ([])
+abbrev answer_251 : Answer
+answer_251 = contexts_are 8 0 0 ([]) ([])
 
 abbrev pub part_jobs : List Job
-part_jobs = job_0 ∷ job_1 ∷ job_2 ∷ job_3 ∷ job_4 ∷ job_5 ∷ job_6 ∷ job_7 ∷ job_8 ∷ job_9 ∷ job_10 ∷ job_11 ∷ job_12 ∷ job_13 ∷ job_14 ∷ job_15 ∷ job_16 ∷ job_17 ∷ job_18 ∷ job_19 ∷ job_20 ∷ job_21 ∷ job_22 ∷ job_23 ∷ job_24 ∷ job_25 ∷ job_26 ∷ job_27 ∷ job_28 ∷ job_29 ∷ job_30 ∷ job_31 ∷ job_32 ∷ job_33 ∷ job_34 ∷ job_35 ∷ job_36 ∷ job_37 ∷ job_38 ∷ job_39 ∷ job_40 ∷ job_41 ∷ job_42 ∷ job_43 ∷ job_44 ∷ job_45 ∷ job_46 ∷ job_47 ∷ job_48 ∷ job_49 ∷ job_50 ∷ job_51 ∷ job_52 ∷ job_53 ∷ job_54 ∷ job_55 ∷ job_56 ∷ job_57 ∷ job_58 ∷ job_59 ∷ job_60 ∷ job_61 ∷ job_62 ∷ job_63 ∷ job_64 ∷ job_65 ∷ job_66 ∷ job_67 ∷ job_68 ∷ job_69 ∷ job_70 ∷ job_71 ∷ job_72 ∷ job_73 ∷ job_74 ∷ job_75 ∷ job_76 ∷ job_77 ∷ job_78 ∷ job_79 ∷ job_80 ∷ job_81 ∷ job_82 ∷ job_83 ∷ job_84 ∷ job_85 ∷ job_86 ∷ job_87 ∷ job_88 ∷ job_89 ∷ job_90 ∷ job_91 ∷ job_92 ∷ job_93 ∷ job_94 ∷ job_95 ∷ job_96 ∷ job_97 ∷ job_98 ∷ job_99 ∷ job_100 ∷ job_101 ∷ job_102 ∷ job_103 ∷ job_104 ∷ job_105 ∷ job_106 ∷ job_107 ∷ job_108 ∷ job_109 ∷ job_110 ∷ job_111 ∷ job_112 ∷ job_113 ∷ job_114 ∷ job_115 ∷ job_116 ∷ job_117 ∷ job_118 ∷ job_119 ∷ job_120 ∷ job_121 ∷ job_122 ∷ job_123 ∷ job_124 ∷ job_125 ∷ job_126 ∷ job_127 ∷ job_128 ∷ job_129 ∷ job_130 ∷ job_131 ∷ job_132 ∷ job_133 ∷ job_134 ∷ job_135 ∷ job_136 ∷ job_137 ∷ job_138 ∷ job_139 ∷ job_140 ∷ job_141 ∷ job_142 ∷ job_143 ∷ job_144 ∷ job_145 ∷ job_146 ∷ job_147 ∷ job_148 ∷ job_149 ∷ job_150 ∷ job_151 ∷ job_152 ∷ job_153 ∷ job_154 ∷ job_155 ∷ job_156 ∷ job_157 ∷ job_158 ∷ job_159 ∷ job_160 ∷ job_161 ∷ job_162 ∷ job_163 ∷ job_164 ∷ job_165 ∷ job_166 ∷ job_167 ∷ job_168 ∷ job_169 ∷ job_170 ∷ job_171 ∷ job_172 ∷ job_173 ∷ job_174 ∷ job_175 ∷ job_176 ∷ job_177 ∷ job_178 ∷ job_179 ∷ job_180 ∷ job_181 ∷ job_182 ∷ job_183 ∷ job_184 ∷ job_185 ∷ job_186 ∷ job_187 ∷ job_188 ∷ job_189 ∷ job_190 ∷ job_191 ∷ job_192 ∷ job_253 ∷ job_254 ∷ []
+part_jobs = job_0 ∷ job_1 ∷ job_2 ∷ job_3 ∷ job_4 ∷ job_5 ∷ job_6 ∷ job_7 ∷ job_8 ∷ job_9 ∷ job_10 ∷ job_11 ∷ job_12 ∷ job_13 ∷ job_14 ∷ job_15 ∷ job_16 ∷ job_17 ∷ job_18 ∷ job_19 ∷ job_20 ∷ job_21 ∷ job_22 ∷ job_23 ∷ job_24 ∷ job_25 ∷ job_26 ∷ job_27 ∷ job_28 ∷ job_29 ∷ job_30 ∷ job_31 ∷ job_32 ∷ job_33 ∷ job_34 ∷ job_35 ∷ job_36 ∷ job_37 ∷ job_38 ∷ job_39 ∷ job_40 ∷ job_41 ∷ job_42 ∷ job_43 ∷ job_44 ∷ job_45 ∷ job_46 ∷ job_47 ∷ job_48 ∷ job_49 ∷ job_50 ∷ job_51 ∷ job_52 ∷ job_53 ∷ job_54 ∷ job_55 ∷ job_56 ∷ job_57 ∷ job_58 ∷ job_59 ∷ job_60 ∷ job_61 ∷ job_62 ∷ job_63 ∷ job_64 ∷ job_65 ∷ job_66 ∷ job_67 ∷ job_68 ∷ job_69 ∷ job_70 ∷ job_71 ∷ job_72 ∷ job_73 ∷ job_74 ∷ job_75 ∷ job_76 ∷ job_77 ∷ job_78 ∷ job_79 ∷ job_80 ∷ job_81 ∷ job_82 ∷ job_83 ∷ job_84 ∷ job_85 ∷ job_86 ∷ job_87 ∷ job_88 ∷ job_89 ∷ job_90 ∷ job_91 ∷ job_92 ∷ job_93 ∷ job_94 ∷ job_95 ∷ job_96 ∷ job_97 ∷ job_98 ∷ job_99 ∷ job_100 ∷ job_101 ∷ job_102 ∷ job_103 ∷ job_104 ∷ job_105 ∷ job_106 ∷ job_107 ∷ job_108 ∷ job_109 ∷ job_110 ∷ job_111 ∷ job_112 ∷ job_113 ∷ job_114 ∷ job_115 ∷ job_116 ∷ job_117 ∷ job_118 ∷ job_119 ∷ job_120 ∷ job_121 ∷ job_122 ∷ job_123 ∷ job_124 ∷ job_125 ∷ job_126 ∷ job_127 ∷ job_128 ∷ job_129 ∷ job_130 ∷ job_131 ∷ job_132 ∷ job_133 ∷ job_134 ∷ job_135 ∷ job_136 ∷ job_137 ∷ job_138 ∷ job_139 ∷ job_140 ∷ job_141 ∷ job_142 ∷ job_143 ∷ job_144 ∷ job_145 ∷ job_146 ∷ job_147 ∷ job_148 ∷ job_149 ∷ job_150 ∷ job_151 ∷ job_152 ∷ job_153 ∷ job_154 ∷ job_155 ∷ job_156 ∷ job_157 ∷ job_158 ∷ job_159 ∷ job_160 ∷ job_161 ∷ job_162 ∷ job_163 ∷ job_164 ∷ job_165 ∷ job_166 ∷ job_167 ∷ job_168 ∷ job_169 ∷ job_170 ∷ job_171 ∷ job_172 ∷ job_173 ∷ job_174 ∷ job_175 ∷ job_176 ∷ job_177 ∷ job_178 ∷ job_179 ∷ job_180 ∷ job_181 ∷ job_182 ∷ job_183 ∷ job_184 ∷ job_185 ∷ job_186 ∷ job_187 ∷ job_188 ∷ job_189 ∷ job_250 ∷ job_251 ∷ []
 
 abbrev pub part_answers : List Answer
-part_answers = answer_0 ∷ answer_1 ∷ answer_2 ∷ answer_3 ∷ answer_4 ∷ answer_5 ∷ answer_6 ∷ answer_7 ∷ answer_8 ∷ answer_9 ∷ answer_10 ∷ answer_11 ∷ answer_12 ∷ answer_13 ∷ answer_14 ∷ answer_15 ∷ answer_16 ∷ answer_17 ∷ answer_18 ∷ answer_19 ∷ answer_20 ∷ answer_21 ∷ answer_22 ∷ answer_23 ∷ answer_24 ∷ answer_25 ∷ answer_26 ∷ answer_27 ∷ answer_28 ∷ answer_29 ∷ answer_30 ∷ answer_31 ∷ answer_32 ∷ answer_33 ∷ answer_34 ∷ answer_35 ∷ answer_36 ∷ answer_37 ∷ answer_38 ∷ answer_39 ∷ answer_40 ∷ answer_41 ∷ answer_42 ∷ answer_43 ∷ answer_44 ∷ answer_45 ∷ answer_46 ∷ answer_47 ∷ answer_48 ∷ answer_49 ∷ answer_50 ∷ answer_51 ∷ answer_52 ∷ answer_53 ∷ answer_54 ∷ answer_55 ∷ answer_56 ∷ answer_57 ∷ answer_58 ∷ answer_59 ∷ answer_60 ∷ answer_61 ∷ answer_62 ∷ answer_63 ∷ answer_64 ∷ answer_65 ∷ answer_66 ∷ answer_67 ∷ answer_68 ∷ answer_69 ∷ answer_70 ∷ answer_71 ∷ answer_72 ∷ answer_73 ∷ answer_74 ∷ answer_75 ∷ answer_76 ∷ answer_77 ∷ answer_78 ∷ answer_79 ∷ answer_80 ∷ answer_81 ∷ answer_82 ∷ answer_83 ∷ answer_84 ∷ answer_85 ∷ answer_86 ∷ answer_87 ∷ answer_88 ∷ answer_89 ∷ answer_90 ∷ answer_91 ∷ answer_92 ∷ answer_93 ∷ answer_94 ∷ answer_95 ∷ answer_96 ∷ answer_97 ∷ answer_98 ∷ answer_99 ∷ answer_100 ∷ answer_101 ∷ answer_102 ∷ answer_103 ∷ answer_104 ∷ answer_105 ∷ answer_106 ∷ answer_107 ∷ answer_108 ∷ answer_109 ∷ answer_110 ∷ answer_111 ∷ answer_112 ∷ answer_113 ∷ answer_114 ∷ answer_115 ∷ answer_116 ∷ answer_117 ∷ answer_118 ∷ answer_119 ∷ answer_120 ∷ answer_121 ∷ answer_122 ∷ answer_123 ∷ answer_124 ∷ answer_125 ∷ answer_126 ∷ answer_127 ∷ answer_128 ∷ answer_129 ∷ answer_130 ∷ answer_131 ∷ answer_132 ∷ answer_133 ∷ answer_134 ∷ answer_135 ∷ answer_136 ∷ answer_137 ∷ answer_138 ∷ answer_139 ∷ answer_140 ∷ answer_141 ∷ answer_142 ∷ answer_143 ∷ answer_144 ∷ answer_145 ∷ answer_146 ∷ answer_147 ∷ answer_148 ∷ answer_149 ∷ answer_150 ∷ answer_151 ∷ answer_152 ∷ answer_153 ∷ answer_154 ∷ answer_155 ∷ answer_156 ∷ answer_157 ∷ answer_158 ∷ answer_159 ∷ answer_160 ∷ answer_161 ∷ answer_162 ∷ answer_163 ∷ answer_164 ∷ answer_165 ∷ answer_166 ∷ answer_167 ∷ answer_168 ∷ answer_169 ∷ answer_170 ∷ answer_171 ∷ answer_172 ∷ answer_173 ∷ answer_174 ∷ answer_175 ∷ answer_176 ∷ answer_177 ∷ answer_178 ∷ answer_179 ∷ answer_180 ∷ answer_181 ∷ answer_182 ∷ answer_183 ∷ answer_184 ∷ answer_185 ∷ answer_186 ∷ answer_187 ∷ answer_188 ∷ answer_189 ∷ answer_190 ∷ answer_191 ∷ answer_192 ∷ answer_253 ∷ answer_254 ∷ []
+part_answers = answer_0 ∷ answer_1 ∷ answer_2 ∷ answer_3 ∷ answer_4 ∷ answer_5 ∷ answer_6 ∷ answer_7 ∷ answer_8 ∷ answer_9 ∷ answer_10 ∷ answer_11 ∷ answer_12 ∷ answer_13 ∷ answer_14 ∷ answer_15 ∷ answer_16 ∷ answer_17 ∷ answer_18 ∷ answer_19 ∷ answer_20 ∷ answer_21 ∷ answer_22 ∷ answer_23 ∷ answer_24 ∷ answer_25 ∷ answer_26 ∷ answer_27 ∷ answer_28 ∷ answer_29 ∷ answer_30 ∷ answer_31 ∷ answer_32 ∷ answer_33 ∷ answer_34 ∷ answer_35 ∷ answer_36 ∷ answer_37 ∷ answer_38 ∷ answer_39 ∷ answer_40 ∷ answer_41 ∷ answer_42 ∷ answer_43 ∷ answer_44 ∷ answer_45 ∷ answer_46 ∷ answer_47 ∷ answer_48 ∷ answer_49 ∷ answer_50 ∷ answer_51 ∷ answer_52 ∷ answer_53 ∷ answer_54 ∷ answer_55 ∷ answer_56 ∷ answer_57 ∷ answer_58 ∷ answer_59 ∷ answer_60 ∷ answer_61 ∷ answer_62 ∷ answer_63 ∷ answer_64 ∷ answer_65 ∷ answer_66 ∷ answer_67 ∷ answer_68 ∷ answer_69 ∷ answer_70 ∷ answer_71 ∷ answer_72 ∷ answer_73 ∷ answer_74 ∷ answer_75 ∷ answer_76 ∷ answer_77 ∷ answer_78 ∷ answer_79 ∷ answer_80 ∷ answer_81 ∷ answer_82 ∷ answer_83 ∷ answer_84 ∷ answer_85 ∷ answer_86 ∷ answer_87 ∷ answer_88 ∷ answer_89 ∷ answer_90 ∷ answer_91 ∷ answer_92 ∷ answer_93 ∷ answer_94 ∷ answer_95 ∷ answer_96 ∷ answer_97 ∷ answer_98 ∷ answer_99 ∷ answer_100 ∷ answer_101 ∷ answer_102 ∷ answer_103 ∷ answer_104 ∷ answer_105 ∷ answer_106 ∷ answer_107 ∷ answer_108 ∷ answer_109 ∷ answer_110 ∷ answer_111 ∷ answer_112 ∷ answer_113 ∷ answer_114 ∷ answer_115 ∷ answer_116 ∷ answer_117 ∷ answer_118 ∷ answer_119 ∷ answer_120 ∷ answer_121 ∷ answer_122 ∷ answer_123 ∷ answer_124 ∷ answer_125 ∷ answer_126 ∷ answer_127 ∷ answer_128 ∷ answer_129 ∷ answer_130 ∷ answer_131 ∷ answer_132 ∷ answer_133 ∷ answer_134 ∷ answer_135 ∷ answer_136 ∷ answer_137 ∷ answer_138 ∷ answer_139 ∷ answer_140 ∷ answer_141 ∷ answer_142 ∷ answer_143 ∷ answer_144 ∷ answer_145 ∷ answer_146 ∷ answer_147 ∷ answer_148 ∷ answer_149 ∷ answer_150 ∷ answer_151 ∷ answer_152 ∷ answer_153 ∷ answer_154 ∷ answer_155 ∷ answer_156 ∷ answer_157 ∷ answer_158 ∷ answer_159 ∷ answer_160 ∷ answer_161 ∷ answer_162 ∷ answer_163 ∷ answer_164 ∷ answer_165 ∷ answer_166 ∷ answer_167 ∷ answer_168 ∷ answer_169 ∷ answer_170 ∷ answer_171 ∷ answer_172 ∷ answer_173 ∷ answer_174 ∷ answer_175 ∷ answer_176 ∷ answer_177 ∷ answer_178 ∷ answer_179 ∷ answer_180 ∷ answer_181 ∷ answer_182 ∷ answer_183 ∷ answer_184 ∷ answer_185 ∷ answer_186 ∷ answer_187 ∷ answer_188 ∷ answer_189 ∷ answer_250 ∷ answer_251 ∷ []
 
 abbrev pub grown_jobs : List Job
-grown_jobs = job_193 ∷ job_194 ∷ job_195 ∷ job_196 ∷ job_197 ∷ job_198 ∷ job_199 ∷ job_200 ∷ job_201 ∷ job_202 ∷ job_205 ∷ job_206 ∷ job_207 ∷ job_208 ∷ job_209 ∷ job_210 ∷ job_211 ∷ job_212 ∷ job_213 ∷ job_214 ∷ job_215 ∷ job_216 ∷ job_217 ∷ job_242 ∷ []
+grown_jobs = job_190 ∷ job_191 ∷ job_192 ∷ job_193 ∷ job_194 ∷ job_195 ∷ job_196 ∷ job_197 ∷ job_198 ∷ job_199 ∷ job_202 ∷ job_203 ∷ job_204 ∷ job_205 ∷ job_206 ∷ job_207 ∷ job_208 ∷ job_209 ∷ job_210 ∷ job_211 ∷ job_212 ∷ job_213 ∷ job_214 ∷ job_239 ∷ []
 
 abbrev pub grown_answers : List Answer
-grown_answers = answer_193 ∷ answer_194 ∷ answer_195 ∷ answer_196 ∷ answer_197 ∷ answer_198 ∷ answer_199 ∷ answer_200 ∷ answer_201 ∷ answer_202 ∷ answer_205 ∷ answer_206 ∷ answer_207 ∷ answer_208 ∷ answer_209 ∷ answer_210 ∷ answer_211 ∷ answer_212 ∷ answer_213 ∷ answer_214 ∷ answer_215 ∷ answer_216 ∷ answer_217 ∷ answer_242 ∷ []
+grown_answers = answer_190 ∷ answer_191 ∷ answer_192 ∷ answer_193 ∷ answer_194 ∷ answer_195 ∷ answer_196 ∷ answer_197 ∷ answer_198 ∷ answer_199 ∷ answer_202 ∷ answer_203 ∷ answer_204 ∷ answer_205 ∷ answer_206 ∷ answer_207 ∷ answer_208 ∷ answer_209 ∷ answer_210 ∷ answer_211 ∷ answer_212 ∷ answer_213 ∷ answer_214 ∷ answer_239 ∷ []
 
 abbrev pub refused_jobs : List Job
-refused_jobs = job_203 ∷ job_204 ∷ job_218 ∷ job_219 ∷ job_220 ∷ job_221 ∷ job_222 ∷ job_223 ∷ job_224 ∷ job_225 ∷ job_226 ∷ job_227 ∷ job_228 ∷ job_229 ∷ job_230 ∷ job_231 ∷ job_232 ∷ job_233 ∷ job_234 ∷ job_235 ∷ job_236 ∷ job_237 ∷ job_238 ∷ job_239 ∷ job_240 ∷ job_241 ∷ job_243 ∷ job_244 ∷ job_245 ∷ job_246 ∷ job_247 ∷ job_248 ∷ job_249 ∷ job_250 ∷ job_251 ∷ job_252 ∷ []
+refused_jobs = job_200 ∷ job_201 ∷ job_215 ∷ job_216 ∷ job_217 ∷ job_218 ∷ job_219 ∷ job_220 ∷ job_221 ∷ job_222 ∷ job_223 ∷ job_224 ∷ job_225 ∷ job_226 ∷ job_227 ∷ job_228 ∷ job_229 ∷ job_230 ∷ job_231 ∷ job_232 ∷ job_233 ∷ job_234 ∷ job_235 ∷ job_236 ∷ job_237 ∷ job_238 ∷ job_240 ∷ job_241 ∷ job_242 ∷ job_243 ∷ job_244 ∷ job_245 ∷ job_246 ∷ job_247 ∷ job_248 ∷ job_249 ∷ []
 
 abbrev pub refused_answers : List Answer
-refused_answers = answer_203 ∷ answer_204 ∷ answer_218 ∷ answer_219 ∷ answer_220 ∷ answer_221 ∷ answer_222 ∷ answer_223 ∷ answer_224 ∷ answer_225 ∷ answer_226 ∷ answer_227 ∷ answer_228 ∷ answer_229 ∷ answer_230 ∷ answer_231 ∷ answer_232 ∷ answer_233 ∷ answer_234 ∷ answer_235 ∷ answer_236 ∷ answer_237 ∷ answer_238 ∷ answer_239 ∷ answer_240 ∷ answer_241 ∷ answer_243 ∷ answer_244 ∷ answer_245 ∷ answer_246 ∷ answer_247 ∷ answer_248 ∷ answer_249 ∷ answer_250 ∷ answer_251 ∷ answer_252 ∷ []
+refused_answers = answer_200 ∷ answer_201 ∷ answer_215 ∷ answer_216 ∷ answer_217 ∷ answer_218 ∷ answer_219 ∷ answer_220 ∷ answer_221 ∷ answer_222 ∷ answer_223 ∷ answer_224 ∷ answer_225 ∷ answer_226 ∷ answer_227 ∷ answer_228 ∷ answer_229 ∷ answer_230 ∷ answer_231 ∷ answer_232 ∷ answer_233 ∷ answer_234 ∷ answer_235 ∷ answer_236 ∷ answer_237 ∷ answer_238 ∷ answer_240 ∷ answer_241 ∷ answer_242 ∷ answer_243 ∷ answer_244 ∷ answer_245 ∷ answer_246 ∷ answer_247 ∷ answer_248 ∷ answer_249 ∷ []
