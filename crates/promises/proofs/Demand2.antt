@@ -26,27 +26,14 @@ use Rattle.answers.specs.declared.FoundLeaf.{FoundLeaf}
 use Rattle.answers.specs.declared.Read.{Read}
 use Rattle.ma_tree.specs.Runs.{LookingUp, Encoding, Reading}
 use Rattle.promises.specs.Demand2.{Demand2}
-use Rattle.promises.proofs.Numbered.{Numbered, no_nought, contexts-numbered, token-numbered}
+use Rattle.promises.proofs.Numbered.{Numbered, no_nought, token-numbered}
+use Rattle.promises.proofs.Ran.{numbered}
 
 -- ---- lookup
 -- the answer of a lookup that finds a leaf of the standard's
 finds : (nodes : List MaNode) (count : ℕ) (contexts : List ℕ) (t : MaTree) (ps : List ℤ) (r : FoundLeaf) → FindsLeaf (map stored_of nodes) count contexts t ps → LookingUp nodes count ps r
     → (r.number ≡ 0) × (leaf_in (tree_in count (map stored_of nodes)) contexts r.leaf ≡ leaf_for ps t) × (r.pred ≡ (leaf_for ps t).predictor)
 finds nodes count contexts t ps r (i, found, same) run = rw (run ∙ ap found_in found) (refl, same, refl)
-
--- ---- contexts
--- an accepted answer says that nothing was refused
-counted : {L : Type 0} (o : Option Refusal) (entry exit : L) (n leaves : ℕ) → Numbered o → count_in (accepted leaves) ≡ count_in (unless o entry n exit).outcome
-    → (unless o entry n exit).outcome ≡ accepted leaves
-counted none entry exit n leaves h e = ap (λ (c : Count). accepted c.count) (sym e)
-counted (some f) entry exit n leaves h e = absurd (no_nought f h (ap (λ (c : Count). c.number) e))
-
-numbered : (nodes : List (Stored singles)) (count leaves : ℕ) (x y : ContextLists) → count_in (accepted leaves) ≡ count_in (leaf_contexts nodes count x).outcome
-    → y ≡ (leaf_contexts nodes count x).lent → leaf_contexts nodes count x ≡ record { outcome = accepted leaves; lent = y }
-unfolding leaf_contexts
-numbered nodes count leaves x y e l =
-    let told = counted (contexts_refusal nodes count x.contexts x.queue) x _ _ leaves (contexts-numbered nodes count x.contexts x.queue) e in
-    λ i. record { outcome = told i; lent = sym l i }
 
 -- ---- tokens
 value-told : (o : Option Refusal) (v value : ℕ) → Numbered o → value_in (accepted value) ≡ value_in (outcome_of o v) → value ≡ v
@@ -68,7 +55,7 @@ demand2 = record {
       let fits : count ≤ length (map stored_of nodes) = omega (arith, length-map nodes stored_of) in
       (t, is, λ ps r w run. finds nodes count contexts t ps r (lookup_is_standard (map stored_of nodes) count faultless contexts is fits ps w) run);
   numbers = λ nodes count leaves x y run.
-      let (t, d) = contexts_are_standard (map stored_of nodes) count x y leaves (numbered (map stored_of nodes) count leaves x y run.answers run.leaves) in
+      let (t, d) = contexts_are_standard (map stored_of nodes) count x y leaves (numbered nodes count leaves x y run) in
       (t, d, λ ps r w look. ap (λ (l : MaLeaf). l.context) (finds nodes count y.contexts t ps r (d.finds ps w) look).1);
   packs = λ value r run. rw run (unpack_packed value);
   encodes = λ value r run. let e = encodes value r run in (sym (count_is_standard r.token) ∙ e.0, e.1);

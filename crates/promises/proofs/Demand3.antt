@@ -10,53 +10,17 @@ use Rattle.model.specs.Settings as model
 use Rattle.model.specs.Single.{singles}
 use Rattle.model.specs.Profile.{single}
 use Rattle.model.specs.Lent.{Lent}
-use Rattle.model.specs.Refuse.{Refusal, learn_refusal, deepen_refusal, lookup_refusal}
-use Rattle.model.specs.Operations.{accepted, After, unless, outcome_of, Tree, Found, lookup, learn, deepen}
+use Rattle.model.specs.Refuse.{Refusal, learn_refusal, deepen_refusal}
+use Rattle.model.specs.Operations.{accepted, After, unless, Tree, learn, deepen}
 use Rattle.model.proofs.Accepted.{learned_from, deepened_from}
 use Rattle.model.proofs.Promises.{demand3 as model3}
 use Rattle.queue.specs.Room.{cleared}
 use Rattle.refuse.specs.Given.{settings_of}
 use Rattle.refuse.specs.declared.Settings.{Settings}
-use Rattle.answers.specs.Answers.{learned_in, found_in}
-use Rattle.answers.specs.declared.LearnedTree.{LearnedTree}
-use Rattle.answers.specs.declared.FoundLeaf.{FoundLeaf}
 use Rattle.border.specs.Lists.{Records, lent_in, records_after, learn_records, deepen_records}
-use Rattle.ma_tree.specs.Runs.{Learning, Deepening, LookingUp}
+use Rattle.ma_tree.specs.Runs.{Learning, Deepening}
 use Rattle.promises.specs.Demand3.{answered, Demand3}
-use Rattle.promises.proofs.Numbered.{Numbered, no_nought, learn-numbered, deepen-numbered, lookup-numbered}
-
--- an accepted answer says that nothing was refused, and what was answered
-module _ {L : Type 0} (entry exit : L) (answer : Tree singles) where
-  tree-told : (o : Option Refusal) (a : Tree singles) → Numbered o → answered a ≡ learned_in (unless o entry answer exit).outcome → (unless o entry answer exit).outcome ≡ accepted a
-  tree-told none a h e = ap (λ (r : LearnedTree). accepted (record { nodes = r.nodes; leaves = r.leaves; bits = r.bits; flat = r.flat })) (sym e)
-  tree-told (some r) a h e = absurd (no_nought r h (ap (λ (l : LearnedTree). l.number) e))
-
-leaf-told : (o : Option Refusal) (answer f : Found) → Numbered o → found_in (accepted f) ≡ found_in (outcome_of o answer) → outcome_of o answer ≡ accepted f
-leaf-told none answer f h e = ap (λ (r : FoundLeaf). accepted (record { leaf = r.leaf; pred = r.pred })) (sym e)
-leaf-told (some r) answer f h e = absurd (no_nought r h (ap (λ (l : FoundLeaf). l.number) e))
-
--- ---- an accepted run, as the model has it
-
-abbrev Ran : Tree singles → Records → After (Tree singles) (Lent singles)
-Ran a y = record { outcome = accepted a; lent = lent_in y }
-
-ran : (a : Tree singles) (y : Records) (w : After (Tree singles) (Lent singles)) → w.outcome ≡ accepted a → lent_in y ≡ w.lent → w ≡ Ran a y
-ran a y w told left = λ i. record { outcome = told i; lent = sym left i }
-
-pub learnt : (s : Settings) (logs : List Float) (x y : Records) (a : Tree singles) → Learning s logs x (answered a) y → learn single (settings_of s) logs (lent_in x) ≡ Ran a y
-unfolding learn learn_refusal
-learnt s logs x y a run = ran a y (learn single (settings_of s) logs (lent_in x))
-    (tree-told (lent_in x) _ _ (learn_refusal single (settings_of s) logs (lent_in x)) a (learn-numbered (settings_of s) logs (lent_in x)) run.answers) run.leaves
-
-pub deepened : (s : Settings) (logs : List Float) (count : ℕ) (x y : Records) (a : Tree singles) → Deepening s logs count x (answered a) y
-    → deepen single (settings_of s) logs count (lent_in x) ≡ Ran a y
-unfolding deepen deepen_refusal
-deepened s logs count x y a run = ran a y (deepen single (settings_of s) logs count (lent_in x))
-    (tree-told (lent_in x) _ _ (deepen_refusal single (settings_of s) logs count (lent_in x)) a (deepen-numbered (settings_of s) logs count (lent_in x)) run.answers) run.leaves
-
-found : (x : Records) (count : ℕ) (ps : List ℤ) (f : Found) → LookingUp x.nodes count ps (found_in (accepted f)) → lookup (lent_in x).nodes count ps ≡ accepted f
-unfolding lookup lookup_refusal
-found x count ps f run = leaf-told (lookup_refusal (lent_in x).nodes count ps) _ f (lookup-numbered (lent_in x).nodes count ps) run
+use Rattle.promises.proofs.Ran.{Ran, learnt, deepened, looked_up}
 
 -- ---- the queue, number by number
 
@@ -94,5 +58,5 @@ demand3 = record {
   };
   learn_kept = λ s logs x y a run. model3.learn_kept (settings_of s) logs (lent_in x) (lent_in y) a (learnt s logs x y a run);
   deepen_kept = λ s logs count x y a run. model3.deepen_kept (settings_of s) logs count (lent_in x) (lent_in y) a (deepened s logs count x y a run);
-  looked_up = found;
+  looked_up = λ x count ps f run. looked_up x.nodes count ps f run;
 }

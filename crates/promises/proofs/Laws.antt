@@ -19,7 +19,7 @@ use Rattle.refuse.specs.declared.Settings.{Settings}
 use Rattle.answers.specs.Answers.{learned_in}
 use Rattle.border.specs.Lists.{Records, lent_in, records_after, learn_records, deepen_records}
 use Rattle.promises.specs.Laws.{Laws}
-use Rattle.promises.proofs.Demand3.{learnt, deepened}
+use Rattle.promises.proofs.Ran.{learnt, deepened}
 
 -- record by record and number by number as well
 module _ (t : model.Settings singles) (logs : List Float) (x : Records) (b : Bool) (unpruned : Unpruned single t) where

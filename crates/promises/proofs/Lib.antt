@@ -1,7 +1,9 @@
--- `Tied`: the contracts themselves. `Numbered`: the numbers of refusals. `Demand1`, `Demand2`, `Demand3`, `Laws`: the promises of runs, from the model's laws and the contracts.
+-- `Tied`: the contracts themselves. `Numbered`: the numbers of refusals. `Ran`: an accepted run is the model's operation. `Demand1`, `Demand2`, `Demand3`, `Laws`, `Symbols`: the promises of runs, from the model's laws and the contracts.
 pub mod Tied
 pub mod Numbered
+pub mod Ran
 pub mod Demand1
 pub mod Demand2
 pub mod Demand3
 pub mod Laws
+pub mod Symbols

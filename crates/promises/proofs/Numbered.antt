@@ -1,4 +1,4 @@
--- Every refusal's number is one of 1 to 10: the conditions one after another. So an answer of number 0 is no refusal's. Assumes nothing.
+-- Every refusal's number is one of 1 to 11: the conditions one after another. So an answer of number 0 is no refusal's. Assumes nothing.
 use mathlib.Core.Path.{◌≡◌}
 use mathlib.Core.Bool.{Bool, true, false, not, ◌||◌}
 use mathlib.Core.List.{List}
@@ -13,10 +13,12 @@ use Rattle.model.specs.Settings.{Settings, props_per_row, max_rows}
 use Rattle.model.specs.Single.{singles}
 use Rattle.model.specs.Profile.{single}
 use Rattle.model.specs.Token.{readable}
-use Rattle.model.specs.Tree.{fault_of, fault_on_way}
+use Rattle.model.specs.Tree.{Record, fault_of, fault_on_way}
+use Rattle.model.specs.Symbols.{symbols_of}
+use Rattle.model.specs.declared.Symbol.{Symbol}
 use Rattle.model.specs.Lent.{Stored, Lent, row_count, tree_in}
 use Rattle.model.specs.Refuse.{Refusal, refuse_if, refuse_at, refuse_with, is_outside, has_no_predictor, is_uneven, bad_row_from, is_short_alphabet, is_bad_logs, is_short_of_room, Besides, nothing_besides, refused_before, seed_besides}
-use Rattle.model.specs.Refuse.{learn_refusal, deepen_refusal, lookup_refusal, contexts_refusal, sample_refusal, token_refusal}
+use Rattle.model.specs.Refuse.{learn_refusal, deepen_refusal, lookup_refusal, fault_in, contexts_refusal, write_refusal, read_refusal, sample_refusal, token_refusal}
 
 -- the number of a refusal, and 1 if there is none
 abbrev number_of : Option Refusal → ℕ
@@ -25,7 +27,7 @@ number_of (some r) = r.number
 
 pub record Numbered (o : Option Refusal) : Type 0 where
   pub above : 1 ≤ number_of o
-  pub below : number_of o ≤ 10
+  pub below : number_of o ≤ 11
 
 pub no_nought : (r : Refusal) → Numbered (some r) → 0 ≡ r.number → ⊥
 no_nought r h e = omega (arith, h.above, e)
@@ -33,15 +35,15 @@ no_nought r h e = omega (arith, h.above, e)
 unrefused : Numbered none
 unrefused = record { above = lit≤ tt; below = lit≤ tt }
 
--- a number from 1 to 10, by computation
-module _ (n : ℕ) (low : T (leb 1 n)) (high : T (leb n 10)) where
+-- a number from 1 to 11, by computation
+module _ (n : ℕ) (low : T (leb 1 n)) (high : T (leb n 11)) where
   numbered_if : (b : Bool) {next : Option Refusal} → Numbered next → Numbered (refuse_if b n next)
-  numbered_if true rest = record { above = leb→le 1 n low; below = leb→le n 10 high }
+  numbered_if true rest = record { above = leb→le 1 n low; below = leb→le n 11 high }
   numbered_if false rest = rest
 
   numbered-at : (place : Option ℕ) {next : Option Refusal} → Numbered next → Numbered (refuse_at place n next)
   numbered-at none rest = rest
-  numbered-at (some p) rest = record { above = leb→le 1 n low; below = leb→le n 10 high }
+  numbered-at (some p) rest = record { above = leb→le 1 n low; below = leb→le n 11 high }
 
 numbered_with : {o next : Option Refusal} → Numbered o → Numbered next → Numbered (refuse_with o next)
 numbered_with {o = none} h rest = rest
@@ -69,7 +71,18 @@ lookup-numbered nodes count ps =
 pub contexts-numbered : (nodes : List (Stored singles)) (count : ℕ) (contexts queue : List ℕ) → Numbered (contexts_refusal nodes count contexts queue)
 unfolding contexts_refusal
 contexts-numbered nodes count contexts queue =
-    numbered_if 8 tt tt (ltb (length nodes) count) (numbered-at 8 tt tt (fault_of (tree_in count nodes)) (numbered_if 7 tt tt (ltb (length contexts) count || ltb (length queue) count) unrefused))
+    numbered-at 8 tt tt (fault_in count nodes) (numbered_if 7 tt tt (ltb (length contexts) count || ltb (length queue) count) unrefused)
+
+pub write-numbered : (nodes : List (Stored singles)) (count : ℕ) (symbols : List Symbol) (queue : List ℕ) → Numbered (write_refusal nodes count symbols queue)
+unfolding write_refusal
+write-numbered nodes count symbols queue =
+    numbered-at 8 tt tt (fault_in count nodes)
+    (numbered_if 7 tt tt (ltb (length symbols) (length (symbols_of (tree_in count nodes))) || ltb (length queue) count) unrefused)
+
+pub read-numbered : (tree : Option (List (Record singles))) (nodes : List (Stored singles)) → Numbered (read_refusal tree nodes)
+unfolding read_refusal
+read-numbered none nodes = numbered_if 11 tt tt true unrefused
+read-numbered (some tree) nodes = numbered_if 7 tt tt (ltb (length nodes) (length tree)) unrefused
 
 pub sample-numbered : (rows target : ℕ) (out : List ℕ) → Numbered (sample_refusal rows target out)
 unfolding sample_refusal

@@ -9,6 +9,7 @@ use Rattle.std.specs.Borrow.{Bor, MutBor}
 use denote.Triple.Entry.{Args, Res}
 use denote.Triple.Clauses.{Ended, Clauses, Lasts, at_exit}
 use Rattle.model.specs.declared.Encoded.{Encoded}
+use Rattle.model.specs.declared.Symbol.{Symbol}
 use Rattle.refuse.specs.declared.Settings.{Settings}
 use Rattle.rows.specs.Flat.{flat}
 use Rattle.layout.specs.Waiting.{queue_lists}
@@ -19,7 +20,7 @@ use Rattle.answers.specs.declared.FoundLeaf.{FoundLeaf}
 use Rattle.answers.specs.declared.LearnedTree.{LearnedTree}
 use Rattle.answers.specs.declared.Read.{Read}
 use Rattle.border.specs.Lists.{Records, records, contexts_now}
-use Rattle.ma_tree.specs.Runs.{records_now, Learning, Deepening, LookingUp, Numbering, Sampling, Packing, Encoding, Reading}
+use Rattle.ma_tree.specs.Runs.{records_now, symbol_lists, Learning, Deepening, LookingUp, Numbering, WritingSymbols, ReadingSymbols, Sampling, Packing, Encoding, Reading}
 
 -- what a run of an operation may be: its arguments at entry, its answer, and the last values of what it was lent to write
 abbrev pub Relation : Ended → Type 1
@@ -60,6 +61,13 @@ LookingUpRun a r = LookingUp a.0.now a.1.0 a.1.1.0.now r
 
 abbrev pub NumberingRun : Bor (List MaNode) × (ℕ × (MutBor (List ℕ) × (MutBor (List ℕ) × Unit {0}))) → Count → Unit {0} × (Unit {0} × (List ℕ × (List ℕ × Unit {0}))) → Type 0
 NumberingRun a r w = Numbering a.0.now a.1.0 (contexts_now a.1.1.0 a.1.1.1.0) r (record { contexts = w.1.1.0; queue = w.1.1.1.0 })
+
+abbrev pub WritingSymbolsRun : Bor (List MaNode) × (ℕ × (MutBor (List Symbol) × (MutBor (List ℕ) × Unit {0}))) → Count
+    → Unit {0} × (Unit {0} × (List Symbol × (List ℕ × Unit {0}))) → Type 0
+WritingSymbolsRun a r w = WritingSymbols a.0.now a.1.0 (symbol_lists a.1.1.0.now a.1.1.1.0.now) r (symbol_lists w.1.1.0 w.1.1.1.0)
+
+abbrev pub ReadingSymbolsRun : Bor (List Symbol) × (MutBor (List MaNode) × Unit {0}) → Count → Unit {0} × (List MaNode × Unit {0}) → Type 0
+ReadingSymbolsRun a r w = ReadingSymbols a.0.now a.1.0.now r w.1.0
 
 abbrev pub SamplingRun : ℕ × (ℕ × (MutBor (List ℕ) × Unit {0})) → Count → Unit {0} × (Unit {0} × (List ℕ × Unit {0})) → Type 0
 SamplingRun a r w = Sampling a.0 a.1.0 a.1.1.0.now r w.1.1.0
