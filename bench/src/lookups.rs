@@ -27,7 +27,7 @@ pub fn lookups(sheet: &Sheet, settings: &Settings) {
 }
 
 /// The tree's nodes and no others.
-fn learnt(sheet: &Sheet, settings: &Settings) -> Vec<MaNode> {
+pub fn learnt(sheet: &Sheet, settings: &Settings) -> Vec<MaNode> {
     let settings = without_settling(settings);
     let mut room = Room::for_learning(&settings, sheet.len());
     let mut rows = sheet.rows();

@@ -3,9 +3,9 @@
 //!     bench SEED [learning] < jobs
 //!
 //! The jobs are of learning, digit sheets first and the worst settings last, made from the seed, which is only printed. Each
-//! one is learned whole. Unless `learning` alone is asked for, the rows of each sheet are looked up in its tree, and tokens and
-//! the learner's parts are timed on each sheet of 65,536 rows and residuals. The original is compiled from the oracle's
-//! copy, by the same names.
+//! one is learned whole. Unless `learning` alone is asked for, the rows of each sheet are looked up in its tree, the tree is
+//! written as symbols, and tokens and the learner's parts are timed on each sheet of 65,536 rows and residuals. The original
+//! is compiled from the oracle's copy, by the same names.
 
 #[path = "lent.rs"]
 mod adaptive_quant;
@@ -20,11 +20,15 @@ mod coder_scratch;
 mod entropy;
 mod learning;
 mod lookups;
+#[path = "../../oracle/src/oracle/lossless.rs"]
+#[allow(dead_code)]
+mod lossless;
 #[path = "../../oracle/target/generated/ma_tree/mod.rs"]
 #[allow(dead_code, unused_imports)]
 mod ma_tree;
 mod parts;
 mod sheet;
+mod symbols;
 #[path = "../../oracle/src/oracle/thread_pool.rs"]
 #[allow(dead_code)]
 mod thread_pool;
@@ -77,6 +81,7 @@ fn run(seed: &str, learning_alone: bool) -> Result<(), Damaged> {
     };
     for job in sheets {
         lookups::lookups(&Sheet::of(job), &job.settings);
+        symbols::symbols(&Sheet::of(job), &job.settings);
     }
     for sheet in sheets.iter().map(Sheet::of) {
         if sheet.len() == ROWS && sheet.res.len() == ROWS {

@@ -246,7 +246,15 @@ impl Scoring {
         bins.clear();
         bins.resize(self.plan.hist_len(), 0);
         let plan = std::slice::from_ref(&self.plan);
-        scan_split_plans(rows, tokens, plan, &self.luts, &self.preds, &self.window, bins);
+        scan_split_plans(
+            rows,
+            tokens,
+            plan,
+            &self.luts,
+            &self.preds,
+            &self.window,
+            bins,
+        );
         score_split_plan(
             &self.plan,
             &self.preds,

@@ -7,13 +7,18 @@ mod tree;
 use crate::entropy::Token;
 use crate::ma_tree::LearnedTree;
 
-/// The context of each node (4,294,967,295 for a split) and how many there are.
+/// The tree's symbols, the context of each node (4,294,967,295 for a split) and how many contexts there are.
+pub(crate) fn emitted(tree: &LearnedTree) -> (Vec<Token>, Vec<u32>, u32) {
+    tree::emit_learned_tree(tree)
+}
+
+/// The contexts alone, and how many there are.
 pub(crate) fn leaf_contexts(tree: &LearnedTree) -> (Vec<u32>, u32) {
-    let (_tokens, contexts, count) = tree::emit_learned_tree(tree);
+    let (_tokens, contexts, count) = emitted(tree);
     (contexts, count)
 }
 
-/// The tree's symbols, in the order in which they are transmitted.
+/// The symbols alone, in the order in which they are transmitted.
 pub(crate) fn tree_symbols(tree: &LearnedTree) -> Vec<Token> {
-    tree::emit_learned_tree(tree).0
+    emitted(tree).0
 }

@@ -1,0 +1,38 @@
+//! The tree that was learnt from a sheet, written as JPEG XL transmits it, and the contexts of its leaves: the original
+//! gives both at once, the port by two operations, each of which sees first that the tree is sound.
+
+use crate::lookups::learnt;
+use crate::lossless::emitted;
+use crate::ma_tree::{LearnedTree, hooks};
+use crate::sheet::Sheet;
+use crate::timing::{Run, row_of_items, timed};
+use ostrovuc::{MaNode, Symbol, leaf_contexts, symbols_length, write_symbols};
+use stream::Settings;
+
+pub fn symbols(sheet: &Sheet, settings: &Settings) {
+    let nodes = learnt(sheet, settings);
+    let tree = hooks::tree_of(&jobs::records(&nodes));
+    let name = format!("symbols and contexts of {} nodes", nodes.len());
+    row_of_items(&name, nodes.len(), || of_rust(&tree), || of_port(&nodes));
+}
+
+/// Context and value of each symbol, and the context of each node.
+type Emitted = (Vec<(u32, u32)>, Vec<u32>);
+
+fn of_rust(tree: &LearnedTree) -> Run<Emitted> {
+    let (time, (), (tokens, contexts, _)) = timed((), |()| emitted(tree));
+    let symbols = tokens.iter().map(|token| (token.context, token.value));
+    (time, (symbols.collect(), contexts))
+}
+
+fn of_port(nodes: &[MaNode]) -> Run<Emitted> {
+    let count = nodes.len() as u32;
+    let symbols = vec![Symbol::default(); symbols_length(count)];
+    let lent = (symbols, vec![0; nodes.len()], vec![0; nodes.len()]);
+    let (time, (symbols, contexts, _), ()) = timed(lent, |(symbols, contexts, queue)| {
+        write_symbols(nodes, count, symbols, queue).expect("accepted");
+        leaf_contexts(nodes, count, contexts, queue).expect("accepted");
+    });
+    let symbols = symbols.iter().map(|symbol| (symbol.context, symbol.value));
+    (time, (symbols.collect(), contexts))
+}
