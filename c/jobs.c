@@ -1,6 +1,6 @@
 /*
  * Answers a job stream (standard input) through the C interface, on standard output, for comparison with the oracle byte for byte. It has the public
- * operations, kinds 1 to 8, 32 and 33. Every list goes into an answer whole, filled beforehand as the job says.
+ * operations, kinds 1 to 8, 32 and 33, and a stream's version message, kind 30. Every list goes into an answer whole, filled beforehand as the job says.
  */
 #include "ostrovuc.h"
 #include "wire.h"
@@ -8,7 +8,10 @@
 /* What a queue entry prints as that is neither zero nor untouched. */
 #define OTHER UINT32_C(4294967294)
 
-enum kind { LEARN = 1, DEEPEN, LOOKUP, CONTEXTS, SAMPLING, PACK, TOKEN, VALUE, WRITE_SYMBOLS = 32, READ_SYMBOLS };
+enum kind { LEARN = 1, DEEPEN, LOOKUP, CONTEXTS, SAMPLING, PACK, TOKEN, VALUE, VERSION = 30, WRITE_SYMBOLS = 32, READ_SYMBOLS };
+
+/* The state of this format: the base with so many of the requests that came after it. */
+#define STATE UINT32_C(3)
 
 static uint32_t *filled(size_t length, uint32_t fill) {
     uint32_t *list = new_list(length, sizeof *list);
@@ -338,21 +341,37 @@ static void answer(uint32_t kind, struct reader *from, struct writer *to) {
     case VALUE: answer_value(from, to); break;
     case WRITE_SYMBOLS: answer_write_symbols(from, to); break;
     case READ_SYMBOLS: answer_read_symbols(from, to); break;
+    case VERSION: damaged("a version message that is not the first"); break;
     default: damaged("a job of a kind other than 1 to 8, 32 and 33");
     }
+}
+
+/* Answers the stream's first message if it is a version message, which says what state the stream is of; tells whether what follows is to be answered. */
+static bool greets(uint32_t kind, struct reader *from, struct writer *to) {
+    if (kind != VERSION) {
+        answer(kind, from, to);
+        return true;
+    }
+    write_word(to, STATE);
+    return read_word(from) == STATE;
 }
 
 int main(void) {
     struct writer to = {NULL, 0, 0};
     uint32_t kind, length;
     uint8_t *body;
-    while ((body = next_message(&kind, &length)) != NULL) {
+    bool first = true, goes_on = true;
+    while (goes_on && (body = next_message(&kind, &length)) != NULL) {
         struct reader from = {body, length};
         to.length = 0;
-        answer(kind, &from, &to);
+        if (first)
+            goes_on = greets(kind, &from, &to);
+        else
+            answer(kind, &from, &to);
         if (from.left != 0) damaged("a message has bytes too many");
         put_message(kind, &to);
         free(body);
+        first = false;
     }
     free(to.bytes);
     if (fflush(stdout) != 0) {
