@@ -1,6 +1,7 @@
 //! Reads the one job of learning or deepening that a file holds.
 
 use crate::words::counted;
+use crate::{pgm, symbols};
 use std::fmt;
 use stream::{Damaged, Job, Learning, read_message};
 
@@ -103,11 +104,10 @@ pub fn read(mut bytes: &[u8]) -> Result<LearningJob, WrongInput> {
 
 /// The first word says the kind. What follows it can only be understood if that is right.
 fn check_start(bytes: &[u8]) -> Result<(), WrongInput> {
-    if bytes.starts_with(b"P5") || bytes.starts_with(b"P2") {
+    if pgm::begins_picture(bytes) {
         return Err(WrongInput::Picture);
     }
-    // A tree's first symbol is its root's property, of context 1.
-    if bytes.starts_with(b"1 ") {
+    if symbols::begins_list(bytes) {
         return Err(WrongInput::Symbols);
     }
     let Some(&word) = bytes.first_chunk() else {

@@ -80,6 +80,11 @@ impl fmt::Display for NoPicture {
 
 impl std::error::Error for NoPicture {}
 
+/// Whether these bytes begin as a picture does, whatever follows.
+pub fn begins_picture(bytes: &[u8]) -> bool {
+    bytes.starts_with(b"P5") || bytes.starts_with(b"P2")
+}
+
 /// Reads the one picture that `bytes` hold.
 pub fn read(bytes: &[u8]) -> Result<Picture, NoPicture> {
     let mut text = Text { left: bytes };

@@ -1,5 +1,6 @@
 //! A tree's symbols as text, one a line: context, value and the context's name, as in `1 10 property`.
 
+use crate::pgm;
 use crate::tree::Tree;
 use ostrovuc::{
     MaNode, Refusal, Symbol, SymbolContext, read_nodes_length, read_symbols, symbols_length,
@@ -32,6 +33,8 @@ pub fn nodes(symbols: &[Symbol]) -> Result<Vec<MaNode>, Refusal> {
 /// Why a text is no list of symbols; whether symbols are a tree is another question.
 #[derive(Debug, Eq, PartialEq)]
 pub enum NoList {
+    Picture,
+    Job,
     NoPair {
         line: usize,
     },
@@ -45,6 +48,11 @@ pub enum NoList {
 impl fmt::Display for NoList {
     fn fmt(&self, f: &mut fmt::Formatter<'_>) -> fmt::Result {
         match *self {
+            Self::Picture => write!(f, "a PGM picture and not a list of symbols"),
+            Self::Job => write!(
+                f,
+                "a stream of jobs and not a list of symbols; without --from-symbols a job of learning is read"
+            ),
             Self::NoPair { line } => write!(
                 f,
                 "line {line} is no pair: a context and a value of 32 bits are due, as in '1 10 property'"
@@ -63,10 +71,28 @@ impl fmt::Display for NoList {
 
 impl std::error::Error for NoList {}
 
+/// Whether these bytes begin as a list of symbols does, with a pair in the first line, whatever follows.
+pub fn begins_list(bytes: &[u8]) -> bool {
+    let first = bytes.split(|&byte| byte == b'\n').next();
+    let no_pair = Err(NoList::NoPair { line: 1 });
+    first.is_some_and(|text| symbol(text, 1) != no_pair)
+}
+
 /// Reads symbols from a text. Names may be left out.
 pub fn read(text: &[u8]) -> Result<Vec<Symbol>, NoList> {
+    if pgm::begins_picture(text) {
+        return Err(NoList::Picture);
+    }
+    if begins_stream(text) {
+        return Err(NoList::Job);
+    }
     let lines = text.split_inclusive(|&byte| byte == b'\n').zip(1..);
     lines.map(|(text, line)| symbol(text, line)).collect()
+}
+
+/// A stream begins with the number of a kind, of which all are below 256: so its second byte is 0, which no text has.
+fn begins_stream(bytes: &[u8]) -> bool {
+    matches!(bytes, [kind, 0, 0, 0, ..] if *kind != 0)
 }
 
 fn symbol(text: &[u8], line: usize) -> Result<Symbol, NoList> {

@@ -328,58 +328,57 @@ fn assert_wrong(name: &str, content: &[u8], why: &str) {
 }
 
 #[test]
-fn wrong_files() {
+fn files_cut_short() {
     let whole = bytes(Job::Learn(small_job()));
     let body = whole.len() - 8;
-    assert_wrong(
-        "empty",
-        b"",
-        "empty, where a job of learning or deepening is due",
-    );
-    assert_wrong(
-        "cut in its kind",
-        &whole[..3],
-        "cut short: a message ends too early",
-    );
-    assert_wrong(
-        "cut in its head",
-        &whole[..6],
-        "cut short: a message ends too early",
-    );
-    let cut = format!("cut short: a body of {body} bytes ends after {}", body - 5);
-    assert_wrong("cut in its body", &whole[..whole.len() - 5], &cut);
+    let why = "empty, where a job of learning or deepening is due";
+    assert_wrong("empty", b"", why);
+    let why = "cut short: a message ends too early";
+    assert_wrong("cut in its kind", &whole[..3], why);
+    assert_wrong("cut in its head", &whole[..6], why);
+    let why = format!("cut short: a body of {body} bytes ends after {}", body - 5);
+    assert_wrong("cut in its body", &whole[..whole.len() - 5], &why);
+}
+
+#[test]
+fn files_with_more_than_a_job() {
+    let whole = bytes(Job::Learn(small_job()));
     let twice = [&whole[..], &whole].concat();
-    assert_wrong(
-        "two jobs",
-        &twice,
-        &format!("{} bytes follow the job; one job is due", whole.len()),
-    );
-    assert_wrong(
-        "left over",
-        &[&whole[..], b"\n"].concat(),
-        "1 byte follows the job; one job is due",
-    );
-    assert_wrong(
-        "picture",
-        b"P5\n1 1\n255\n0",
-        "a PGM picture and not a job; pgm_to_job makes a job of it",
-    );
-    assert_wrong(
-        "symbols",
-        b"1 0 property\n",
-        "a list of symbols and not a job; --from-symbols reads it",
-    );
-    assert_wrong(
-        "prose",
-        b"some text",
-        "not a job: there is no kind 1701670771",
-    );
-    let lookup = bytes(Job::Pack(vec![1]));
-    assert_wrong(
-        "another kind",
-        &lookup,
-        "a job of packing, where learning or deepening is due",
-    );
+    let why = format!("{} bytes follow the job; one job is due", whole.len());
+    assert_wrong("two jobs", &twice, &why);
+    let more = [&whole[..], b"\n"].concat();
+    let why = "1 byte follows the job; one job is due";
+    assert_wrong("left over", &more, why);
+}
+
+#[test]
+fn files_of_something_else() {
+    let why = "a PGM picture and not a job; pgm_to_job makes a job of it";
+    assert_wrong("picture", b"P5\n1 1\n255\n0", why);
+    let why = "not a job: there is no kind 1701670771";
+    assert_wrong("prose", b"some text", why);
+    let packing = bytes(Job::Pack(vec![1]));
+    let why = "a job of packing, where learning or deepening is due";
+    assert_wrong("another kind", &packing, why);
+}
+
+/// However the pair in the first line is written.
+#[test]
+fn lists_of_symbols() {
+    let why = "a list of symbols and not a job; --from-symbols reads it";
+    for list in [
+        "1 0 property\n2 5 predictor\n",
+        "1\t0\tproperty\r\n2\t5\r\n",
+        "  1 0\n",
+        "\t1  0",
+        "01 0\n",
+        "1 0 split_val\n",
+        "0 7\n1 0\n",
+    ] {
+        assert_wrong("symbols", list.as_bytes(), why);
+    }
+    let why = "not a job: there is no kind 168632369";
+    assert_wrong("no pair", b"1 \r\n0 0\n", why);
 }
 
 #[test]

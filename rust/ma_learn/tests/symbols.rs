@@ -226,14 +226,32 @@ fn what_is_refused_has_a_fault() {
     assert!(refused > 1_000 && accepted > 50, "{refused}, {accepted}");
 }
 
+/// A file of this content is refused as a list, with its name and this reason.
+fn assert_no_list(name: &str, content: &[u8], why: &str) {
+    let path = file(name, content);
+    let path = path.to_str().expect("a plain path");
+    let ran = run(MA_LEARN, &["--from-symbols", path], b"");
+    assert_fails(&ran, 2, &format!("ma_learn: {path}: {why}"));
+}
+
+#[test]
+fn files_of_something_else() {
+    let wrong = |content: &[u8], why: &str| assert_no_list("something else", content, why);
+    let sheet = include_bytes!("../../../sheets/digits.pgm");
+    wrong(sheet, "a PGM picture and not a list of symbols");
+    wrong(b"P2 1 1 1 0", "a PGM picture and not a list of symbols");
+    let why = "a stream of jobs and not a list of symbols; \
+               without --from-symbols a job of learning is read";
+    let sheet = concat!(env!("CARGO_MANIFEST_DIR"), "/../../sheets/digits.pgm");
+    wrong(&run(PGM_TO_JOB, &[sheet], b"").output, why);
+    for kind in [2, 10, 30, 33, 49] {
+        wrong(&[kind, 0, 0, 0, 4, 0, 0, 0, 1, 2, 3, 4], why);
+    }
+}
+
 #[test]
 fn files_that_are_no_lists() {
-    let wrong = |content: &[u8], why: &str| {
-        let path = file("no list", content);
-        let path = path.to_str().expect("a plain path");
-        let ran = run(MA_LEARN, &["--from-symbols", path], b"");
-        assert_fails(&ran, 2, &format!("ma_learn: {path}: {why}"));
-    };
+    let wrong = |content: &[u8], why: &str| assert_no_list("no list", content, why);
     let no_pair = |line: usize| {
         format!(
             "line {line} is no pair: a context and a value of 32 bits are due, as in '1 10 property'"
@@ -254,7 +272,6 @@ fn files_that_are_no_lists() {
         wrong(with(6, &[line]).as_bytes(), &no_pair(6));
     }
     wrong(b"1 0\n2 \xff\n", &no_pair(2));
-    wrong(b"\x01\x00\x00\x00\x08\x00\x00\x00", &no_pair(1));
     let other = "line 6: context 2 is named predictor";
     wrong(with(6, &["2 5 property"]).as_bytes(), other);
     wrong(b"6 0 split_val", "line 1: context 6 has no name");
