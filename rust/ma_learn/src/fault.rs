@@ -83,32 +83,49 @@ pub fn of(symbols: &[Symbol]) -> Option<Fault> {
 }
 
 fn whole_tree(symbols: &[Symbol]) -> Result<(), Fault> {
-    let mut at = 0;
-    let mut take = |due| -> Result<(u32, usize), Fault> {
-        let line = at + 1;
-        let value = value(symbols.get(at), line, due)?;
-        at = line;
-        Ok((value, line))
-    };
+    let mut rest = Rest { symbols, at: 0 };
     let (mut read, mut nodes) = (0, 1);
     while read < nodes {
         read += 1;
-        let (property, line) = take(Property)?;
-        if property == 0 {
-            for due in [Predictor, Offset, MultiplierLog, MultiplierBits] {
-                take(due)?;
-            }
-        } else {
-            take(SplitVal)?;
+        if rest.node()? {
             nodes += 2;
             if nodes > MOST_NODES {
-                return Err(Fault::Nodes { line });
+                // The split has two symbols, its property first.
+                return Err(Fault::Nodes { line: rest.at - 1 });
             }
         }
     }
-    match symbols.len() > at {
-        true => Err(Fault::LeftOver { line: at + 1 }),
+    match symbols.len() > rest.at {
+        true => Err(Fault::LeftOver { line: rest.at + 1 }),
         false => Ok(()),
+    }
+}
+
+/// What is left of a list.
+struct Rest<'a> {
+    symbols: &'a [Symbol],
+    /// How many symbols were taken.
+    at: usize,
+}
+
+impl Rest<'_> {
+    /// Takes a node's symbols, and tells whether it is a split.
+    fn node(&mut self) -> Result<bool, Fault> {
+        let is_split = self.take(Property)? != 0;
+        let due: &[SymbolContext] = if is_split {
+            &[SplitVal]
+        } else {
+            &[Predictor, Offset, MultiplierLog, MultiplierBits]
+        };
+        due.iter().try_for_each(|&due| self.take(due).map(drop))?;
+        Ok(is_split)
+    }
+
+    fn take(&mut self, due: SymbolContext) -> Result<u32, Fault> {
+        let line = self.at + 1;
+        let value = value(self.symbols.get(self.at), line, due)?;
+        self.at = line;
+        Ok(value)
     }
 }
 
