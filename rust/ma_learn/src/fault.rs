@@ -46,7 +46,7 @@ impl fmt::Display for Fault {
                 let (name, most) = (context.name(), most(context));
                 write!(
                     f,
-                    "line {line}: {name} {value}, where at most {most} is due"
+                    "line {line}: {name} symbol {value}, where at most {most} is due"
                 )
             }
             Self::Nodes { line } => {

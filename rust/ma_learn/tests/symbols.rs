@@ -164,19 +164,19 @@ fn symbols_of_another_context() {
 fn symbols_with_a_value_too_large() {
     refused(
         &with(1, &["1 25"]),
-        "line 1: property 25, where at most 24 is due",
+        "line 1: property symbol 25, where at most 24 is due",
     );
     refused(
         &with(16, &["2 14"]),
-        "line 16: predictor 14, where at most 13 is due",
+        "line 16: predictor symbol 14, where at most 13 is due",
     );
     refused(
         &with(8, &["4 1"]),
-        "line 8: multiplier_log 1, where at most 0 is due",
+        "line 8: multiplier_log symbol 1, where at most 0 is due",
     );
     refused(
         &with(9, &["5 1"]),
-        "line 9: multiplier_bits 1, where at most 0 is due",
+        "line 9: multiplier_bits symbol 1, where at most 0 is due",
     );
 }
 
