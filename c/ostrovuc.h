@@ -86,7 +86,7 @@ typedef struct ostrovuc_span {
     uint32_t end;
 } ostrovuc_span;
 
-/* A symbol of a tree as ISO/IEC 18181-1 transmits it: what it tells of a node, by the standard's number, and a value. */
+/* A symbol of a tree as ISO/IEC 18181-1 has it: what it tells of a node, by the standard's number, and a value. */
 typedef struct ostrovuc_symbol {
     uint32_t context;
     uint32_t value;
@@ -285,8 +285,9 @@ ostrovuc_count ostrovuc_leaf_contexts(
 /*
  * Writes the tree of `count` nodes as ISO/IEC 18181-1 transmits it, breadth first, gt before le, and gives how many
  * symbols there are: a split is (1, property + 1), (0, packed value), a leaf is (1, 0), (2, predictor),
- * (3, packed offset), (4, 0), (5, 0). `symbols` has at least ostrovuc_symbols_length(count) entries and `queue` at least
- * `count`, with any bytes in them; symbols past those written stay, the queue holds zeros after. Refusals 8, then 7.
+ * (3, packed offset), (4, 0), (5, 0). `symbols` has at least ostrovuc_symbols_length(count) entries and `queue` at
+ * least `count`, with any bytes in them; symbols past those written stay, the queue holds zeros after. Refusals 8,
+ * then 7.
  */
 ostrovuc_count ostrovuc_write_symbols(
     const ostrovuc_ma_node *nodes, size_t nodes_length, uint32_t count, ostrovuc_symbol *symbols, size_t symbols_length,

@@ -122,7 +122,7 @@ const FAMILIES: &[Family] = &[
     family("score-65536", "scoring alone, 65,535 and 65,536 rows", scores::longest),
     family("marks", "the places of set marks alone, of none to 65,600 marks", marks::marks),
     family("probes", "candidates of 31 to 2,047 probed values, at every edge of their marks' range", marks::probes),
-    family("symbols", "the symbol writer on trees of every shape and numbering, with room and without", symbols::symbols),
+    family("symbols", "the symbol writer on trees of any shape and numbering, with room and without", symbols::symbols),
     family("symbol-faults", "the symbol writer on every fault of a tree alone and two at once", symbols::symbol_faults),
     family("symbol-reads", "the symbol reader on lists of trees, with room and without", symbols::symbol_reads),
     family("unreadable", "the symbol reader on lists of no tree, each way alone", symbols::unreadable),
