@@ -31,12 +31,12 @@ extern "C" {
 #define OSTROVUC_PROPERTIES 24
 #define OSTROVUC_PREDICTORS 14
 
-/* The largest job: rows, leaves, and nodes of a seed. */
+/* The largest job: rows, leaves, and nodes of a seed, or of a tree that is written as symbols or read from them. */
 #define OSTROVUC_MAX_ROWS 65536
 #define OSTROVUC_MAX_LEAVES 4096
 #define OSTROVUC_MAX_NODES 8191
 
-/* A node's kind. Whatever is not OSTROVUC_SPLIT is read as a leaf; learning and deepening write these two. */
+/* A node's kind. Whatever is not OSTROVUC_SPLIT is read as a leaf; a node that is written has one of these two. */
 #define OSTROVUC_LEAF UINT32_C(0)
 #define OSTROVUC_SPLIT UINT32_C(1)
 

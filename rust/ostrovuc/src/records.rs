@@ -27,7 +27,7 @@ pub struct MaNode {
 }
 
 impl MaNode {
-    /// The kind that learning and deepening give a leaf.
+    /// The kind of each leaf that is written, by learning, deepening or reading symbols.
     pub const LEAF: u32 = 0;
     /// The kind of a split.
     pub const SPLIT: u32 = 1;
