@@ -1,4 +1,6 @@
 //! What a writer might do wrong. By none of it must a decoder come to the same pixels, else the test shows nothing.
+//! libjxl refuses each, and for a reason that is known, so that a file which is spoilt elsewhere does not easily pass
+//! for it.
 
 use crate::codestream::Picture;
 use crate::tree::Tree;
@@ -10,17 +12,28 @@ use ostrovuc::{MaNode, Symbol, pack_signed};
 /// Spoils what is transmitted of a picture with this tree.
 pub type Fault = fn(&Tree, &mut Picture);
 
-pub const ALL: [(&str, Fault); 10] = [
-    ("tree contexts 0, 1 traded", |_, sent| trade(sent, 0)),
-    ("tree contexts 2, 3 traded", |_, sent| trade(sent, 2)),
-    ("tree contexts 4, 5 traded", |_, sent| trade(sent, 4)),
-    ("properties without the 1", |_, sent| lower(sent)),
-    ("split values not packed", |_, sent| unpack(sent, SplitVal)),
-    ("offsets not packed", |_, sent| unpack(sent, Offset)),
-    ("gt and le traded", le_first),
-    ("nodes depth first", depth_first),
-    ("leaf contexts 0, 1 traded", |_, sent| trade_leaves(sent)),
-    ("leaves in the nodes' order", number_by_node),
+/// In the tree: a property beyond all that there are.
+const PROPERTY: &str = "Invalid tree property value";
+/// In the tree: a predictor beyond 13.
+const PREDICTOR: &str = "Invalid predictor";
+/// Of the tree, when it is whole: a split that sends all rows one way, for what those above it leave of its property.
+const TREE: &str = "Invalid tree";
+/// In the pixels: what they are decoded by takes more bits than there are.
+const PIXELS: &str = "Truncated input";
+
+/// Each with its name, and libjxl's words for the reason.
+#[rustfmt::skip]
+pub const ALL: [(&str, Fault, &str); 10] = [
+    ("tree contexts 0, 1 traded", |_, sent| trade(sent, 0), PROPERTY),
+    ("tree contexts 2, 3 traded", |_, sent| trade(sent, 2), PREDICTOR),
+    ("tree contexts 4, 5 traded", |_, sent| trade(sent, 4), PIXELS),
+    ("properties without the 1", |_, sent| lower(sent), PIXELS),
+    ("split values not packed", |_, sent| unpack(sent, SplitVal), TREE),
+    ("offsets not packed", |_, sent| unpack(sent, Offset), PIXELS),
+    ("gt and le traded", le_first, TREE),
+    ("nodes depth first", depth_first, TREE),
+    ("leaf contexts 0, 1 traded", |_, sent| trade_leaves(sent), PIXELS),
+    ("leaves in the nodes' order", number_by_node, PIXELS),
 ];
 
 /// Symbols of this context get the next one's number, and those of the next one this.

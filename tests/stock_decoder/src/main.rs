@@ -1,6 +1,6 @@
 //! Shows that a stock JPEG XL decoder takes the trees that the library writes: pictures that are sent with trees
-//! learnt from them come back pixel for pixel, and with a fault in tree or contexts they do not. Its argument is a
-//! folder for files.
+//! learnt from them come back pixel for pixel, and with a fault in tree or contexts they are refused. Its argument is
+//! a folder for files.
 
 mod bits;
 mod codes;
@@ -14,7 +14,7 @@ use faults::Fault;
 use ma_learn::picture::Picture;
 use std::error::Error;
 use std::process::ExitCode;
-use stock::Decoder;
+use stock::{Decoded, Decoder};
 use tree::Tree;
 
 /// The leaf limits of the trees that are learnt from each picture.
@@ -35,8 +35,8 @@ fn main() -> ExitCode {
             tally.say(&name, comes_back(&decoder, &picture, limit));
         }
     }
-    for (name, fault) in faults::ALL {
-        tally.say(name, is_noticed(&decoder, fault));
+    for (name, fault, reason) in faults::ALL {
+        tally.say(name, is_refused(&decoder, fault, reason));
     }
     tally.end()
 }
@@ -56,15 +56,21 @@ fn comes_back(decoder: &Decoder, picture: &Picture, limit: u32) -> Result<String
     ))
 }
 
-/// Says in what the bundled sheet, which comes back without the fault, does not with it.
-fn is_noticed(decoder: &Decoder, fault: Fault) -> Result<String, Box<dyn Error>> {
+/// Says why the bundled sheet, which comes back without the fault, is refused with it; no other reason will do.
+fn is_refused(decoder: &Decoder, fault: Fault, due: &str) -> Result<String, Box<dyn Error>> {
     let picture = pictures::digits();
     let tree = Tree::learn(&picture, LIMIT_WITH_FAULTS)?;
     let mut sent = tree.transmit(&picture)?;
     fault(&tree, &mut sent);
     let decoded = decoder.decode(&sent.codestream())?;
-    let difference = decoded.difference(&picture);
-    difference.ok_or_else(|| "the same pixels, in spite of the fault".into())
+    if let Decoded::Refused(why) = &decoded
+        && why.ends_with(&format!(": {due}"))
+    {
+        return Ok(format!("refused: {due}"));
+    }
+    let found = decoded.difference(&picture);
+    let found = found.unwrap_or_else(|| "the same pixels".into());
+    Err(format!("{found}, where '{due}' is due").into())
 }
 
 /// What was tried.
