@@ -9,16 +9,7 @@ use stream::{ReadSymbolsJob, Symbol, WriteSymbolsJob};
 /// A tree to be written: fewer nodes, with as much room as they leave or as is taken with them, and less of it.
 pub fn write(s: &mut Shrinker<'_, WriteSymbolsJob>) -> Result<()> {
     trees::tree(s)?;
-    let mut at = 0;
-    while at < s.job.nodes.given.len() {
-        s.attempt(|job| with_room(job, |job| trees::fold(job, at)))?;
-        at += 1;
-    }
-    at = 1;
-    while at < s.job.nodes.given.len() {
-        let kept = s.attempt(|job| with_room(job, |job| trees::keep_from(job, at)))?;
-        at = if kept { 1 } else { at + 1 };
-    }
+    trees::smaller(s, with_room)?;
     s.lower(|job| &mut job.fill)?;
     s.lower(|job| &mut job.count)?;
     s.lower(|job| &mut job.nodes.entries)?;
@@ -27,7 +18,7 @@ pub fn write(s: &mut Shrinker<'_, WriteSymbolsJob>) -> Result<()> {
 }
 
 /// Takes away the room of what an edit takes out.
-fn with_room(job: &mut WriteSymbolsJob, edit: impl FnOnce(&mut WriteSymbolsJob)) {
+fn with_room(job: &mut WriteSymbolsJob, edit: &dyn Fn(&mut WriteSymbolsJob)) {
     let (pairs, count) = (pairs(job), job.count);
     edit(job);
     job.pair_entries = (job.pair_entries + self::pairs(job)).saturating_sub(pairs);
@@ -42,6 +33,19 @@ fn pairs(job: &WriteSymbolsJob) -> u32 {
 
 /// A list to be read: fewer nodes, with room or without, then fewer pairs, nearer to 0.
 pub fn read(s: &mut Shrinker<'_, ReadSymbolsJob>) -> Result<()> {
+    folds(s)?;
+    parts(s)?;
+    s.pieces(
+        |job| job.symbols.len(),
+        |job, piece| drop(job.symbols.drain(piece)),
+    )?;
+    numbers(s)?;
+    s.lower(|job| &mut job.node_entries)?;
+    s.lower(|job| &mut job.fill)
+}
+
+/// A leaf for a node and all below it.
+fn folds(s: &mut Shrinker<'_, ReadSymbolsJob>) -> Result<()> {
     let mut at = 0;
     while at < nodes_of(&s.job.symbols).len() {
         if !s.attempt(|job| job.symbols = folded(&job.symbols, at))? {
@@ -49,22 +53,27 @@ pub fn read(s: &mut Shrinker<'_, ReadSymbolsJob>) -> Result<()> {
         }
         at += 1;
     }
-    at = 1;
+    Ok(())
+}
+
+/// A node and all below it alone.
+fn parts(s: &mut Shrinker<'_, ReadSymbolsJob>) -> Result<()> {
+    let mut at = 1;
     while at < nodes_of(&s.job.symbols).len() {
         let kept = s.attempt(|job| job.symbols = from(&job.symbols, at))?
             || s.attempt(|job| with_entries(job, |symbols| from(symbols, at)))?;
         at = if kept { 1 } else { at + 1 };
     }
-    s.pieces(
-        |job| job.symbols.len(),
-        |job, piece| drop(job.symbols.drain(piece)),
-    )?;
+    Ok(())
+}
+
+/// Each pair's numbers nearer to 0.
+fn numbers(s: &mut Shrinker<'_, ReadSymbolsJob>) -> Result<()> {
     for at in 0..s.job.symbols.len() {
         s.lower(|job| &mut job.symbols[at].context)?;
         s.lower(|job| &mut job.symbols[at].value)?;
     }
-    s.lower(|job| &mut job.node_entries)?;
-    s.lower(|job| &mut job.fill)
+    Ok(())
 }
 
 /// Takes away the room of the nodes that an edit takes out.
@@ -107,15 +116,13 @@ fn from(symbols: &[Symbol], root: usize) -> Vec<Symbol> {
 
 /// Which nodes are below this one, or it: the children of split j of all are nodes 2j + 1 and 2j + 2.
 fn reached_from(nodes: &[&[Symbol]], root: usize) -> Vec<bool> {
+    let is_split = |&node: &usize| nodes[node][0].value != 0;
+    let splits: Vec<usize> = (0..nodes.len()).filter(is_split).collect();
     let mut reached = vec![false; nodes.len()];
     reached[root] = true;
-    let splits = (0..nodes.len()).filter(|&node| nodes[node][0].value != 0);
-    for (j, split) in splits.enumerate() {
-        for child in [2 * j + 1, 2 * j + 2] {
-            if reached[split] && child > split && child < nodes.len() {
-                reached[child] = true;
-            }
-        }
+    for node in root + 1..nodes.len() {
+        let parent = splits.get((node - 1) / 2);
+        reached[node] = parent.is_some_and(|&split| split < node && reached[split]);
     }
     reached
 }

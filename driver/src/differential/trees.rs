@@ -45,19 +45,7 @@ impl Tree for PruneJob {
 }
 
 pub fn tree<J: Tree>(s: &mut Shrinker<'_, J>) -> Result<()> {
-    let mut at = 0;
-    while at < s.job.nodes().len() {
-        s.attempt(|job| fold(job, at))?;
-        at += 1;
-    }
-    at = 1;
-    while at < s.job.nodes().len() {
-        at = if s.attempt(|job| keep_from(job, at))? {
-            1
-        } else {
-            at + 1
-        };
-    }
+    smaller(s, |job, edit| edit(job))?;
     s.pieces(
         |job| job.nodes().len(),
         |job, piece| keep_only(job, |node| !piece.contains(&node)),
@@ -65,8 +53,35 @@ pub fn tree<J: Tree>(s: &mut Shrinker<'_, J>) -> Result<()> {
     fields(s)
 }
 
+/// What goes around an edit of a tree: it may change more of the job than the tree.
+pub type Around<J> = fn(&mut J, edit: &dyn Fn(&mut J));
+
+/// Splits folded, then a part of the tree in its place.
+pub fn smaller<J: Tree>(s: &mut Shrinker<'_, J>, around: Around<J>) -> Result<()> {
+    folds(s, around)?;
+    parts(s, around)
+}
+
+fn folds<J: Tree>(s: &mut Shrinker<'_, J>, around: Around<J>) -> Result<()> {
+    let mut at = 0;
+    while at < s.job.nodes().len() {
+        s.attempt(|job| around(job, &|job| fold(job, at)))?;
+        at += 1;
+    }
+    Ok(())
+}
+
+fn parts<J: Tree>(s: &mut Shrinker<'_, J>, around: Around<J>) -> Result<()> {
+    let mut at = 1;
+    while at < s.job.nodes().len() {
+        let kept = s.attempt(|job| around(job, &|job| keep_from(job, at)))?;
+        at = if kept { 1 } else { at + 1 };
+    }
+    Ok(())
+}
+
 /// Makes a node a leaf, and drops what then has no way to it.
-pub fn fold<J: Tree>(job: &mut J, at: usize) {
+fn fold<J: Tree>(job: &mut J, at: usize) {
     let nodes = job.nodes();
     if nodes[at].is_split() {
         let Record {
@@ -82,7 +97,7 @@ pub fn fold<J: Tree>(job: &mut J, at: usize) {
 }
 
 /// Keeps the tree below a node alone.
-pub fn keep_from<J: Tree>(job: &mut J, root: usize) {
+fn keep_from<J: Tree>(job: &mut J, root: usize) {
     let reached = reached_from(job.nodes(), root);
     keep_only(job, |node| reached[node]);
 }
