@@ -133,19 +133,25 @@ const FAULTY_ROOMS: [Room; 5] = [EXACT, (NONE, NONE), (9, 3), (-1, 0), (0, -1)];
 pub fn symbol_faults(at: At) -> Job {
     let mut rng = at.rng();
     let turn = at.index as usize;
-    let mut nodes = to_be_spoilt(&mut rng);
     let mut chosen = alone_then_two(at.index, FAULTS.len() + COUNTS.len());
     chosen.sort_unstable();
     let (faults, counts): (Vec<_>, Vec<_>) = chosen.into_iter().partition(|&n| n < FAULTS.len());
-    for fault in faults {
-        FAULTS[fault](&mut rng, &mut nodes);
-    }
+    let nodes = spoilt(&mut rng, faults);
     let room = FAULTY_ROOMS[turn % FAULTY_ROOMS.len()];
     let mut job = writing(&mut rng, nodes, room);
     for count in counts {
         COUNTS[count - FAULTS.len()](&mut job);
     }
     Job::WriteSymbols(job)
+}
+
+/// A tree with these faults.
+fn spoilt(rng: &mut Rng, faults: Vec<usize>) -> Vec<Record> {
+    let mut nodes = to_be_spoilt(rng);
+    for fault in faults {
+        FAULTS[fault](rng, &mut nodes);
+    }
+    nodes
 }
 
 /// Seven sorts of trees with five sorts of room: all together among the first 35 jobs.
