@@ -34,14 +34,14 @@ impl Codes {
             self.write_map(bits);
         }
         bits.bool(true); // Prefix codes, and not ANS.
-        for _ in &self.of_contexts {
-            write_token_form(bits);
-        }
+        self.write_of_each(bits, |_, bits| write_token_form(bits));
+        self.write_of_each(bits, Code::write_size);
+        self.write_of_each(bits, Code::write_widths);
+    }
+
+    fn write_of_each(&self, bits: &mut Bits, part: fn(&Code, &mut Bits)) {
         for code in &self.of_contexts {
-            code.write_size(bits);
-        }
-        for code in &self.of_contexts {
-            code.write_widths(bits);
+            part(code, bits);
         }
     }
 
@@ -91,14 +91,10 @@ struct Code {
 }
 
 impl Code {
-    /// Tokens are added until their number is no power of two. Then some have shorter words: the first ones in an even
-    /// context, the last ones in an odd one.
-    fn of(context: usize, mut tokens: BTreeSet<u32>) -> Self {
-        let mut size = tokens.last().map_or(0, |last| last + 1);
-        while tokens.len() < 3 || tokens.len().is_power_of_two() {
-            tokens.insert(size);
-            size += 1;
-        }
+    /// Some tokens have shorter words: the first ones in an even context, the last ones in an odd one.
+    fn of(context: usize, tokens: BTreeSet<u32>) -> Self {
+        let tokens = filled_up(tokens);
+        let size = tokens.last().map_or(0, |last| last + 1);
         let width = tokens.len().ilog2() + 1;
         let shorter = (1 << width) - tokens.len();
         let longer = tokens.len() - shorter;
@@ -139,6 +135,16 @@ impl Code {
             bits.word(4, width);
         }
     }
+}
+
+/// With more tokens behind these, until there are three or more and their number is no power of two.
+fn filled_up(mut tokens: BTreeSet<u32>) -> BTreeSet<u32> {
+    let mut next = tokens.last().map_or(0, |last| last + 1);
+    while tokens.len() < 3 || tokens.len().is_power_of_two() {
+        tokens.insert(next);
+        next += 1;
+    }
+    tokens
 }
 
 /// A decoder is told widths alone, and hands out words by width, then by token (RFC 7932, 3.2).

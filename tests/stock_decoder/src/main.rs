@@ -30,15 +30,23 @@ fn main() -> ExitCode {
     let decoder = Decoder::new(folder.into());
     let mut tally = Tally::default();
     for (name, picture) in pictures::all() {
-        for limit in LIMITS {
-            let name = format!("{name}, limit {limit}");
-            tally.say(&name, comes_back(&decoder, &picture, limit));
-        }
+        try_limits(&decoder, &mut tally, name, &picture);
     }
-    for (name, fault, reason) in faults::ALL {
-        tally.say(name, is_refused(&decoder, fault, reason));
-    }
+    try_faults(&decoder, &mut tally);
     tally.end()
+}
+
+fn try_limits(decoder: &Decoder, tally: &mut Tally, name: &str, picture: &Picture) {
+    for limit in LIMITS {
+        let name = format!("{name}, limit {limit}");
+        tally.say(&name, comes_back(decoder, picture, limit));
+    }
+}
+
+fn try_faults(decoder: &Decoder, tally: &mut Tally) {
+    for (name, fault, reason) in faults::ALL {
+        tally.say(name, is_refused(decoder, fault, reason));
+    }
 }
 
 /// Says what was sent, or in what the picture does not come back as it was.
