@@ -160,22 +160,28 @@ static struct job job_by_rows(unsigned number) {
     return job;
 }
 
-int main(void) {
-    unsigned by_settings = 4 * 4 * 4 * 4 * 4, by_rows = 4 * 4;
-    for (unsigned number = 0; number < by_settings; number++) {
-        struct job job = job_by_settings(number);
+/* Tries the jobs of so many numbers. */
+static unsigned try_jobs(struct job (*job_by)(unsigned), unsigned numbers) {
+    for (unsigned number = 0; number < numbers; number++) {
+        struct job job = job_by(number);
         try_job(&job);
     }
-    for (unsigned number = 0; number < by_rows; number++) {
-        struct job job = job_by_rows(number);
-        try_job(&job);
-    }
+    return numbers;
+}
+
+/* Tries trees of all sizes, the small ones each, and gives how many. */
+static unsigned try_trees(void) {
     unsigned trees = 0;
     for (uint32_t count = 1; count <= OSTROVUC_MAX_NODES; count += count < 127 ? 2 : 126) {
         try_tree(count);
         trees++;
     }
-    unsigned jobs = by_settings + by_rows;
+    return trees;
+}
+
+int main(void) {
+    unsigned jobs = try_jobs(job_by_settings, 4 * 4 * 4 * 4 * 4) + try_jobs(job_by_rows, 4 * 4);
+    unsigned trees = try_trees();
     printf("%u jobs and %u trees, with each list as long as is due and an entry shorter\n", jobs, trees);
     return 0;
 }
