@@ -2,10 +2,10 @@
 //!
 //!     bench SEED [learning] < jobs
 //!
-//! The jobs are of learning, digit sheets first and the worst settings last, made from the seed, which is only printed. Each
-//! one is learned whole. Unless `learning` alone is asked for, the rows of each sheet are looked up in its tree, the tree is
-//! written as symbols, and tokens and the learner's parts are timed on each sheet of 65,536 rows and residuals. The original
-//! is compiled from the oracle's copy, by the same names.
+//! The jobs are of learning, digit sheets first and the worst settings last, made from the seed, which is only printed.
+//! Each one is learned whole. Unless `learning` alone is asked for, the rows of each sheet are looked up in its tree, the
+//! tree is written as symbols, and tokens and the learner's parts are timed on each sheet of 65,536 rows and residuals.
+//! The original is compiled from the oracle's copy, by the same names.
 
 #[path = "lent.rs"]
 mod adaptive_quant;
