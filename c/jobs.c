@@ -1,6 +1,7 @@
 /*
- * Answers a job stream (standard input) through the C interface, on standard output, for comparison with the oracle byte for byte. It has the public
- * operations, kinds 1 to 8, 32 and 33, and a stream's version message, kind 30. Every list goes into an answer whole, filled beforehand as the job says.
+ * Answers a job stream (standard input) through the C interface, on standard output, for comparison with the oracle
+ * byte for byte. It has the public operations, kinds 1 to 8, 32 and 33, and a stream's version message, kind 30. Every
+ * list goes into an answer whole, filled beforehand as the job says.
  */
 #include "ostrovuc.h"
 #include "wire.h"
@@ -8,7 +9,11 @@
 /* What a queue entry prints as that is neither zero nor untouched. */
 #define OTHER UINT32_C(4294967294)
 
-enum kind { LEARN = 1, DEEPEN, LOOKUP, CONTEXTS, SAMPLING, PACK, TOKEN, VALUE, VERSION = 30, WRITE_SYMBOLS = 32, READ_SYMBOLS };
+enum kind {
+    LEARN = 1, DEEPEN, LOOKUP, CONTEXTS, SAMPLING, PACK, TOKEN, VALUE,
+    VERSION = 30,
+    WRITE_SYMBOLS = 32, READ_SYMBOLS
+};
 
 /* The state of this format: the base with so many of the requests that came after it. */
 #define STATE UINT32_C(3)
@@ -346,7 +351,10 @@ static void answer(uint32_t kind, struct reader *from, struct writer *to) {
     }
 }
 
-/* Answers the stream's first message if it is a version message, which says what state the stream is of; tells whether what follows is to be answered. */
+/*
+ * Answers the stream's first message if it is a version message, which says what state the stream is of; tells whether
+ * what follows is to be answered.
+ */
 static bool greets(uint32_t kind, struct reader *from, struct writer *to) {
     if (kind != VERSION) {
         answer(kind, from, to);
