@@ -13,7 +13,30 @@ pub fn symbols(sheet: &Sheet, settings: &Settings) {
     let nodes = learnt(sheet, settings);
     let tree = hooks::tree_of(&jobs::records(&nodes));
     let name = format!("symbols and contexts of {} nodes", nodes.len());
-    row_of_items(&name, nodes.len(), || of_rust(&tree), || of_port(&nodes));
+    let mut lists = Lists::of(nodes.len());
+    row_of_items(
+        &name,
+        nodes.len(),
+        || of_rust(&tree),
+        || of_port(&nodes, &mut lists),
+    );
+}
+
+/// What a caller of the port lends, again and again.
+struct Lists {
+    symbols: Vec<Symbol>,
+    contexts: Vec<u32>,
+    queue: Vec<u32>,
+}
+
+impl Lists {
+    fn of(nodes: usize) -> Self {
+        Self {
+            symbols: vec![Symbol::default(); symbols_length(nodes as u32)],
+            contexts: vec![0; nodes],
+            queue: vec![0; nodes],
+        }
+    }
 }
 
 /// Context and value of each symbol, and the context of each node.
@@ -25,14 +48,13 @@ fn of_rust(tree: &LearnedTree) -> Run<Emitted> {
     (time, (symbols.collect(), contexts))
 }
 
-fn of_port(nodes: &[MaNode]) -> Run<Emitted> {
+fn of_port(nodes: &[MaNode], lists: &mut Lists) -> Run<Emitted> {
     let count = nodes.len() as u32;
-    let symbols = vec![Symbol::default(); symbols_length(count)];
-    let lent = (symbols, vec![0; nodes.len()], vec![0; nodes.len()]);
-    let (time, (symbols, contexts, _), ()) = timed(lent, |(symbols, contexts, queue)| {
-        write_symbols(nodes, count, symbols, queue).expect("accepted");
-        leaf_contexts(nodes, count, contexts, queue).expect("accepted");
+    let (time, lists, ()) = timed(lists, |lists| {
+        write_symbols(nodes, count, &mut lists.symbols, &mut lists.queue).expect("accepted");
+        leaf_contexts(nodes, count, &mut lists.contexts, &mut lists.queue).expect("accepted");
     });
-    let symbols = symbols.iter().map(|symbol| (symbol.context, symbol.value));
-    (time, (symbols.collect(), contexts))
+    let symbols = lists.symbols.iter();
+    let symbols = symbols.map(|symbol| (symbol.context, symbol.value));
+    (time, (symbols.collect(), lists.contexts.clone()))
 }
