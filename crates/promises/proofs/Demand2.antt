@@ -6,12 +6,11 @@ use Prim.Native.Nat.{ℕ, ◌≤◌}
 use native.Mathlib.Omega.{arith}
 use lib.ListN.{length, length-map}
 use lib.IntN.{ℤ}
-use Rattle.model.specs.Single.{singles}
 use Rattle.model.specs.Standard.{MaLeaf, MaTree, leaf_for, read_hybrid, default_config}
 use Rattle.model.specs.Token.{extra_count, value_of, encoded_of}
-use Rattle.model.specs.Lent.{Stored, tree_in}
-use Rattle.model.specs.Refuse.{Refusal, contexts_refusal, token_refusal}
-use Rattle.model.specs.Operations.{accepted, unless, outcome_of, ContextLists, leaf_contexts, token_answer}
+use Rattle.model.specs.Lent.{tree_in}
+use Rattle.model.specs.Refuse.{Refusal, token_refusal}
+use Rattle.model.specs.Operations.{accepted, outcome_of, token_answer}
 use Rattle.model.specs.Decoder.{leaf_in, FindsLeaf}
 use Rattle.model.specs.declared.Encoded.{Encoded}
 use Rattle.model.proofs.Packing.{unpack_packed}
@@ -20,8 +19,7 @@ use Rattle.model.proofs.StandardLookup.{sound_is_standard, lookup_is_standard}
 use Rattle.model.proofs.StandardContexts.{contexts_are_standard}
 use Rattle.layout.specs.Records.{stored_of}
 use Rattle.layout.specs.declared.MaNode.{MaNode}
-use Rattle.answers.specs.Answers.{found_in, count_in, value_in}
-use Rattle.answers.specs.declared.Count.{Count}
+use Rattle.answers.specs.Answers.{found_in, value_in}
 use Rattle.answers.specs.declared.FoundLeaf.{FoundLeaf}
 use Rattle.answers.specs.declared.Read.{Read}
 use Rattle.ma_tree.specs.Runs.{LookingUp, Encoding, Reading}

@@ -1,29 +1,20 @@
 -- What document 02, c, says of runs of writing and reading symbols, from the model's laws and the contracts. Assumes nothing.
-use mathlib.Core.Path.{◌≡◌, sym, ap, ◌∙◌}
-use mathlib.Core.List.{List, map}
-use mathlib.Core.Option.{Option, none, some}
-use Prim.Native.Nat.{ℕ, ◌≤◌}
+use mathlib.Core.Path.{◌≡◌, ap, ◌∙◌}
+use mathlib.Core.List.{map}
+use Prim.Native.Nat.{ℕ}
 use native.Mathlib.Omega.{arith}
 use lib.ListN.{length, take, length-map}
-use lib.IntN.{ℤ}
-use Rattle.model.specs.Lists.{written_over}
 use Rattle.model.specs.Single.{singles}
-use Rattle.model.specs.Symbols.{tree_read}
-use Rattle.model.specs.Refuse.{Refusal, lookup_refusal, contexts_refusal, write_refusal, read_refusal}
-use Rattle.model.specs.Lent.{Stored}
-use Rattle.model.specs.Operations.{Outcome, accepted, refused, After, Found, lookup, ContextLists, leaf_contexts, SymbolLists, write_symbols, read_symbols, unless, outcome_of}
+use Rattle.model.specs.Operations.{accepted, After, write_symbols, read_symbols}
 use Rattle.model.specs.SymbolsKept.{SymbolsKept}
-use Rattle.model.specs.declared.Symbol.{Symbol}
 use Rattle.model.proofs.Accepted.{write-passed}
 use Rattle.model.proofs.StandardLookup.{sound_is_standard}
 use Rattle.model.proofs.StandardContexts.{contexts_are_standard}
 use Rattle.model.proofs.StandardSymbols.{symbols_are_standard, read_is_standard}
 use Rattle.model.proofs.SymbolRuns.{symbols-kept}
 use Rattle.layout.specs.Records.{stored_of}
-use Rattle.layout.specs.declared.MaNode.{MaNode}
-use Rattle.answers.specs.Answers.{count_in, found_in}
+use Rattle.answers.specs.Answers.{count_in}
 use Rattle.answers.specs.declared.Count.{Count}
-use Rattle.ma_tree.specs.Runs.{LookingUp, Numbering, WritingSymbols, ReadingSymbols}
 use Rattle.promises.specs.Symbols.{Symbols}
 use Rattle.promises.proofs.Ran.{looked_up, numbered, written, read}
 
