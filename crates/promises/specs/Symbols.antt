@@ -1,20 +1,26 @@
 -- A tree as JPEG XL symbols, about runs of the public operations (document 02, c). `ReadAgain` and `ReadTree` are the model's (SymbolsKept), field by field: the tree renumbered breadth first, its
 -- contexts and its lookups; they speak of what the operations answer and of what they leave in the node lists. Assumes nothing.
-use Rattle.std.specs.Prelude.{ℕ, ◌≤◌, ◌≡◌, List, [], ◌∷◌, map, length, take, replicate, ℤ}
+use Rattle.std.specs.Prelude.{ℕ, ◌≤◌, ◌≡◌, List, [], ◌∷◌, map, length, take, replicate, ℤ, Float}
 use Rattle.model.specs.Lists.{written_over}
 use Rattle.model.specs.Single.{singles}
+use Rattle.model.specs.Profile.{single}
 use Rattle.model.specs.Standard.{MaTree, Transmits}
 use Rattle.model.specs.Symbols.{breadth_tree}
 use Rattle.model.specs.Lent.{stored, tree_in}
-use Rattle.model.specs.Operations.{accepted, Found, lookup, ContextLists, leaf_contexts, SymbolLists}
+use Rattle.model.specs.Operations.{accepted, Tree, Found, lookup, ContextLists, leaf_contexts, SymbolLists}
 use Rattle.model.specs.Decoder.{IsTree, DecodersTree}
+use Rattle.model.specs.Promise.{Unpruned}
 use Rattle.model.specs.SymbolsKept.{ReadAgain, ReadTree}
 use Rattle.model.specs.declared.Symbol.{Symbol}
+use Rattle.refuse.specs.Given.{settings_of}
+use Rattle.refuse.specs.declared.Settings.{Settings}
 use Rattle.layout.specs.Records.{stored_of}
 use Rattle.layout.specs.declared.MaNode.{MaNode}
 use Rattle.answers.specs.Answers.{count_in, found_in}
 use Rattle.answers.specs.declared.Count.{Count}
-use Rattle.ma_tree.specs.Runs.{LookingUp, Numbering, WritingSymbols, ReadingSymbols}
+use Rattle.border.specs.Lists.{Records, lent_in}
+use Rattle.ma_tree.specs.Runs.{Deepening, LookingUp, Numbering, WritingSymbols, ReadingSymbols}
+use Rattle.promises.specs.Demand3.{answered}
 
 pub record Symbols : Type 0 where
   -- the symbols written are what a decoder reads as the tree that the nodes are, whatever contexts its leaves are given
@@ -33,6 +39,10 @@ pub record Symbols : Type 0 where
   -- the tree that a decoder reads of them
   pub reads_standard : (symbols : List Symbol) (count : ℕ) (room z : List MaNode) (contexts : List ℕ) → ReadingSymbols symbols room (count_in (accepted count)) z
       → (t : MaTree) × IsTree (map stored_of z) count contexts t × Transmits symbols (t ∷ [])
+  -- and its records are a rowless seed's: a deepening of it with no rows, unpruned, leaves the same tree under the same numbers
+  pub rowless : (symbols : List Symbol) (count : ℕ) (room z : List MaNode) → ReadingSymbols symbols room (count_in (accepted count)) z
+      → (s : Settings) (logs : List Float) (x y : Records) (a : Tree singles) → Unpruned single (settings_of s) → x.nodes ≡ z → (lent_in x).props ≡ []
+      → Deepening s logs count x (answered a) y → (a.nodes ≡ count) × (tree_in count (map stored_of y.nodes) ≡ tree_in count (map stored_of z))
   -- and where they and a queue of the node count have room they are written back: the same symbols; entries past them are unchanged, the queue holds zeros
   pub read_written : (symbols : List Symbol) (count : ℕ) (room z : List MaNode) (x y : SymbolLists) (r : Count) → ReadingSymbols symbols room (count_in (accepted count)) z
       → length symbols ≤ length x.symbols → count ≤ length x.queue → WritingSymbols z count x r y
