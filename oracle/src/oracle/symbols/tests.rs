@@ -75,16 +75,21 @@ fn a_leaf_alone() {
     assert_eq!(read.nodes, [Record::leaf(13, -3)]);
 }
 
-/// 0 splits to 1 and 2, 1 to 3 and 4, and 2 comes before 3.
-#[test]
-fn the_order_is_breadth_first() {
-    let nodes = [
+/// 0 splits to 1 and 2, 1 to 3 and 4.
+fn five_nodes() -> [Record; 5] {
+    [
         Record::split(0, 8, 1, 2),
         Record::split(23, -1, 3, 4),
         Record::leaf(2, 0),
         Record::leaf(3, 1),
         Record::leaf(4, -1),
-    ];
+    ]
+}
+
+/// Of these, 2 comes before 3.
+#[test]
+fn the_order_is_breadth_first() {
+    let nodes = five_nodes();
     let pairs = [
         [(1, 1), (0, 16)].as_slice(),
         &[(1, 24), (0, 1)],
@@ -174,13 +179,7 @@ fn what_the_writer_refuses() {
         (|job| job.count = 3, 8, 1),
         (|job| (job.count, job.nodes.entries) = (8_192, 8_192), 8, 0),
     ];
-    let nodes = [
-        Record::split(0, 8, 1, 2),
-        Record::split(23, -1, 3, 4),
-        Record::leaf(2, 0),
-        Record::leaf(3, 1),
-        Record::leaf(4, -1),
-    ];
+    let nodes = five_nodes();
     for (spoil, number, place) in SPOILT {
         for short in [0, 1, 19] {
             let mut job = writing(&nodes);
