@@ -22,6 +22,8 @@ use Rattle.model.specs.Grow.{Entry, State, no_entry, tree_nodes, record_of}
 use Rattle.model.specs.Prune.{renumbered, pruned_nodes, pruned_tree, pruned_bits, moved}
 use Rattle.model.specs.Learn.{Result, result_of, pruned, settled_state}
 use Rattle.model.specs.Promise.{no_row}
+use Rattle.model.specs.Family.{Deep}
+use Rattle.model.specs.Depths.{depth_in}
 use Rattle.model.specs.Kept.{FieldsFit, entry_at, Invariant, Covered, Healthy}
 use Rattle.model.proofs.Lawful.{Bounds}
 use Rattle.model.proofs.Paths.{T→true}
@@ -102,17 +104,25 @@ module _ {M : Meter} where
     abbrev tree : List (Entry M)
     tree = s.tree
 
-    sound_records : (es : List (Entry M)) → Rattle.model.proofs.Sound.Rooted (tree_nodes es) → ((k : ℕ) → k < length es → FieldsFit (entry_at es k).node (entry_at es k).info.pred) → Sound (map record_of es)
-    sound_records es t f = record {
+    sound_records : (es : List (Entry M)) → Rattle.model.proofs.Sound.Rooted (tree_nodes es) → ((k : ℕ) → k < length es → FieldsFit (entry_at es k).node (entry_at es k).info.pred)
+        → Deep (tree_nodes es) (λ (k : ℕ). (entry_at es k).depth) → Sound (map record_of es)
+    sound_records es t f d = record {
       rooted = rw (nodes_of_records es) t;
+      deep = record {
+        root = depth_shown 0 ∙ d.root;
+        child = λ a c h. depth_shown c ∙ d.child a c (rw (nodes_of_records es) at h) ∙ ap suc (sym (depth_shown a));
+      };
       fits = λ k h. subst (λ (x : Record M). FieldsFit x.node x.info.pred) (sym (get_or-map record_of es k no_entry)) (f k (rw (length-map es record_of) at h));
     }
+      where
+        depth_shown : (k : ℕ) → depth_in (map record_of es) k ≡ (entry_at es k).depth
+        depth_shown k = ap (λ (x : Record M). x.depth) (get_or-map record_of es k no_entry)
 
     grown_done : Done j.uses given (length tree) s
     grown_done = record {
       counted = ok.counted;
       placed = grown-placed B j.uses seeds given s inv ok;
-      sound = sound_records tree (record { family = inv.family; parents = λ k pos h. ok.parents k pos (rw (length-map tree (λ (e : Entry M). e.node)) at h) }) (λ k h. (ok.entries k h).node_fits);
+      sound = sound_records tree (record { family = inv.family; parents = λ k pos h. ok.parents k pos (rw (length-map tree (λ (e : Entry M). e.node)) at h) }) (λ k h. (ok.entries k h).node_fits) ok.deep;
       rooted = inv.rooted;
       shorter = omega arith;
     }
@@ -134,7 +144,8 @@ module _ {M : Meter} where
     cut_done = record {
       counted = ok.counted;
       placed = pruned-placed B j.uses seeds given s inv ok j.price fair few;
-      sound = sound_records (pruned_tree j.price tree) (P.pruned-family j.price tree inv.family inv.rooted) fits;
+      sound = sound_records (pruned_tree j.price tree) (P.pruned-family j.price tree inv.family inv.rooted) fits
+          (P.pruned-deep j.price tree inv.family inv.rooted ok.deep);
       rooted = P.pruned-rooted j.price tree inv.family inv.rooted;
       shorter = rw (P.length-kept j.price tree inv.family inv.rooted) (P.order-short j.price tree inv.family inv.rooted);
     }

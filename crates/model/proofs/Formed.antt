@@ -19,7 +19,7 @@ use Rattle.model.specs.Job.{Offer, Job}
 use Rattle.model.specs.Grow.{Entry, State, no_entry, gt_rows, le_rows, split_rows, split_at, steps}
 use Rattle.model.specs.Settle.{settled}
 use Rattle.model.specs.Learn.{result_of, pruned, settled_state, finished, root_state, learned}
-use Rattle.model.specs.Deepen.{rows_at, with_seed_node, seed_from, seed_state, depths_of, deepened}
+use Rattle.model.specs.Deepen.{rows_at, with_seed_node, seed_from, seed_state, deepened}
 use Rattle.model.proofs.Counting.{count_append, count-keep, count-split}
 use Rattle.model.proofs.Parts.{count-above, count-others}
 use Rattle.model.proofs.Steps.{step_is}
@@ -95,13 +95,13 @@ module _ (q : Row → Bool) (blind : (z : ℕ) (r : Row) → q (with_zero z r) �
     unfolding rows_at
     count_rows_at nodes i rows = search (arith, count-keep, count-both)
 
-    count-seed : (nodes : List Node) (depths : List ℕ) (rows : List Row) (i : ℕ) (rs : List (Record M)) (s : State M) → count_if q rows ≡ 0 → count_if q s.rows ≡ 0 → count_if q (seed_from j nodes depths rows i rs s).rows ≡ 0
+    count-seed : (nodes : List Node) (rows : List Row) (i : ℕ) (rs : List (Record M)) (s : State M) → count_if q rows ≡ 0 → count_if q s.rows ≡ 0 → count_if q (seed_from j nodes rows i rs s).rows ≡ 0
     unfolding seed_from
-    count-seed nodes depths rows i [] s h k = k
-    count-seed nodes depths rows i (r ∷ rs) s h k =
-        count-seed nodes depths rows (suc i) rs (with_seed_node j r.node r.info (get_or depths i 0) (rows_at nodes i rows) s) h (go r.node)
+    count-seed nodes rows i [] s h k = k
+    count-seed nodes rows i (r ∷ rs) s h k =
+        count-seed nodes rows (suc i) rs (with_seed_node j r.node r.info r.depth (rows_at nodes i rows) s) h (go r.node)
       where
-        go : (n : Node) → count_if q (with_seed_node j n r.info (get_or depths i 0) (rows_at nodes i rows) s).rows ≡ 0
+        go : (n : Node) → count_if q (with_seed_node j n r.info r.depth (rows_at nodes i rows) s).rows ≡ 0
         go (split p v g l) = k
         go leaf = count_append q s.rows (fresh j.uses (rows_at nodes i rows)) ∙ (let f = count-fresh j.uses (rows_at nodes i rows) in omega (arith, count_rows_at nodes i rows))
 
@@ -138,7 +138,7 @@ module _ (q : Row → Bool) (blind : (z : ℕ) (r : Row) → q (with_zero z r) �
 
     count-deepened : (limit : ℕ) (seed : List (Record M)) (rows : List Row) → count_if q rows ≡ 0 → count_if q (deepened j limit seed rows).rows ≡ 0
     unfolding deepened seed_state
-    count-deepened limit seed rows h = count-finished (steps j _ (seed_state j seed rows)) (j.flat rows) (count-steps _ (seed_state j seed rows) (count-seed (nodes_of seed) (depths_of (nodes_of seed)) rows 0 seed _ h refl))
+    count-deepened limit seed rows h = count-finished (steps j _ (seed_state j seed rows)) (j.flat rows) (count-steps _ (seed_state j seed rows) (count-seed (nodes_of seed) rows 0 seed _ h refl))
 
 -- ---- learning and deepening
 module _ {M : Meter} (j : Job M) (p : Row → Bool) (blind : (z : ℕ) (r : Row) → p (with_zero z r) ≡ p r) where

@@ -18,7 +18,7 @@ use Rattle.model.specs.Job.{Offer, Job, prunes}
 use Rattle.model.specs.Grow.{Entry, State, Choice, no_choice, chosen, no_entry, record_of, leaf_over, choice_from, gt_rows, le_rows, gt_span, le_span, gt_leaf, le_leaf, split_rows, become_split, split_at, step_to, step, steps}
 use Rattle.model.specs.Prune.{preorder, moved, pruned_nodes, pruned_tree, pruned_bits}
 use Rattle.model.specs.Learn.{leaf_count, pruned, settled_state, result_of, finished, root_state, learned}
-use Rattle.model.specs.Deepen.{depths_of, rows_at, seed_split, empty_leaf, seed_leaf, with_seed_node, seed_from, seed_state, deepened}
+use Rattle.model.specs.Deepen.{rows_at, seed_split, empty_leaf, seed_leaf, with_seed_node, seed_from, seed_state, deepened}
 use Rattle.model.specs.Kept.{Fine, Sized}
 use Rattle.model.proofs.Each.{each_get_d, each_set, each_append, each-replicate, each_map}
 use Rattle.model.proofs.Fresh.{length-fresh}
@@ -91,23 +91,22 @@ module _ {M : Meter} where
     node-rows (split prop val gt le) i depth mine s = omega arith
     node-rows leaf i depth mine s = omega (arith, length-append s.rows (fresh j.uses mine), length-fresh j.uses mine)
 
-    seed_from_sized : Q M.endless → (nodes : List Node) (depths : List ℕ) (rows : List Row) (i : ℕ) (rs : List (Record M)) (s : State M)
-        → length s.rows + sum_of (map (λ (k : ℕ). count_if (λ (r : Row). eqb (leaf_reached nodes r.props) k) rows) (range i (length rs))) ≤ n → Each (Fine Q) s.tree → Sized Q n (seed_from j nodes depths rows i rs s)
+    seed_from_sized : Q M.endless → (nodes : List Node) (rows : List Row) (i : ℕ) (rs : List (Record M)) (s : State M)
+        → length s.rows + sum_of (map (λ (k : ℕ). count_if (λ (r : Row). eqb (leaf_reached nodes r.props) k) rows) (range i (length rs))) ≤ n → Each (Fine Q) s.tree → Sized Q n (seed_from j nodes rows i rs s)
     unfolding seed_from rows_at
-    seed_from_sized endless nodes depths rows i [] s h e = record { rows = omega arith; entries = e }
-    seed_from_sized endless nodes depths rows i (r ∷ rs) s h e =
+    seed_from_sized endless nodes rows i [] s h e = record { rows = omega arith; entries = e }
+    seed_from_sized endless nodes rows i (r ∷ rs) s h e =
         let mine = rows_at nodes i rows in
         let l = length-keep (λ (r : Row). eqb (leaf_reached nodes r.props) i) rows in
-        let d = get_or depths i 0 in
-        let k = node-rows r.node r.info d mine s in
-        seed_from_sized endless nodes depths rows (suc i) rs (with_seed_node j r.node r.info d mine s) (omega arith) (node-sized endless r.node r.info d mine s (omega arith) e)
+        let k = node-rows r.node r.info r.depth mine s in
+        seed_from_sized endless nodes rows (suc i) rs (with_seed_node j r.node r.info r.depth mine s) (omega arith) (node-sized endless r.node r.info r.depth mine s (omega arith) e)
 
     pub seed-sized : Q M.endless → (seed : List (Record M)) (rows : List Row) → length rows ≤ n → Sized Q n (seed_state j seed rows)
     unfolding seed_state
     seed-sized endless seed rows h =
         let nodes = nodes_of seed in
         let start : State M = record { rows = []; tree = []; bits = M.no_total } in
-        seed_from_sized endless nodes (depths_of nodes) rows 0 seed start (omega (arith, keyed-sum (λ (r : Row). leaf_reached nodes r.props) 0 (length seed) rows)) tt
+        seed_from_sized endless nodes rows 0 seed start (omega (arith, keyed-sum (λ (r : Row). leaf_reached nodes r.props) 0 (length seed) rows)) tt
 
     -- ---- results
     moved-fine : (tree : List (Entry M)) (nodes : List Node) (order : List ℕ) → Each (Fine Q) tree → (i : ℕ) → Fine Q (moved tree nodes order i)

@@ -1,5 +1,5 @@
--- Growth keeps what is asked besides the invariant: fields in range, small costs, a parent for each node but the first, spans within the parent's, and
--- every place in the span of a leaf. Assumes nothing.
+-- Growth keeps what is asked besides the invariant: fields in range, small costs, a parent for each node but the first, spans within the parent's, depths one more
+-- than the parent's, and every place in the span of a leaf. Assumes nothing.
 use mathlib.Core.Path.{◌≡◌, refl, ap, ◌∙◌, subst}
 use mathlib.Core.Logic.{◌≢◌, ◌⊎◌, inl, inr}
 use Prim.Native.Nat.{ℕ, zero, suc, ◌+◌, ◌*◌, ◌≤◌, ◌<◌}
@@ -40,7 +40,8 @@ module _ {M : Meter} where
   -- ---- one split
   module _ (B : Bounds M) (seeds : ℕ → Bool) (given : List Row) (s t : State M) (i : ℕ) (o : Offer M) (gt le : Entry M) (uses : Bool) (f : SplitOf uses s t i o gt le) (ok : Healthy B.Small seeds given s)
       (inside : i < length s.tree) (own : T (is_leaf (entry_at s.tree i).node) × (seeds i ≡ false)) (own_new : (seeds (length s.tree) ≡ false) × (seeds (suc (length s.tree)) ≡ false))
-      (prop : T (ltb o.prop props_per_row)) (fits : EntryFits gt × EntryFits le) (small : B.Small 1 (M.total gt.info.cost) × B.Small 1 (M.total le.info.cost)) (forward : (a c : ℕ) → Child (tree_nodes s.tree) a c → (a < c) × (c < length s.tree)) where
+      (prop : T (ltb o.prop props_per_row)) (fits : EntryFits gt × EntryFits le) (small : B.Small 1 (M.total gt.info.cost) × B.Small 1 (M.total le.info.cost)) (forward : (a c : ℕ) → Child (tree_nodes s.tree) a c → (a < c) × (c < length s.tree))
+      (deeper : (gt.depth ≡ suc (entry_at s.tree i).depth) × (le.depth ≡ suc (entry_at s.tree i).depth)) where
     abbrev n : ℕ
     n = length s.tree
 
@@ -107,6 +108,18 @@ module _ {M : Meter} where
         go (inl (y, inr z)) = rw z own_new.1
         go (inr k) = ok.own_below a c k q
 
+    same-depth : (k : ℕ) → k < n → (entry_at t.tree k).depth ≡ (entry_at s.tree k).depth
+    unfolding become_split
+    same-depth k h = elim (ℕ_discrete k i) [ yes q ↦ rw (q, f.at) refl | no ne ↦ ap (λ (x : Entry M). x.depth) (f.old k h ne) ]
+
+    child_depth' : (a c : ℕ) → Child (tree_nodes t.tree) a c → (entry_at t.tree c).depth ≡ suc (entry_at t.tree a).depth
+    child_depth' a c h = go (f.children a c h)
+      where
+        go : ((a ≡ i) × ((c ≡ n) ⊎ (c ≡ suc n))) ⊎ Child (tree_nodes s.tree) a c → (entry_at t.tree c).depth ≡ suc (entry_at t.tree a).depth
+        go (inl (y, inl z)) = rw (y, z, f.at_gt, same-depth i inside) deeper.0
+        go (inl (y, inr z)) = rw (y, z, f.at_le, same-depth i inside) deeper.1
+        go (inr k) = let w = forward a c k in let x : a < n = omega (arith, w.0, w.1) in rw (same-depth a x, same-depth c w.1) (ok.deep.child a c k)
+
     split-healthy : Healthy B.Small seeds given t
     split-healthy = record {
       entries = λ k h. entries' k (rw f.longer at h);
@@ -116,12 +129,17 @@ module _ {M : Meter} where
       covered = covered';
       nested = nested';
       own_below = own_below';
+      deep = record { root = same-depth 0 (omega arith) ∙ ok.deep.root; child = child_depth' };
     }
 
   -- ---- any number of steps
   module _ (B : Bounds M) (j : Job M) (given : List Row) (fit : JobFits B.Small j (length given)) (seeds : ℕ → Bool) where
     abbrev Inv : State M → Type 0
     Inv s = Invariant j.uses seeds given s
+
+    over-depth : (rows : List Row) (mode : ℤ) (s : Span) (depth : ℕ) → (leaf_over j rows mode s depth).depth ≡ depth
+    unfolding leaf_over
+    over-depth rows mode s depth = refl
 
     chosen-healthy : (s : State M) → Inv s → Healthy B.Small seeds given s → (one : OneSplit j s (step j s)) → Inv (split_at j s one.number one.offer) → Healthy B.Small seeds given (split_at j s one.number one.offer)
     unfolding gt_leaf le_leaf
@@ -134,6 +152,7 @@ module _ {M : Meter} where
           leaf_over-small B j (length given) fit le (span_mode j.uses le) (le_span j s.rows e o) (suc e.depth) (omega (arith, few)),
         )
         (λ a c h. rw (length-map s.tree (λ (x : Entry M). x.node)) at (child-forward (tree_nodes s.tree) inv.family.forward a c h))
+        (over-depth gt _ _ (suc e.depth), over-depth le _ _ (suc e.depth))
       where
         i : ℕ
         i = one.number

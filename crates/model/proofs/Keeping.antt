@@ -6,7 +6,7 @@ use mathlib.Core.Bool.{Bool, not}
 use mathlib.Core.List.{List, [], ◌∷◌}
 use lib.ListN.{length, get_or}
 use lib.Dec.{T}
-use lib.Ieee.Fits.{and_l, and_r}
+use lib.Ieee.Fits.{and_i, and_l, and_r}
 use Rattle.model.specs.Lists.{count_if, keep, all}
 use Rattle.model.proofs.Counting.{length-keep, count_at_most}
 
@@ -24,6 +24,10 @@ module _ {ℓ} {A : Type ℓ} where
   all-at p [] i z h t = absurd (omega arith)
   all-at p (x ∷ xs) zero z h t = and_l (p x) (all p xs) t
   all-at p (x ∷ xs) (suc i) z h t = all-at p xs i z (omega arith) (and_r (p x) (all p xs) t)
+
+  pub all-each : (p : A → Bool) (xs : List A) (z : A) → ((i : ℕ) → i < length xs → T (p (get_or xs i z))) → T (all p xs)
+  all-each p [] z each = tt
+  all-each p (x ∷ xs) z each = and_i (p x) (all p xs) (each 0 (omega arith)) (all-each p xs z (λ i h. each (suc i) (omega arith)))
 
   -- what every element passes, the kept ones pass
   pub all_keep : (p q : A → Bool) (xs : List A) → T (all p xs) → T (all p (keep q xs))

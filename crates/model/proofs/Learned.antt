@@ -7,7 +7,7 @@ use native.Mathlib.Decide.{dec_lt}
 use mathlib.Core.Bool.{Bool, false}
 use mathlib.Core.List.{List}
 use mathlib.Core.Option.{none}
-use lib.ListN.{length, length-map, length-set}
+use lib.ListN.{length, length-set}
 use lib.Dec.{T, ltb}
 use Rattle.model.specs.Lists.{all}
 use Rattle.model.specs.Meter.{Meter}
@@ -24,7 +24,7 @@ use Rattle.model.proofs.Lawful.{Bounds}
 use Rattle.model.proofs.Results.{has_tokens, ResultKept, ResultFresh, ResultOneMore, ResultLaws}
 use Rattle.model.proofs.Steps.{steps-keep}
 use Rattle.model.proofs.Root.{root_keeps}
-use Rattle.model.proofs.Sound.{sound, sound-count}
+use Rattle.model.proofs.Sound.{same_length, sound, sound-count, has_root}
 use Rattle.model.proofs.Tally.{tree-count}
 use Rattle.model.proofs.Health.{steps-healthy, root-healthy}
 use Rattle.model.proofs.Seeds.{seed_splits, seed_keeps, seed-healthy, seed-length}
@@ -88,7 +88,9 @@ module _ {M : Meter} (B : Bounds M) where
 
     -- nodes + 1 = 2 × leaves
     seed-count : length seed + 1 ≡ 2 * leaf_count (nodes_of seed)
-    seed-count = search (arith, length-map, tree-count, sound, sound-count)
+    seed-count =
+        let s = sound seed faultless in
+        omega (arith, same_length seed, tree-count (nodes_of seed) s.rooted (has_root seed faultless))
 
     deeper-few : length deeper.tree ≤ max (2 * limit - 1) (length seed)
     deeper-few = omega (arith, deeper-healthy.1, seed-length B j seed rows fit faultless, seed-count)

@@ -18,6 +18,7 @@ pub mod Steps
 pub mod Root
 pub mod Below
 pub mod Sound
+pub mod Depths
 pub mod Tally
 pub mod Health
 pub mod Seeds

@@ -27,14 +27,21 @@ module _ {M : Meter} {uses : Bool} {x : Lent M} {most more : ℕ} {a b : Result 
   span_room : suc a.count < length x.spans
   span_room = omega (arith, written, fb.kept.few, fb.span_room)
 
+  record-was : record_at (lent_after a x) one.number ≡ record_of_result a one.number
+  record-was = record_at_lem fa one.number one.was_leaf.0
+
   info-was : (record_at (lent_after a x) one.number).info ≡ (record_of_result a one.number).info
-  info-was = ap (λ (w : Record M). w.info) (record_at_lem fa one.number one.was_leaf.0)
+  info-was = ap (λ (w : Record M). w.info) record-was
+
+  depth-was : (record_at (lent_after a x) one.number).depth ≡ (record_of_result a one.number).depth
+  depth-was = ap (λ (w : Record M). w.depth) record-was
 
   span-was : span_at (lent_after a x) one.number ≡ span_of_result a one.number
   span-was = span_at_lem fa one.number one.was_leaf.0
 
   nodes-after : (lent_after b x).nodes ≡ set (set (set (lent_after a x).nodes one.number
-      (stored_node (split one.prop one.val a.count (suc a.count)) (record_of_result a one.number).info)) a.count (stored_node leaf one.gt)) (suc a.count) (stored_node leaf one.le)
+      (stored_node (split one.prop one.val a.count (suc a.count)) (record_of_result a one.number).info (record_of_result a one.number).depth)) a.count
+      (stored_node leaf one.gt (suc (record_of_result a one.number).depth))) (suc a.count) (stored_node leaf one.le (suc (record_of_result a one.number).depth))
   unfolding lent_after
   nodes-after = search (arith, length-map, map-extended, written-split)
 
@@ -54,7 +61,7 @@ module _ {M : Meter} {uses : Bool} {x : Lent M} {most more : ℕ} {a b : Result 
     le = one.le;
     middle = one.middle;
     room = (rw (as_long fa).nodes node_room, rw (as_long fa).spans span_room);
-    nodes = rw info-was nodes-after;
+    nodes = rw (info-was, depth-was) nodes-after;
     spans = rw span-was spans-after;
     between = rw span-was one.between;
     node_count = one.count;

@@ -15,7 +15,7 @@ use Rattle.model.specs.Meter.{Meter}
 use Rattle.model.specs.Tree.{Node, split, leaf, is_leaf, towards, follow, reach, leaf_reached}
 use Rattle.model.specs.Grow.{Entry, no_entry, tree_nodes}
 use Rattle.model.specs.Prune.{preorder, place_of, renumbered, moved, pruned_nodes, pruned_tree}
-use Rattle.model.specs.Family.{Forward, AllForward, ChildOf, Child, Twins, Family, Anc, parent, under, meets}
+use Rattle.model.specs.Family.{Forward, AllForward, ChildOf, Child, Twins, Family, Deep, Anc, parent, under, meets}
 use Rattle.model.specs.Kept.{entry_at}
 use Rattle.model.proofs.Places.{get_d_any}
 use Rattle.model.proofs.Paths.{eqb_same, eqb-other, towards_in}
@@ -317,6 +317,26 @@ module _ {M : Meter} where
 
     pub pruned-family : Rooted new
     pruned-family = record { family = record { forward = new-forward; one_parent = new_one_parent; two_children = new_two_children }; parents = new-parents }
+
+    -- a child lies one deeper than its parent, as it did
+    pub pruned-deep : Deep old (λ (k : ℕ). (entry_at tree k).depth) → Deep new (λ (k : ℕ). (entry_at kept k).depth)
+    unfolding moved
+    pruned-deep deep = record { root = depth-kept 0 (omega (arith, (place_at 0 order root-there).0)) ∙ ap (λ (k : ℕ). (entry_at tree k).depth) first ∙ deep.root; child = go }
+      where
+        depth-kept : (q : ℕ) → q < length order → (entry_at kept q).depth ≡ (entry_at tree (get_or order q 0)).depth
+        depth-kept q h = ap (λ (x : Entry M). x.depth) (entry_kept q h)
+
+        first : get_or order 0 0 ≡ 0
+        first = ap (λ (k : ℕ). get_or order k 0) (sym root-first) ∙ (place_at 0 order root-there).1
+
+        go : (q d : ℕ) → Child new q d → (entry_at kept d).depth ≡ suc (entry_at kept q).depth
+        go q d h =
+            let p = new-child q d h in
+            let c = p.1.0 in
+            let at = place_at c order p.1.2 in
+            let z : get_or order d 0 ≡ c = ap (λ (k : ℕ). get_or order k 0) p.1.3 ∙ at.1 in
+            let l : d < length order = omega (arith, at.0, p.1.3) in
+            depth-kept d l ∙ ap (λ (k : ℕ). (entry_at tree k).depth) z ∙ deep.child (get_or order q 0) c (child-old (get_or order q 0) c p.1.1) ∙ ap suc (sym (depth-kept q p.0))
 
     pub pruned-rooted : 0 < length kept
     pruned-rooted = omega (arith, length-kept, (place_at 0 order root-there).0)

@@ -30,8 +30,8 @@ module _ {M : Meter} where
   abbrev pub record_of_result : Result M → ℕ → Record M
   record_of_result r k = get_or r.records k blank_record
 
-  abbrev pub leaf_record : Info M → Record M
-  leaf_record i = record { node = leaf; info = i }
+  abbrev pub leaf_record : Info M → ℕ → Record M
+  leaf_record i depth = record { node = leaf; info = i; depth = depth }
 
   abbrev pub span_of_result : Result M → ℕ → Span
   span_of_result r k = get_or r.spans k no_span
@@ -75,7 +75,8 @@ module _ {M : Meter} where
     pub middle : ℕ
     pub was_leaf : LeafOfResult a number
     pub whole : (a.count ≡ length a.records) × (a.count ≡ length a.spans)
-    pub records : b.records ≡ set a.records number (record { node = split prop val a.count (suc a.count); info = (record_of_result a number).info }) ++ (leaf_record gt ∷ leaf_record le ∷ [])
+    pub records : b.records ≡ set a.records number (record { node = split prop val a.count (suc a.count); info = (record_of_result a number).info; depth = (record_of_result a number).depth })
+        ++ (leaf_record gt (suc (record_of_result a number).depth) ∷ leaf_record le (suc (record_of_result a number).depth) ∷ [])
     pub spans : b.spans ≡ a.spans ++ (record { first = (span_of_result a number).first; end = middle } ∷ record { first = middle; end = (span_of_result a number).end } ∷ [])
     pub between : ((span_of_result a number).first ≤ middle) × (middle ≤ (span_of_result a number).end)
     pub count : b.count ≡ a.count + 2

@@ -6,7 +6,7 @@ use native.Mathlib.Omega.{arith}
 use mathlib.Core.Bool.{false}
 use mathlib.Core.List.{List, [], ◌∷◌, ◌++◌, map, map-append, append-nil}
 use mathlib.Core.Option.{none, some}
-use lib.ListN.{length, get_or, length-map}
+use lib.ListN.{length, length-map}
 use lib.Seq.{append_snoc}
 use Rattle.model.specs.Lists.{Each}
 use Rattle.model.specs.Meter.{Meter}
@@ -14,7 +14,7 @@ use Rattle.model.specs.Tree.{Node, split, leaf, Info, Record, nodes_of}
 use Rattle.model.specs.Job.{Job, prunes}
 use Rattle.model.specs.Grow.{Entry, State, no_entry, record_of, step, steps}
 use Rattle.model.specs.Learn.{leaf_count, result_of, pruned, settled_state, finished}
-use Rattle.model.specs.Deepen.{depths_of, rows_at, rowless, with_seed_node, seed_from, seed_state, deepened}
+use Rattle.model.specs.Deepen.{rows_at, rowless, with_seed_node, seed_from, seed_state, deepened}
 use Rattle.model.specs.Symbols.{rowless_record, tree_read}
 use Rattle.model.specs.declared.Symbol.{Symbol}
 use Rattle.model.proofs.Invariant.{none_is_no_some}
@@ -25,7 +25,7 @@ use Rattle.model.proofs.SymbolsRead.{read-back}
 
 module _ {M : Meter} where
   abbrev pub rowless_records : List (Record M) → List (Record M)
-  rowless_records = map (λ (r : Record M). rowless_record r.node r.info)
+  rowless_records = map (λ (r : Record M). rowless_record r.node r.info r.depth)
 
   -- an entry that waits for no split
   abbrev Quiet : Entry M → Type 0
@@ -38,7 +38,7 @@ module _ {M : Meter} where
       records : map record_of tree ≡ rowless_records rs
       quiet : Each Quiet tree
 
-    entry_of : (n : Node) (i : Info M) (depth : ℕ) → (record_of (rowless n i depth) ≡ rowless_record n i) × Quiet (rowless n i depth)
+    entry_of : (n : Node) (i : Info M) (depth : ℕ) → (record_of (rowless n i depth) ≡ rowless_record n i depth) × Quiet (rowless n i depth)
     entry_of leaf i depth = (refl, refl)
     entry_of (split p v g l) i depth = (refl, refl)
 
@@ -47,23 +47,22 @@ module _ {M : Meter} where
     tree_with (split p v g l) i depth s = refl
 
     -- one node more
-    still-more : (rs : List (Record M)) (r : Record M) (depth : ℕ) (s : State M) → Still rs s.tree → Still (rs ++ (r ∷ [])) (with_seed_node j r.node r.info depth [] s).tree
-    still-more rs r depth s h = rw (tree_with r.node r.info depth s) (record {
-      records = map-append record_of s.tree (rowless r.node r.info depth ∷ [])
-          ∙ rw (h.records, (entry_of r.node r.info depth).0) (sym (map-append (λ (r : Record M). rowless_record r.node r.info) rs (r ∷ [])));
-      quiet = each_append Quiet s.tree (rowless r.node r.info depth ∷ []) h.quiet ((entry_of r.node r.info depth).1, tt);
+    still-more : (rs : List (Record M)) (r : Record M) (s : State M) → Still rs s.tree → Still (rs ++ (r ∷ [])) (with_seed_node j r.node r.info r.depth [] s).tree
+    still-more rs r s h = rw (tree_with r.node r.info r.depth s) (record {
+      records = map-append record_of s.tree (rowless r.node r.info r.depth ∷ [])
+          ∙ rw (h.records, (entry_of r.node r.info r.depth).0) (sym (map-append (λ (r : Record M). rowless_record r.node r.info r.depth) rs (r ∷ [])));
+      quiet = each_append Quiet s.tree (rowless r.node r.info r.depth ∷ []) h.quiet ((entry_of r.node r.info r.depth).1, tt);
     })
 
-    still-from : (nodes : List Node) (depths : List ℕ) (i : ℕ) (before rs : List (Record M)) (s : State M) → Still before s.tree → Still (before ++ rs) (seed_from j nodes depths [] i rs s).tree
+    still-from : (nodes : List Node) (i : ℕ) (before rs : List (Record M)) (s : State M) → Still before s.tree → Still (before ++ rs) (seed_from j nodes [] i rs s).tree
     unfolding seed_from rows_at
-    still-from nodes depths i before [] s h = rw (append-nil before) h
-    still-from nodes depths i before (r ∷ rs) s h =
-        let d = get_or depths i 0 in
-        rw (← append_snoc before r rs) (still-from nodes depths (suc i) (before ++ (r ∷ [])) rs (with_seed_node j r.node r.info d [] s) (still-more before r d s h))
+    still-from nodes i before [] s h = rw (append-nil before) h
+    still-from nodes i before (r ∷ rs) s h =
+        rw (← append_snoc before r rs) (still-from nodes (suc i) (before ++ (r ∷ [])) rs (with_seed_node j r.node r.info r.depth [] s) (still-more before r s h))
 
     still : (rs : List (Record M)) → Still rs (seed_state j rs []).tree
     unfolding seed_state
-    still rs = still-from (nodes_of rs) (depths_of (nodes_of rs)) 0 [] rs (record { rows = []; tree = []; bits = M.no_total }) (record { records = refl; quiet = tt })
+    still rs = still-from (nodes_of rs) 0 [] rs (record { rows = []; tree = []; bits = M.no_total }) (record { records = refl; quiet = tt })
 
     pub seed-records : (rs : List (Record M)) → map record_of (seed_state j rs []).tree ≡ rowless_records rs
     seed-records rs = (still rs).records
@@ -91,7 +90,7 @@ module _ {M : Meter} where
         let tree : List (Entry M) = (seed_state j rs []).tree in
         let none_more : length tree - length tree ≡ 0 = omega arith in
         let n = length-map tree record_of in
-        let m = length-map rs (λ (r : Record M). rowless_record r.node r.info) in
+        let m = length-map rs (λ (r : Record M). rowless_record r.node r.info r.depth) in
         rw (steps-same (limit - leaf_count (nodes_of rs)) (seed_state j rs []) (still rs).quiet, uncut (seed_state j rs []) e, none_more, append-nil tree)
         (omega (arith, ap length (seed-records rs)), seed-records rs)
 

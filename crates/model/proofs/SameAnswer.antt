@@ -100,14 +100,13 @@ module _ {M : Meter} where
     node-same (split prop val gt le) i depth mine s h = refl
     node-same leaf i depth mine s h = search (arith, seed_leaf_same)
 
-    seed_from_same : (nodes : List Node) (depths : List ℕ) (rows : List Row) → length rows ≤ n → (i : ℕ) (rs : List (Record M)) (s : State M) → seed_from j nodes depths rows i rs s ≡ seed_from other nodes depths rows i rs s
+    seed_from_same : (nodes : List Node) (rows : List Row) → length rows ≤ n → (i : ℕ) (rs : List (Record M)) (s : State M) → seed_from j nodes rows i rs s ≡ seed_from other nodes rows i rs s
     unfolding seed_from rows_at
-    seed_from_same nodes depths rows h i [] s = refl
-    seed_from_same nodes depths rows h i (r ∷ rs) s =
-        let d = get_or depths i 0 in
+    seed_from_same nodes rows h i [] s = refl
+    seed_from_same nodes rows h i (r ∷ rs) s =
         let mine = rows_at nodes i rows in
         let few : length mine ≤ n = le_trans (length_keep_le (λ (r : Row). eqb (leaf_reached nodes r.props) i) rows) h in
-        ap (seed_from j nodes depths rows (suc i) rs) (node-same r.node r.info d mine s few) ∙ seed_from_same nodes depths rows h (suc i) rs (with_seed_node other r.node r.info d mine s)
+        ap (seed_from j nodes rows (suc i) rs) (node-same r.node r.info r.depth mine s few) ∙ seed_from_same nodes rows h (suc i) rs (with_seed_node other r.node r.info r.depth mine s)
 
     pub deeper-same : (k : ℕ) (seed : List (Record M)) (rows : List Row) → length rows ≤ n → steps j k (seed_state j seed rows) ≡ steps other k (seed_state other seed rows)
     unfolding seed_state

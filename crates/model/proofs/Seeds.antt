@@ -19,15 +19,16 @@ use Rattle.model.specs.Mode.{fresh, span_mode}
 use Rattle.model.specs.Tree.{Node, split, leaf, is_leaf, Info, Record, blank_record, nodes_of, leaf_reached, fault_of}
 use Rattle.model.specs.Job.{Offer, Job}
 use Rattle.model.specs.Grow.{Entry, State, no_entry, tree_nodes, leaf_over}
-use Rattle.model.specs.Deepen.{rows_at, seed_split, empty_leaf, with_leaf_cost, with_seed_node, seed_from, seed_state, depths_of}
+use Rattle.model.specs.Deepen.{rows_at, seed_split, empty_leaf, with_leaf_cost, with_seed_node, seed_from, seed_state}
 use Rattle.model.specs.Promise.{key}
 use Rattle.model.specs.Accepting.{Below, OfferFits, JobFits}
 use Rattle.model.specs.Family.{Child, passes}
+use Rattle.model.specs.Depths.{depth_in}
 use Rattle.model.specs.Kept.{FieldsFit, entry_at, Invariant, Weighed, EntryFits, Covered, Healthy}
 use Rattle.model.proofs.Lawful.{Bounds}
 use Rattle.model.proofs.Counting.{count_map, count-keep, count_ext, count_none, count-all, count-below, length-keep, count_at_most}
 use Rattle.model.proofs.Paths.{T→true, meets-leaf, reached-leaf}
-use Rattle.model.proofs.Family.{leaf_no_child}
+use Rattle.model.proofs.Family.{leaf_no_child, child-forward}
 use Rattle.model.proofs.Fresh.{fresh-key, fresh-twice, fresh-none, length-fresh}
 use Rattle.model.proofs.Invariant.{node_at, none_is_no_some}
 use Rattle.model.proofs.Sound.{Sound, sound, sound-count, has_root}
@@ -79,6 +80,7 @@ module _ {M : Meter} (B : Bounds M) (j : Job M) (seed : List (Record M)) (rows :
     small : (k : ℕ) → k < i → seed_splits k ≡ false → B.Small 1 (M.total (entry_at s.tree k).info.cost)
     covered : (p : ℕ) → p < length s.rows → Covered s.tree p
     total : length s.rows ≡ count_if (λ (r : Row). ltb (reached r) i) rows
+    deep : (k : ℕ) → k < i → (entry_at s.tree k).depth ≡ depth_in seed k
 
   -- what node i adds: an entry and its rows
   record Adds (i : ℕ) (s : State M) (x : Entry M) (more : List Row) : Type 0 where
@@ -91,6 +93,7 @@ module _ {M : Meter} (B : Bounds M) (j : Job M) (seed : List (Record M)) (rows :
     fits : EntryFits x
     small : seed_splits i ≡ false → B.Small 1 (M.total x.info.cost)
     enough : length more ≡ count_if (λ (r : Row). eqb (reached r) i) rows
+    depth : x.depth ≡ depth_in seed i
 
   module _ (i : ℕ) (s : State M) (sg : Seeding i s) (x : Entry M) (more : List Row) (bits : M.Total) (add : Adds i s x more) where
     abbrev tree' : List (Entry M)
@@ -160,20 +163,21 @@ module _ {M : Meter} (B : Bounds M) (j : Job M) (seed : List (Record M)) (rows :
       small = all {P = λ (k : ℕ). seed_splits k ≡ false → B.Small 1 (M.total (entry_at tree' k).info.cost)} (λ k h. rw (at_old k h) (sg.small k h)) (rw at_new add.small);
       covered = new_covered;
       total = longer ∙ ap (λ (n : ℕ). n + length more) sg.total ∙ ap (λ (n : ℕ). count_if (λ (r : Row). ltb (reached r) i) rows + n) add.enough ∙ sym (count-below reached i rows);
+      deep = all {P = λ (k : ℕ). (entry_at tree' k).depth ≡ depth_in seed k} (λ k h. rw (at_old k h) (sg.deep k h)) (rw at_new add.depth);
     }
 
   -- ---- all nodes
   none-reach : (i : ℕ) → seed_splits i ≡ true → (r : Row) → eqb (reached r) i ≡ false
   none-reach i q r = search (arith, is_leaf_lem)
 
-  seed-node : (i : ℕ) (s : State M) → Seeding i s → i < length seed → (m : Node) → get_or nodes i leaf ≡ m → FieldsFit m (get_or seed i blank_record).info.pred → (depth : ℕ)
-      → Seeding (suc i) (with_seed_node j m (get_or seed i blank_record).info depth (rows_at nodes i rows) s)
+  seed-node : (i : ℕ) (s : State M) → Seeding i s → i < length seed → (m : Node) → get_or nodes i leaf ≡ m → FieldsFit m (get_or seed i blank_record).info.pred
+      → Seeding (suc i) (with_seed_node j m (get_or seed i blank_record).info (depth_in seed i) (rows_at nodes i rows) s)
   unfolding rows_at leaf_over
-  seed-node i s sg h (split prop val gt le) e f depth =
+  seed-node i s sg h (split prop val gt le) e f =
       subst (λ (l : List Row). Seeding (suc i) (record { rows = l; tree = s.tree ++ (x ∷ []); bits = s.bits })) (append-nil s.rows) (next i s sg x [] s.bits adds)
     where
       x : Entry M
-      x = seed_split (split prop val gt le) depth
+      x = seed_split (split prop val gt le) (depth_in seed i)
 
       is-split : seed_splits i ≡ true
       is-split = rw e
@@ -189,9 +193,13 @@ module _ {M : Meter} (B : Bounds M) (j : Job M) (seed : List (Record M)) (rows :
         fits = record { node_fits = f; pred_fits = tt; offer_fits = tt };
         small = λ q. absurd (true≢false (sym is-split ∙ q));
         enough = sym (count_none (λ (r : Row). eqb (reached r) i) rows (none-reach i is-split));
+        depth = refl;
       }
-  seed-node i s sg h leaf e f depth = with_rows (rows_at nodes i rows) refl
+  seed-node i s sg h leaf e f = with_rows (rows_at nodes i rows) refl
     where
+      depth : ℕ
+      depth = depth_in seed i
+
       is_no_split : seed_splits i ≡ false
       is_no_split = rw e
 
@@ -212,6 +220,7 @@ module _ {M : Meter} (B : Bounds M) (j : Job M) (seed : List (Record M)) (rows :
         fits = record { node_fits = f; pred_fits = f; offer_fits = tt };
         small = λ z. B.small_nought;
         enough = ap length (fresh-none j.uses) ∙ counted [] q;
+        depth = refl;
       })
       with_rows (r ∷ rs) q = next i s sg x fr (with_leaf_cost s.bits x (r ∷ rs)) (record {
         same = sym e;
@@ -223,6 +232,7 @@ module _ {M : Meter} (B : Bounds M) (j : Job M) (seed : List (Record M)) (rows :
         fits = leaf_over-fits B j (length rows) fit fr md sp depth;
         small = λ z. leaf_over-small B j (length rows) fit fr md sp depth few;
         enough = length-fresh j.uses (r ∷ rs) ∙ counted (r ∷ rs) q;
+        depth = refl;
       })
         where
           fr : List Row
@@ -244,16 +254,16 @@ module _ {M : Meter} (B : Bounds M) (j : Job M) (seed : List (Record M)) (rows :
           few : length fr ≤ length rows
           few = omega (arith, length-fresh j.uses (r ∷ rs), counted (r ∷ rs) q, count_at_most (λ (r : Row). eqb (reached r) i) rows)
 
-  seed-all : (depths : List ℕ) (i : ℕ) (rs : List (Record M)) (s : State M) → i + length rs ≡ length seed → ((m : ℕ) → m < length rs → get_or seed (i + m) blank_record ≡ get_or rs m blank_record) → Seeding i s
-      → Seeding (length seed) (seed_from j nodes depths rows i rs s)
+  seed-all : (i : ℕ) (rs : List (Record M)) (s : State M) → i + length rs ≡ length seed → ((m : ℕ) → m < length rs → get_or seed (i + m) blank_record ≡ get_or rs m blank_record) → Seeding i s
+      → Seeding (length seed) (seed_from j nodes rows i rs s)
   unfolding seed_from
-  seed-all depths i [] s n same sg = let e : i ≡ length seed = omega arith in subst (λ (k : ℕ). Seeding k s) e sg
-  seed-all depths i (r ∷ rs) s n same sg =
-      seed-all depths (suc i) rs (with_seed_node j r.node r.info (get_or depths i 0) (rows_at nodes i rows) s) (omega arith)
+  seed-all i [] s n same sg = let e : i ≡ length seed = omega arith in subst (λ (k : ℕ). Seeding k s) e sg
+  seed-all i (r ∷ rs) s n same sg =
+      seed-all (suc i) rs (with_seed_node j r.node r.info r.depth (rows_at nodes i rows) s) (omega arith)
       (λ m h. let k : suc i + m ≡ i + suc m = omega arith in rw k (same (suc m) (omega arith)))
-      (subst (λ (q : Info M). Seeding (suc i) (with_seed_node j r.node q (get_or depths i 0) (rows_at nodes i rows) s)) (ap (λ (x : Record M). x.info) here)
+      (subst (λ (q : Record M). Seeding (suc i) (with_seed_node j r.node q.info q.depth (rows_at nodes i rows) s)) here
       (seed-node i s sg (omega arith) r.node (get_or-map (λ (x : Record M). x.node) seed i blank_record ∙ ap (λ (x : Record M). x.node) here)
-      (subst (λ (x : Node). FieldsFit x (get_or seed i blank_record).info.pred) (ap (λ (x : Record M). x.node) here) (good.fits i (omega arith))) (get_or depths i 0)))
+      (subst (λ (x : Node). FieldsFit x (get_or seed i blank_record).info.pred) (ap (λ (x : Record M). x.node) here) (good.fits i (omega arith)))))
     where
       here : get_or seed i blank_record ≡ r
       here = let z : i + 0 ≡ i = omega arith in rw z at (same 0 (omega arith))
@@ -266,7 +276,7 @@ module _ {M : Meter} (B : Bounds M) (j : Job M) (seed : List (Record M)) (rows :
 
   seeding : Seeding (length seed) s₀
   unfolding seed_state
-  seeding = seed-all (depths_of nodes) 0 seed _ (zero-add (length seed)) (λ m h. rw zero-add) nothing_yet
+  seeding = seed-all 0 seed _ (zero-add (length seed)) (λ m h. rw zero-add) nothing_yet
 
   count-seed : length nodes ≡ length seed
   count-seed = length-map seed (λ (r : Record M). r.node)
@@ -326,6 +336,13 @@ module _ {M : Meter} (B : Bounds M) (j : Job M) (seed : List (Record M)) (rows :
     covered = seeding.covered;
     nested = λ a c h q. absurd (no_child a c h q);
     own_below = λ a c h q. absurd (no_child a c h q);
+    deep = record {
+      root = seeding.deep 0 (sound-count seed faultless).0 ∙ good.deep.root;
+      child = λ a c h.
+          let k : Child nodes a c = rw seed-nodes at h in
+          let w = child-forward nodes good.rooted.family.forward a c k in
+          seeding.deep c (omega (arith, w.1, count-seed)) ∙ good.deep.child a c k ∙ ap suc (sym (seeding.deep a (omega (arith, w.0, w.1, count-seed))));
+    };
   }
     where
       low : (r : Row) → reached r < length nodes

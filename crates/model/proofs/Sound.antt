@@ -1,24 +1,26 @@
--- Which node lists are sound: families of nodes whose fields are in range, in which each node but the first has a parent. Assumes nothing.
-use mathlib.Core.Path.{◌≡◌, refl, sym, subst}
+-- Which node lists are sound: families of nodes whose fields are in range, in which each node but the first has a parent and lies one deeper than it. Assumes nothing.
+use mathlib.Core.Path.{◌≡◌, refl, sym, ap, subst}
 use mathlib.Core.Logic.{inl, inr}
 use Prim.Native.Nat.{ℕ, zero, suc, ◌+◌, ◌≤◌, ◌<◌}
 use native.Mathlib.Nat.{zero-add, add-zero, lt_irrefl}
 use native.Mathlib.Omega.{arith}
 use native.Mathlib.Decide.{ℕ_discrete, dec_lt}
-use mathlib.Core.Bool.{Bool, true, false, cond, ◌&&◌, ◌||◌, true≢false}
+use mathlib.Core.Bool.{Bool, true, false, cond, not, ◌&&◌, ◌||◌, true≢false}
 use mathlib.Core.List.{List, [], ◌∷◌}
 use mathlib.Core.Option.{none, some}
 use lib.ListN.{length, get_or, length-map, get_or-eq_default, get_or-map}
 use lib.Dec.{T, T_not, not_T, eqb, ltb, lt→ltb, ltb→lt, eqb→eq}
 use lib.Ieee.Fits.{and_i, and_l, and_r}
-use Rattle.model.specs.Lists.{count_if}
+use Rattle.model.specs.Lists.{count_if, all}
 use Rattle.model.specs.Meter.{Meter}
 use Rattle.model.specs.Settings.{props_per_row, max_nodes}
-use Rattle.model.specs.Tree.{Node, split, leaf, Record, blank_record, nodes_of, is_orderly, is_fine, has_child, has_two_children, has_one_parent, fault_from, fault_of}
-use Rattle.model.specs.Family.{Forward, ChildOf, Child, Twins, Family}
+use Rattle.model.specs.Tree.{Node, split, leaf, Record, blank_record, nodes_of, is_orderly, is_fine, has_child, has_two_children, has_one_parent, has_depth, fault_from, fault_of}
+use Rattle.model.specs.Family.{Forward, ChildOf, Child, Twins, Family, Deep}
 use Rattle.model.specs.Kept.{FieldsFit}
+use Rattle.model.specs.Depths.{depth_in}
 use Rattle.model.proofs.Paths.{T→true, eqb_same, eqb-other}
 use Rattle.model.proofs.Family.{child-forward}
+use Rattle.model.proofs.Keeping.{all-at, all-each}
 use Rattle.model.proofs.Invariant.{none_is_no_some}
 
 -- a family in which each node but the first has a parent
@@ -28,6 +30,7 @@ pub record Rooted (nodes : List Node) : Type 0 where
 
 pub record Sound {M : Meter} (rs : List (Record M)) : Type 0 where
   pub rooted : Rooted (nodes_of rs)
+  pub deep : Deep (nodes_of rs) (depth_in rs)
   pub fits : (k : ℕ) → k < length rs → FieldsFit (get_or rs k blank_record).node (get_or rs k blank_record).info.pred
 
 -- ---- tests and counts
@@ -119,6 +122,9 @@ module _ {M : Meter} (rs : List (Record M)) where
   abbrev pred_at : ℕ → ℕ
   pred_at k = (get_or rs k blank_record).info.pred
 
+  abbrev depth_at : ℕ → ℕ
+  depth_at = depth_in rs
+
   pub same_length : length nodes ≡ length rs
   same_length = length-map rs (λ (r : Record M). r.node)
 
@@ -126,35 +132,42 @@ module _ {M : Meter} (rs : List (Record M)) where
   node_at k = get_or-map (λ (r : Record M). r.node) rs k blank_record
 
   -- ---- no node is at fault
-  fine-from : (i : ℕ) (ss : List (Record M)) → fault_from nodes i ss ≡ none → (m : ℕ) → m < length ss → T (is_fine nodes (i + m) (get_or ss m blank_record).info.pred (get_or ss m blank_record).node)
+  fine-from : (i : ℕ) (ss : List (Record M)) → fault_from rs i ss ≡ none → (m : ℕ) → m < length ss → T (is_fine rs (i + m) (get_or ss m blank_record))
   unfolding fault_from
   fine-from i [] e m h = absurd (lt_irrefl m (omega arith))
-  fine-from i (r ∷ ss) e m h = go (is_fine nodes i r.info.pred r.node) refl e (λ z. fine-from (suc i) ss z) m h
+  fine-from i (r ∷ ss) e m h = go (is_fine rs i r) refl e (λ z. fine-from (suc i) ss z) m h
     where
-      go : (b : Bool) → is_fine nodes i r.info.pred r.node ≡ b → cond b (fault_from nodes (suc i) ss) (some i) ≡ none
-          → (fault_from nodes (suc i) ss ≡ none → (m : ℕ) → m < length ss → T (is_fine nodes (suc i + m) (get_or ss m blank_record).info.pred (get_or ss m blank_record).node))
-          → (m : ℕ) → m < suc (length ss) → T (is_fine nodes (i + m) (get_or (r ∷ ss) m blank_record).info.pred (get_or (r ∷ ss) m blank_record).node)
+      go : (b : Bool) → is_fine rs i r ≡ b → cond b (fault_from rs (suc i) ss) (some i) ≡ none
+          → (fault_from rs (suc i) ss ≡ none → (m : ℕ) → m < length ss → T (is_fine rs (suc i + m) (get_or ss m blank_record)))
+          → (m : ℕ) → m < suc (length ss) → T (is_fine rs (i + m) (get_or (r ∷ ss) m blank_record))
       go false q z ih m h = absurd (none_is_no_some i (sym z))
       go true q z ih zero h = rw (add-zero, q) tt
       go true q z ih (suc m) h = let k : i + suc m ≡ suc i + m = omega arith in rw k (ih z m (omega arith))
 
   module _ (faultless : fault_of rs ≡ none) where
     -- the count is in range
-    pub sound-count : (0 < length rs) × (length rs ≤ max_nodes) × (fault_from nodes 0 rs ≡ none)
+    pub sound-count : (0 < length rs) × (length rs ≤ max_nodes) × (fault_from rs 0 rs ≡ none)
     unfolding fault_of
     sound-count = search arith
 
     pub has_root : 0 < length nodes
     has_root = rw same_length sound-count.0
 
-    fine : (i : ℕ) → i < length nodes → T (is_fine nodes i (pred_at i) (get_or nodes i leaf))
-    fine i h = rw (node_at i) (rw zero-add at (fine-from 0 rs sound-count.2 i (rw same_length at h)))
+    -- the node in order, its children two, its parent one, its depth right
+    abbrev Fine : ℕ → Type 0
+    Fine i = T (is_orderly (length nodes) i (pred_at i) (get_or nodes i leaf)) × T (has_two_children (get_or nodes i leaf)) × T (has_one_parent nodes i) × T (has_depth rs i (depth_at i))
+
+    fine : (i : ℕ) → i < length nodes → Fine i
+    fine i h = parted (rw (node_at i, same_length) (rw zero-add at (fine-from 0 rs sound-count.2 i (rw same_length at h))))
+      where
+        parted : T (is_orderly (length nodes) i (pred_at i) (get_or nodes i leaf) && (has_two_children (get_or nodes i leaf) && (has_one_parent nodes i && has_depth rs i (depth_at i)))) → Fine i
+        parted t =
+            let u = and_r (is_orderly (length nodes) i (pred_at i) (get_or nodes i leaf)) _ t in
+            let v = and_r (has_two_children (get_or nodes i leaf)) _ u in
+            (and_l _ _ t, and_l _ _ u, and_l _ _ v, and_r (has_one_parent nodes i) _ v)
 
     pub orderly : (i : ℕ) → i < length nodes → T (is_orderly (length nodes) i (pred_at i) (get_or nodes i leaf))
-    orderly i h = and_l (is_orderly (length nodes) i (pred_at i) (get_or nodes i leaf)) _ (fine i h)
-
-    rest : (i : ℕ) → i < length nodes → T (has_two_children (get_or nodes i leaf) && has_one_parent nodes i)
-    rest i h = and_r (is_orderly (length nodes) i (pred_at i) (get_or nodes i leaf)) _ (fine i h)
+    orderly i h = (fine i h).0
 
     forward : (i : ℕ) → i < length nodes → Forward (length nodes) i (get_or nodes i leaf)
     forward i h = go (get_or nodes i leaf) (orderly i h)
@@ -174,10 +187,10 @@ module _ {M : Meter} (rs : List (Record M)) where
     counted-once : (c : ℕ) → 0 < c → c < length nodes → count_if (has_child c) nodes ≡ 1
     counted-once c pos h = eqb→eq (count_if (has_child c) nodes) 1
         (or_other (eqb c 0) (eqb (count_if (has_child c) nodes) 1) (eqb-other c 0 (λ (e : c ≡ 0). lt_irrefl 0 (omega arith)))
-        (and_r (has_two_children (get_or nodes c leaf)) (has_one_parent nodes c) (rest c h)))
+        (fine c h).2)
 
     two_children : (a : ℕ) → Twins (get_or nodes a leaf)
-    two_children a = elim (dec_lt a (length nodes)) [ yes h ↦ twins (get_or nodes a leaf) (and_l (has_two_children (get_or nodes a leaf)) (has_one_parent nodes a) (rest a h)) | no h ↦ beyond (omega arith) ]
+    two_children a = elim (dec_lt a (length nodes)) [ yes h ↦ twins (get_or nodes a leaf) (fine a h).1 | no h ↦ beyond (omega arith) ]
       where
         twins : (m : Node) → T (has_two_children m) → Twins m
         twins leaf t = tt
@@ -207,10 +220,25 @@ module _ {M : Meter} (rs : List (Record M)) where
     parents : (k : ℕ) → 0 < k → k < length nodes → (a : ℕ) × Child nodes a k
     parents k pos h = let f = found (has_child k) leaf nodes (omega (arith, counted-once k pos h)) in (f.0, has_child_lem (get_or nodes f.0 leaf) k f.2)
 
+    deep : Deep nodes depth_at
+    deep = record {
+      root = eqb→eq (depth_at 0) 0 (fine 0 has_root).3;
+      child = λ a c h.
+          let f = child-forward nodes forward a c h in
+          let below = λ (r : Record M). not (has_child c r.node) || eqb (depth_at c) (suc r.depth) in
+          let all_below : T (all below rs) = rw (eqb-other c 0 (λ (e : c ≡ 0). lt_irrefl 0 (omega arith))) at (fine c f.1).3 in
+          let at_parent = all-at below rs a blank_record (omega (arith, same_length)) all_below in
+          eqb→eq (depth_at c) (suc (depth_at a)) (or_other (not (has_child c (get_or rs a blank_record).node)) _ (is_so a c h) at_parent);
+    }
+      where
+        is_so : (a c : ℕ) → Child nodes a c → not (has_child c (get_or rs a blank_record).node) ≡ false
+        is_so a c h = ap not (T→true _ (rw (node_at a) at (child_has (get_or nodes a leaf) c h)))
+
     -- a list without fault is sound
     pub sound : Sound rs
     sound = record {
       rooted = record { family = record { forward = forward; one_parent = one_parent; two_children = two_children }; parents = parents };
+      deep = deep;
       fits = λ k h. let i : k < length nodes = rw same_length h in rw (node_at k) at (go (length nodes) k (get_or nodes k leaf) (pred_at k) (orderly k i));
     }
       where
@@ -220,11 +248,24 @@ module _ {M : Meter} (rs : List (Record M)) where
 
   -- ---- and the other way round
   module _ (t : Sound rs) where
-    no_fault : (i : ℕ) → i < length nodes → T (is_fine nodes i (pred_at i) (get_or rs i blank_record).node)
-    no_fault i h = rw (node_at i) at (and_i (is_orderly (length nodes) i (pred_at i) (get_or nodes i leaf)) (has_two_children (get_or nodes i leaf) && has_one_parent nodes i)
+    no_fault : (i : ℕ) → i < length nodes → T (is_fine rs i (get_or rs i blank_record))
+    no_fault i h = rw (node_at i, same_length) at (and_i (is_orderly (length nodes) i (pred_at i) (get_or nodes i leaf)) (has_two_children (get_or nodes i leaf) && (has_one_parent nodes i && has_depth rs i (depth_at i)))
         (in_order (get_or nodes i leaf) (rw (node_at i) (t.fits i (rw same_length at h))) (t.rooted.family.forward i h))
-        (and_i (has_two_children (get_or nodes i leaf)) (has_one_parent nodes i) (two (get_or nodes i leaf) (t.rooted.family.two_children i)) (one (ℕ_discrete i 0))))
+        (and_i (has_two_children (get_or nodes i leaf)) (has_one_parent nodes i && has_depth rs i (depth_at i)) (two (get_or nodes i leaf) (t.rooted.family.two_children i))
+        (and_i (has_one_parent nodes i) (has_depth rs i (depth_at i)) (one (ℕ_discrete i 0)) (deeper (ℕ_discrete i 0)))))
       where
+        -- one more than at each split that it is a child of
+        below : (a : ℕ) → T (not (has_child i (get_or rs a blank_record).node) || eqb (depth_at i) (suc (depth_at a)))
+        below a = go (has_child i (get_or rs a blank_record).node) refl
+          where
+            go : (b : Bool) → has_child i (get_or rs a blank_record).node ≡ b → T (not b || eqb (depth_at i) (suc (depth_at a)))
+            go false e = tt
+            go true e = rw (t.deep.child a i (has_child_lem (get_or nodes a leaf) i (rw (node_at a, e) tt)), eqb_same (suc (depth_at a))) tt
+
+        deeper : Dec (i ≡ 0) → T (has_depth rs i (depth_at i))
+        deeper (yes e) = rw (e, t.deep.root) tt
+        deeper (no ne) = rw (eqb-other i 0 ne) (all-each (λ (r : Record M). not (has_child i r.node) || eqb (depth_at i) (suc r.depth)) rs blank_record (λ a l. below a))
+
         in_order : (m : Node) → FieldsFit m (pred_at i) → Forward (length nodes) i m → T (is_orderly (length nodes) i (pred_at i) m)
         in_order leaf f w = f
         in_order (split p v g l) f w = and_i (ltb p props_per_row) _ f
@@ -238,13 +279,13 @@ module _ {M : Meter} (rs : List (Record M)) where
         one (yes e) = or_l (eqb i 0) _ (rw e tt)
         one (no ne) = or_r (eqb i 0) _ (rw (once nodes t.rooted i (omega arith) h) tt)
 
-    none_from : (i : ℕ) (ss : List (Record M)) → i + length ss ≡ length rs → ((m : ℕ) → m < length ss → get_or rs (i + m) blank_record ≡ get_or ss m blank_record) → fault_from nodes i ss ≡ none
+    none_from : (i : ℕ) (ss : List (Record M)) → i + length ss ≡ length rs → ((m : ℕ) → m < length ss → get_or rs (i + m) blank_record ≡ get_or ss m blank_record) → fault_from rs i ss ≡ none
     unfolding fault_from
     none_from i [] e same = refl
     none_from i (r ∷ ss) e same =
         let q : get_or rs i blank_record ≡ r = rw add-zero at (same 0 (omega arith)) in
-        let f : T (is_fine nodes i r.info.pred r.node) = subst (λ (r : Record M). T (is_fine nodes i r.info.pred r.node)) q (no_fault i (omega (arith, same_length))) in
-        rw (T→true (is_fine nodes i r.info.pred r.node) f) (none_from (suc i) ss (omega arith) (λ k h. let w : suc i + k ≡ i + suc k = omega arith in rw w (same (suc k) (omega arith))))
+        let f : T (is_fine rs i r) = subst (λ (r : Record M). T (is_fine rs i r)) q (no_fault i (omega (arith, same_length))) in
+        rw (T→true (is_fine rs i r) f) (none_from (suc i) ss (omega arith) (λ k h. let w : suc i + k ≡ i + suc k = omega arith in rw w (same (suc k) (omega arith))))
 
     pub sound-faultless : 0 < length rs → length rs ≤ max_nodes → fault_of rs ≡ none
     unfolding fault_of

@@ -119,7 +119,7 @@ module _ {M : Meter} where
         same : leaf_reached (nodes_of (tree_in count z)) ps ≡ number k
         same = rw tree (same-ends rs faultless ps)
 
-        there : node_in count z (leaf_reached (nodes_of (tree_in count z)) ps) ≡ rowless_record leaf (node_in count nodes k).info
+        there : node_in count z (leaf_reached (nodes_of (tree_in count z)) ps) ≡ rowless_record leaf (node_in count nodes k).info (node_in count nodes k).depth
         there = rw (same, tree) (record-moved rs faultless k (rw n was.inside) leaf (leaf_is (node_in count nodes k).node was.is_leaf))
 
     read-again : ReadAgain count nodes z
@@ -179,7 +179,7 @@ module _ {M : Meter} where
       sound = rw got.written back.is_sound;
       in_breadth = rw got.written (rw (← got.answer) at back.in_breadth);
       rowless = rw got.written (λ i.
-          ap (λ (l : List (Record M)). get_or l i blank_record) (sym back.rowless) ∙ get_or-map (λ (r : Record M). rowless_record r.node r.info) got.tree i blank_record);
+          ap (λ (l : List (Record M)). get_or l i blank_record) (sym back.rowless) ∙ get_or-map (λ (r : Record M). rowless_record r.node r.info r.depth) got.tree i blank_record);
     }
 
 pub symbols-kept : (M : Meter) → SymbolsKept M

@@ -52,9 +52,9 @@ module _ {M : Meter} (rs : List (Record M)) (faultless : fault_of rs ≡ none) w
   abbrev new : List Node
   new = R.new nodes order closed
 
-  node_of : (m : Node) (i : Info M) → (rowless_record m i).node ≡ m
-  node_of leaf i = refl
-  node_of (split p v g l) i = refl
+  node_of : (m : Node) (i : Info M) (depth : ℕ) → (rowless_record m i depth).node ≡ m
+  node_of leaf i depth = refl
+  node_of (split p v g l) i depth = refl
 
   new_is : nodes_of (breadth_tree rs) ≡ new
   unfolding breadth_tree renumbered_tree
@@ -74,9 +74,9 @@ module _ {M : Meter} (rs : List (Record M)) (faultless : fault_of rs ≡ none) w
   pub place-apart : (i k : ℕ) → i < length nodes → k < length nodes → place_of i order ≡ place_of k order → i ≡ k
   place-apart i k h j = R.same_place nodes order closed i k (in_order i h) (in_order k j)
 
-  -- the record under the new number: a split's children have theirs, a leaf's predictor and offset stay
+  -- the record under the new number: a split's children have theirs, a leaf's predictor and offset stay, and the depth
   pub record-moved : (i : ℕ) → i < length nodes → (m : Node) → (get_or rs i blank_record).node ≡ m
-      → get_or (breadth_tree rs) (place_of i order) blank_record ≡ rowless_record (renumbered order m) (get_or rs i blank_record).info
+      → get_or (breadth_tree rs) (place_of i order) blank_record ≡ rowless_record (renumbered order m) (get_or rs i blank_record).info (get_or rs i blank_record).depth
   unfolding breadth_tree renumbered_tree
   record-moved i h m e =
       let made : ℕ → Record M = λ (i : ℕ). renumbered_record order (get_or rs i blank_record) in

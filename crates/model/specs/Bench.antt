@@ -75,12 +75,13 @@ shown_learning a = go a.outcome
         ∷ whole (pos (kind first.node)) ∷ whole (pos first.info.pred) ∷ whole first.info.offset ∷ []
 
 -- ---- pruning
-abbrev pub entry : Node → ℕ → ℕ → Entry singles
-entry n cost pred = record { node = n; info = record { cost = single_of cost; pred = pred; offset = pos 0 }; span = no_span; depth = 0; offer = none }
+abbrev pub entry : Node → ℕ → ℕ → ℕ → Entry singles
+entry n depth cost pred =
+    record { node = n; info = record { cost = single_of cost; pred = pred; offset = pos 0 }; span = no_span; depth = depth; offer = none }
 
 -- root cost 10, leaves 4 and 5
 abbrev pub ten : List (Entry singles)
-ten = entry (split 0 (pos 0) 1 2) 10 0 ∷ entry leaf 4 1 ∷ entry leaf 5 2 ∷ []
+ten = entry (split 0 (pos 0) 1 2) 0 10 0 ∷ entry leaf 1 4 1 ∷ entry leaf 1 5 2 ∷ []
 
 -- how many nodes are left, and the estimated bits
 abbrev pub shown_pruning : Float → List (Entry singles) → List Cell
@@ -88,10 +89,10 @@ shown_pruning price tree = whole (pos (length (pruned_tree price tree))) ∷ bit
 
 -- 0 splits to 1 and 2, 1 splits to 3 and 4; beside node k stands k as its predictor. Its splits cost too much to be folded
 abbrev pub five : List (Entry singles)
-five = entry (split 0 (pos 0) 1 2) 99 0 ∷ entry (split 0 (pos 9) 3 4) 99 1 ∷ entry leaf 1 2 ∷ entry leaf 1 3 ∷ entry leaf 1 4 ∷ []
+five = entry (split 0 (pos 0) 1 2) 0 99 0 ∷ entry (split 0 (pos 9) 3 4) 1 99 1 ∷ entry leaf 1 1 2 ∷ entry leaf 2 1 3 ∷ entry leaf 2 1 4 ∷ []
 
 abbrev pub stored_of : List (Entry singles) → List (Stored singles)
-stored_of = map (λ (e : Entry singles). stored_node e.node e.info)
+stored_of = map (λ (e : Entry singles). stored_node e.node e.info e.depth)
 
 abbrev pub preds_of : List (Entry singles) → List ℕ
 preds_of = map (λ (e : Entry singles). e.info.pred)

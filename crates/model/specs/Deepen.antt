@@ -1,5 +1,5 @@
 -- What deepening makes of a sound seed and its rows (document 01, "Deepening"; the Rust's `deepen_ma_tree`). Assumes nothing.
-use Rattle.std.specs.Prelude.{ℕ, suc, ◌+◌, ◌-◌, List, [], ◌∷◌, ◌++◌, length, get_or, set, replicate, pos, eqb}
+use Rattle.std.specs.Prelude.{ℕ, suc, ◌+◌, ◌-◌, List, [], ◌∷◌, ◌++◌, length, pos, eqb}
 use Rattle.std.proofs.Math.Option.{none}
 use Rattle.model.specs.Lists.{keep}
 use Rattle.model.specs.Meter.{Meter}
@@ -9,15 +9,6 @@ use Rattle.model.specs.Tree.{Node, split, leaf, Info, Record, nodes_of, leaf_rea
 use Rattle.model.specs.Job.{Job}
 use Rattle.model.specs.Grow.{Entry, State, leaf_over, steps}
 use Rattle.model.specs.Learn.{Result, leaf_count, finished}
-
--- a child lies one deeper than its split. Children stand after their split, so one pass in ascending order does
-unfoldable pub depths_from : ℕ → List Node → List ℕ → List ℕ
-depths_from i [] depths = depths
-depths_from i (split prop val gt le ∷ ns) depths = let d = suc (get_or depths i 0) in depths_from (suc i) ns (set (set depths gt d) le d)
-depths_from i (leaf ∷ ns) depths = depths_from (suc i) ns depths
-
-unfoldable pub depths_of : List Node → List ℕ
-depths_of nodes = depths_from 0 nodes (replicate (length nodes) 0)
 
 -- the rows, in their order, whose lookup reaches node i
 unfoldable pub rows_at : List Node → ℕ → List Row → List Row
@@ -48,7 +39,7 @@ module _ {M : Meter} where
   with_leaf_cost bits e [] = bits
   with_leaf_cost bits e (r ∷ rs) = M.add bits (M.total e.info.cost)
 
-  -- one node more, with its depth and the rows that reach it
+  -- one node more, at the depth that it stores, with the rows that reach it
   abbrev pub with_seed_node : Job M → Node → Info M → ℕ → List Row → State M → State M
   with_seed_node j (split prop val gt le) i depth mine s =
       record { rows = s.rows; tree = s.tree ++ (seed_split (split prop val gt le) depth ∷ []); bits = s.bits }
@@ -57,16 +48,13 @@ module _ {M : Meter} where
       record { rows = s.rows ++ fresh j.uses mine; tree = s.tree ++ (e ∷ []); bits = with_leaf_cost s.bits e mine }
 
   -- the state after nodes i, i + 1, ..: rows ordered by leaf number, stably, each leaf's with its own mode's tokens
-  unfoldable pub seed_from : Job M → List Node → List ℕ → List Row → ℕ → List (Record M) → State M → State M
-  seed_from j nodes depths rows i [] s = s
-  seed_from j nodes depths rows i (r ∷ rs) s =
-      seed_from j nodes depths rows (suc i) rs (with_seed_node j r.node r.info (get_or depths i 0) (rows_at nodes i rows) s)
+  unfoldable pub seed_from : Job M → List Node → List Row → ℕ → List (Record M) → State M → State M
+  seed_from j nodes rows i [] s = s
+  seed_from j nodes rows i (r ∷ rs) s = seed_from j nodes rows (suc i) rs (with_seed_node j r.node r.info r.depth (rows_at nodes i rows) s)
 
   -- estimated bits start at 0
   unfoldable pub seed_state : Job M → List (Record M) → List Row → State M
-  seed_state j seed rows =
-      let nodes = nodes_of seed in
-      seed_from j nodes (depths_of nodes) rows 0 seed (record { rows = []; tree = []; bits = M.no_total })
+  seed_state j seed rows = seed_from j (nodes_of seed) rows 0 seed (record { rows = []; tree = []; bits = M.no_total })
 
   -- while leaves < limit, from the seed's leaves
   unfoldable pub deepened : Job M → ℕ → List (Record M) → List Row → Result M

@@ -32,6 +32,11 @@ pub record Family (nodes : List Node) : Type 0 where
   pub one_parent : (a b c : ℕ) → Child nodes a c → Child nodes b c → a ≡ b
   pub two_children : (a : ℕ) → Twins (get_or nodes a leaf)
 
+-- node 0 lies at depth 0, and each child one deeper than its parent
+pub record Deep (nodes : List Node) (depth_at : ℕ → ℕ) : Type 0 where
+  pub root : depth_at 0 ≡ 0
+  pub child : (a c : ℕ) → Child nodes a c → depth_at c ≡ suc (depth_at a)
+
 -- node a stands above another: as its parent, or above its parent
 pub data Anc (nodes : List Node) (a : ℕ) : ℕ → Type 0 where
   parent : {c : ℕ} → Child nodes a c → Anc nodes a c

@@ -10,7 +10,7 @@ use Rattle.model.specs.Mode.{span_mode, fresh}
 use Rattle.model.specs.Tree.{Node, split, leaf, Info, Record, no_info}
 use Rattle.model.specs.Job.{Offer, Job}
 
--- a node with what stands beside it; a leaf that offers a split is waiting
+-- a node with what stands beside it, its rows and its depth; a leaf that offers a split is waiting
 pub record Entry (M : Meter) : Type 0 where
   pub node : Node
   pub info : Info M
@@ -41,7 +41,7 @@ module _ {M : Meter} where
   tree_nodes = map (λ (e : Entry M). e.node)
 
   abbrev pub record_of : Entry M → Record M
-  record_of e = record { node = e.node; info = e.info }
+  record_of e = record { node = e.node; info = e.info; depth = e.depth }
 
   -- a leaf over the rows, whose zero tokens are those of `mode`
   unfoldable pub leaf_over : Job M → List Row → ℤ → Span → ℕ → Entry M
@@ -84,7 +84,7 @@ module _ {M : Meter} where
     unfoldable pub split_rows : List Row
     split_rows = take e.span.first rows ++ gt_rows ++ le_rows ++ drop e.span.end rows
 
-  -- the node becomes a split that keeps its span and what stands beside it
+  -- the node becomes a split that keeps its span, its depth and what stands beside it
   unfoldable pub become_split : Entry M → Offer M → ℕ → Entry M
   become_split e o n = record { node = split o.prop o.val n (suc n); info = e.info; span = e.span; depth = e.depth; offer = none }
 

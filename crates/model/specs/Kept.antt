@@ -13,7 +13,7 @@ use Rattle.model.specs.Job.{Offer}
 use Rattle.model.specs.Grow.{Entry, State, no_entry, tree_nodes}
 use Rattle.model.specs.Promise.{SameRows}
 use Rattle.model.specs.Accepting.{Below}
-use Rattle.model.specs.Family.{Child, Family, Anc, passes}
+use Rattle.model.specs.Family.{Child, Family, Deep, Anc, passes}
 
 -- the span holds exactly the rows handed in whose way meets node k, each as often
 abbrev pub HoldsPassing : Bool → List Node → List Row → List Row → Span → ℕ → Type 0
@@ -81,7 +81,7 @@ module _ {M : Meter} where
   Nested tree a c = ((entry_at tree a).span.first ≤ (entry_at tree c).span.first) × ((entry_at tree c).span.end ≤ (entry_at tree a).span.end)
 
   -- What growth keeps besides: fields in range, costs of one unit at most (`Small n t`: the total t is at most n units in size), a parent for each node
-  -- but the first, every place in the span of a leaf, and spans within the parent's
+  -- but the first, every place in the span of a leaf, spans within the parent's, and depths one more than the parent's
   pub record Healthy (Small : ℕ → M.Total → Type 0) (seeds : ℕ → Bool) (given : List Row) (s : State M) : Type 0 where
     pub entries : (k : ℕ) → k < length s.tree → EntryFits (entry_at s.tree k)
     pub costs : (k : ℕ) → k < length s.tree → seeds k ≡ false → Small 1 (M.total (entry_at s.tree k).info.cost)
@@ -90,6 +90,7 @@ module _ {M : Meter} where
     pub covered : (p : ℕ) → p < length s.rows → Covered s.tree p
     pub nested : (a c : ℕ) → Child (tree_nodes s.tree) a c → seeds a ≡ false → Nested s.tree a c
     pub own_below : (a c : ℕ) → Child (tree_nodes s.tree) a c → seeds a ≡ false → seeds c ≡ false
+    pub deep : Deep (tree_nodes s.tree) (λ (k : ℕ). (entry_at s.tree k).depth)
 
   -- an entry's span does not run backwards, and Q holds of its cost
   abbrev pub Fine : (M.Cost → Type 0) → Entry M → Type 0

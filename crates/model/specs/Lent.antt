@@ -9,7 +9,7 @@ use Rattle.model.specs.Tree.{Node, split, leaf, Info, Record}
 use Rattle.model.specs.Job.{Offer}
 use Rattle.model.specs.Learn.{Result}
 
--- an entry of the lent node list: a node's kind, any number; its fields, for which a leaf has no use; and what stands beside it
+-- an entry of the lent node list: a node's kind, any number; its fields, for which a leaf has no use; what stands beside it; and its depth
 pub record Stored (M : Meter) : Type 0 where
   pub kind : ℕ
   pub prop : ℕ
@@ -17,19 +17,20 @@ pub record Stored (M : Meter) : Type 0 where
   pub gt : ℕ
   pub le : ℕ
   pub info : Info M
+  pub depth : ℕ
 
 module _ {M : Meter} where
-  -- what is read of an entry: kind 1 is a split, and any other number a leaf, of which nothing is read but what stands beside it
+  -- what is read of an entry: kind 1 is a split, and any other number a leaf, of which nothing is read but what stands beside it and its depth
   abbrev pub record_in : Stored M → Record M
-  record_in e = record { node = cond (eqb e.kind 1) (split e.prop e.val e.gt e.le) leaf; info = e.info }
+  record_in e = record { node = cond (eqb e.kind 1) (split e.prop e.val e.gt e.le) leaf; info = e.info; depth = e.depth }
 
   -- what is written: kind 1 or 0; fields a leaf has no use for hold 0
-  abbrev pub stored_node : Node → Info M → Stored M
-  stored_node (split prop val gt le) i = record { kind = 1; prop = prop; val = val; gt = gt; le = le; info = i }
-  stored_node leaf i = record { kind = 0; prop = 0; val = pos 0; gt = 0; le = 0; info = i }
+  abbrev pub stored_node : Node → Info M → ℕ → Stored M
+  stored_node (split prop val gt le) i depth = record { kind = 1; prop = prop; val = val; gt = gt; le = le; info = i; depth = depth }
+  stored_node leaf i depth = record { kind = 0; prop = 0; val = pos 0; gt = 0; le = 0; info = i; depth = depth }
 
   abbrev pub stored : Record M → Stored M
-  stored r = stored_node r.node r.info
+  stored r = stored_node r.node r.info r.depth
 
 -- an entry of the lent queue: a waiting leaf's number, its depth and what it offers
 pub record Waiting (M : Meter) : Type 0 where

@@ -33,6 +33,7 @@ pub mod Promise
 pub mod Accepting
 pub mod Family
 pub mod Kept
+pub mod Depths
 pub mod SeedKept
 pub mod SymbolsKept
 pub mod SettledPlain

@@ -1,4 +1,4 @@
--- Demand 3 (document 00, with document 01's "Demand 3's words"), said of the operations' answers and lent lists. Assumes nothing.
+-- Demand 3 (document 00, with document 01's "Demand 3's words"; document 02, d), said of the operations' answers and lent lists. Assumes nothing.
 use Rattle.std.specs.Prelude.{◌≡◌, ◌⊎◌, ℕ, suc, ◌+◌, ◌≤◌, ◌<◌, Bool, false, cond, List, [], map, length, get_or, set, ℤ, pos, T, eqb}
 use Rattle.std.proofs.Math.Option.{none}
 use Rattle.model.specs.Lists.{count_if, keep}
@@ -51,18 +51,19 @@ module _ {M : Meter} where
 
   -- ---- (i) limits k and k + 1: answer a with lists x, answer b with lists y, alike in everything but this
   pub record OneMore (uses : Bool) (a : Tree M) (x : Lent M) (b : Tree M) (y : Lent M) : Type 0 where
-    -- one leaf became a split; it keeps its span and what stands beside it
+    -- one leaf became a split; it keeps its span, its depth and what stands beside it
     pub number : ℕ
     pub prop : ℕ
     pub val : ℤ
     pub was_leaf : IsLeafOf a x number
-    -- its two new leaves stand right behind the first answer's nodes, with their spans, which share the leaf's
+    -- its two new leaves stand right behind the first answer's nodes, one deeper, with their spans, which share the leaf's
     pub gt : Info M
     pub le : Info M
     pub middle : ℕ
     pub room : (suc a.nodes < length x.nodes) × (suc a.nodes < length x.spans)
     pub nodes : y.nodes ≡ set (set (set x.nodes number
-        (stored_node (split prop val a.nodes (suc a.nodes)) (record_at x number).info)) a.nodes (stored_node leaf gt)) (suc a.nodes) (stored_node leaf le)
+        (stored_node (split prop val a.nodes (suc a.nodes)) (record_at x number).info (record_at x number).depth))
+        a.nodes (stored_node leaf gt (suc (record_at x number).depth))) (suc a.nodes) (stored_node leaf le (suc (record_at x number).depth))
     pub spans : y.spans ≡ set (set x.spans a.nodes (record { first = (span_at x number).first; end = middle }))
         (suc a.nodes) (record { first = middle; end = (span_at x number).end })
     pub between : ((span_at x number).first ≤ middle) × (middle ≤ (span_at x number).end)

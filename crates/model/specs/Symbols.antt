@@ -1,6 +1,6 @@
--- A tree as JPEG XL symbols (document 02, c; the Rust's `emit_learned_tree`): its nodes breadth first, each with its symbols as the standard has them, and the tree that a list of symbols gives.
+-- A tree as JPEG XL symbols (document 02, c and d; the Rust's `emit_learned_tree`): its nodes breadth first, each with its symbols as the standard has them, and the tree that a list of symbols gives.
 -- Assumes nothing.
-use Rattle.std.specs.Prelude.{ℕ, zero, suc, ◌+◌, Bool, cond, ◌&&◌, List, [], ◌∷◌, ◌++◌, map, get_or, ℤ, eqb, ltb}
+use Rattle.std.specs.Prelude.{ℕ, zero, suc, ◌+◌, Bool, cond, ◌&&◌, List, [], ◌∷◌, ◌++◌, map, length, get_or, ℤ, eqb, ltb}
 use Rattle.std.proofs.Math.Option.{Option, none, some}
 use Rattle.model.specs.Meter.{Meter}
 use Rattle.model.specs.Settings.{props_per_row, toks_per_row, max_nodes}
@@ -31,12 +31,12 @@ module _ {M : Meter} where
   unfoldable pub symbols_of : List (Record M) → List Symbol
   symbols_of rs = symbols_along rs (breadth_order (nodes_of rs))
 
-  -- ---- the tree renumbered: a node's new number is its place in the order, its record a rowless seed's
-  abbrev pub rowless_record : Node → Info M → Record M
-  rowless_record n i = record_of (rowless n i 0)
+  -- ---- the tree renumbered: a node's new number is its place in the order, its record a rowless seed's; its depth stays
+  abbrev pub rowless_record : Node → Info M → ℕ → Record M
+  rowless_record n i depth = record_of (rowless n i depth)
 
   abbrev pub renumbered_record : List ℕ → Record M → Record M
-  renumbered_record order r = rowless_record (renumbered order r.node) r.info
+  renumbered_record order r = rowless_record (renumbered order r.node) r.info r.depth
 
   unfoldable pub renumbered_tree : List ℕ → List (Record M) → List (Record M)
   renumbered_tree order rs = map (λ (i : ℕ). renumbered_record order (get_or rs i blank_record)) order
@@ -86,35 +86,40 @@ abbrev pub first_node : List Symbol → FirstNode
 first_node [] = no_node
 first_node (s ∷ rest) = cond (is_in property_context s) (node_from s.value rest) no_node
 
+-- a split's children come behind all nodes that are due, one deeper than it
+abbrev pub with_children : ℕ → List ℕ → List ℕ
+with_children depth due = due ++ (suc depth ∷ suc depth ∷ [])
+
 module _ {M : Meter} where
   abbrev pub with_first : Record M → Option (List (Record M)) → Option (List (Record M))
   with_first r none = none
   with_first r (some rs) = some (r ∷ rs)
 
   -- the end: no node is due, and no symbol is left over
-  abbrev pub at_end : ℕ → List Symbol → Option (List (Record M))
-  at_end zero [] = some []
-  at_end zero (s ∷ rest) = none
-  at_end (suc left) xs = none
+  abbrev pub at_end : List ℕ → List Symbol → Option (List (Record M))
+  at_end [] [] = some []
+  at_end [] (s ∷ rest) = none
+  at_end (depth ∷ due) xs = none
 
-  -- `size` nodes were read, and `left` are due after this one: a split's children are those that come next behind all that are due (the reference decoder numbers them size + left + 1 and + 2)
-  abbrev pub read_on : (ℕ → List Symbol → Option (List (Record M))) → ℕ → ℕ → FirstNode → Option (List (Record M))
-  read_on go size left no_node = none
-  read_on go size left (first_split prop val rest) =
-      with_first (rowless_record (split prop val (size + left + 1) (size + left + 2)) no_info) (go (suc (suc left)) rest)
-  read_on go size left (first_leaf pred offset rest) =
-      with_first (rowless_record leaf (record { cost = M.nought; pred = pred; offset = offset })) (go left rest)
+  -- `size` nodes were read, this one lies at `depth`, and those due after it at the depths of `due`
+  -- (the reference decoder numbers a split's children size + to_decode + 1 and + 2)
+  abbrev pub read_on : (List ℕ → List Symbol → Option (List (Record M))) → ℕ → ℕ → List ℕ → FirstNode → Option (List (Record M))
+  read_on go size depth due no_node = none
+  read_on go size depth due (first_split prop val rest) =
+      with_first (rowless_record (split prop val (size + length due + 1) (size + length due + 2)) no_info depth) (go (with_children depth due) rest)
+  read_on go size depth due (first_leaf pred offset rest) =
+      with_first (rowless_record leaf (record { cost = M.nought; pred = pred; offset = offset }) depth) (go due rest)
 
   -- the nodes due, if there are any
-  abbrev pub read_due : (ℕ → List Symbol → Option (List (Record M))) → ℕ → ℕ → List Symbol → Option (List (Record M))
-  read_due go size zero xs = at_end zero xs
-  read_due go size (suc left) xs = read_on go size left (first_node xs)
+  abbrev pub read_due : (List ℕ → List Symbol → Option (List (Record M))) → ℕ → List ℕ → List Symbol → Option (List (Record M))
+  read_due go size [] xs = at_end [] xs
+  read_due go size (depth ∷ due) xs = read_on go size depth due (first_node xs)
 
-  -- `size` nodes were read, `due` are due, and at most `most` may come
-  unfoldable pub nodes_read : ℕ → ℕ → ℕ → List Symbol → Option (List (Record M))
+  -- `size` nodes were read, nodes at these depths are due, and at most `most` nodes may come
+  unfoldable pub nodes_read : ℕ → ℕ → List ℕ → List Symbol → Option (List (Record M))
   nodes_read zero size due xs = at_end due xs
-  nodes_read (suc most) size due xs = read_due (λ (d : ℕ) (rest : List Symbol). nodes_read most (suc size) d rest) size due xs
+  nodes_read (suc most) size due xs = read_due (λ (d : List ℕ) (rest : List Symbol). nodes_read most (suc size) d rest) size due xs
 
-  -- the tree that a list of symbols is, if it is one of at most 8,191 nodes, with nothing left over
+  -- the tree that a list of symbols is, if it is one of at most 8,191 nodes, with nothing left over; its root lies at depth 0
   unfoldable pub tree_read : List Symbol → Option (List (Record M))
-  tree_read xs = nodes_read max_nodes 0 1 xs
+  tree_read xs = nodes_read max_nodes 0 (0 ∷ []) xs

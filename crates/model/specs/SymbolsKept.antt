@@ -1,4 +1,4 @@
--- What writing a tree as symbols and reading symbols keep (document 02, c), said of runs of the operations. Assumes nothing.
+-- What writing a tree as symbols and reading symbols keep (document 02, c and d), said of runs of the operations. Assumes nothing.
 use Rattle.std.specs.Prelude.{◌≡◌, ℕ, ◌≤◌, ◌<◌, List, map, length, get_or, take, replicate, ℤ, pos}
 use Rattle.std.proofs.Math.Option.{none}
 use Rattle.model.specs.Lists.{range, written_over}
@@ -45,17 +45,19 @@ module _ {M : Meter} where
     pub root : number_in count nodes 0 ≡ 0
     pub inside : (i : ℕ) → i < count → number_in count nodes i < count
     pub apart : (i k : ℕ) → i < count → k < count → number_in count nodes i ≡ number_in count nodes k → i ≡ k
-    -- a split is there a split on the same property and value, to the same children, with infinite cost, predictor 0 and offset 0
+    -- a split is there a split on the same property and value, to the same children, with infinite cost, predictor 0 and offset 0, at its depth
     pub splits : (i prop : ℕ) (val : ℤ) (gt le : ℕ) → i < count → (node_in count nodes i).node ≡ split prop val gt le
         → node_in count z (number_in count nodes i) ≡ record {
           node = split prop val (number_in count nodes gt) (number_in count nodes le);
           info = record { cost = M.endless; pred = 0; offset = pos 0 };
+          depth = (node_in count nodes i).depth;
         }
-    -- a leaf is a leaf with the same predictor and offset, and cost 0
+    -- a leaf is a leaf with the same predictor and offset, and cost 0, at its depth
     pub leaves : (i : ℕ) → i < count → (node_in count nodes i).node ≡ leaf
         → node_in count z (number_in count nodes i) ≡ record {
           node = leaf;
           info = record { cost = M.nought; pred = (node_in count nodes i).info.pred; offset = (node_in count nodes i).info.offset };
+          depth = (node_in count nodes i).depth;
         }
     -- a breadth-first walk visits the nodes in the order of their new numbers
     pub in_breadth : breadth_order (nodes_of (tree_in count z)) ≡ range 0 count
@@ -72,7 +74,7 @@ module _ {M : Meter} where
     pub sound : fault_of (tree_in count z) ≡ none
     pub in_breadth : breadth_order (nodes_of (tree_in count z)) ≡ range 0 count
     -- each record is what deepening leaves of a seed's node that no row reaches
-    pub rowless : (i : ℕ) → node_in count z i ≡ rowless_record (node_in count z i).node (node_in count z i).info
+    pub rowless : (i : ℕ) → node_in count z i ≡ rowless_record (node_in count z i).node (node_in count z i).info (node_in count z i).depth
 
 -- ---- of runs
 pub record SymbolsKept (M : Meter) : Type 0 where

@@ -1,9 +1,9 @@
--- Trees: nodes with what stands beside them, lookup, and which node lists are sound (document 01, "Which number comes back", Deepen and Lookup).
+-- Trees: nodes with what stands beside them, lookup, and which node lists are sound (document 01, "Which number comes back", Deepen and Lookup; document 02, d).
 -- Assumes nothing.
 use Rattle.std.specs.Prelude.{ℕ, zero, suc, Bool, true, false, cond, not, ◌&&◌, ◌||◌, List, [], ◌∷◌, ◌++◌, map, length, get_or, ℤ, pos, eqb, ltb}
 use Rattle.std.proofs.Math.Option.{Option, none, some}
 use Rattle.std.specs.Int.Signed.{lt_z}
-use Rattle.model.specs.Lists.{count_if}
+use Rattle.model.specs.Lists.{count_if, all}
 use Rattle.model.specs.Meter.{Meter}
 use Rattle.model.specs.Settings.{props_per_row, toks_per_row, max_nodes}
 
@@ -27,10 +27,11 @@ pub record Info (M : Meter) : Type 0 where
   pub pred : ℕ
   pub offset : ℤ
 
--- an entry of the lent node list
+-- an entry of the lent node list: a node, what stands beside it, and its depth
 pub record Record (M : Meter) : Type 0 where
   pub node : Node
   pub info : Info M
+  pub depth : ℕ
 
 module _ {M : Meter} where
   -- predictor 0, offset 0, cost 0
@@ -39,7 +40,7 @@ module _ {M : Meter} where
 
   -- what a vacated entry holds
   abbrev pub blank_record : Record M
-  blank_record = record { node = leaf; info = no_info }
+  blank_record = record { node = leaf; info = no_info; depth = 0 }
 
   abbrev pub nodes_of : List (Record M) → List Node
   nodes_of = map (λ (r : Record M). r.node)
@@ -81,20 +82,25 @@ has_two_children leaf = true
 abbrev pub has_one_parent : List Node → ℕ → Bool
 has_one_parent nodes i = eqb i 0 || eqb (count_if (has_child i) nodes) 1
 
-abbrev pub is_fine : List Node → ℕ → ℕ → Node → Bool
-is_fine nodes i pred n = is_orderly (length nodes) i pred n && (has_two_children n && has_one_parent nodes i)
-
 module _ {M : Meter} where
-  -- the lowest node from i on that is at fault
-  unfoldable pub fault_from : List Node → ℕ → List (Record M) → Option ℕ
-  fault_from nodes i [] = none
-  fault_from nodes i (r ∷ rs) = let further = fault_from nodes (suc i) rs in cond (is_fine nodes i r.info.pred r.node) further (some i)
+  -- the depth stored at node i: 0 at node 0, else one more than that stored at each split that it is a child of, wherever this stands; a node that is not at fault has one such split
+  abbrev pub has_depth : List (Record M) → ℕ → ℕ → Bool
+  has_depth tree i depth = cond (eqb i 0) (eqb depth 0) (all (λ (r : Record M). not (has_child i r.node) || eqb depth (suc r.depth)) tree)
+
+  abbrev pub is_fine : List (Record M) → ℕ → Record M → Bool
+  is_fine tree i r =
+      is_orderly (length tree) i r.info.pred r.node && (has_two_children r.node && (has_one_parent (nodes_of tree) i && has_depth tree i r.depth))
+
+  -- the lowest node of `tree` from node i on that is at fault
+  unfoldable pub fault_from : List (Record M) → ℕ → List (Record M) → Option ℕ
+  fault_from tree i [] = none
+  fault_from tree i (r ∷ rs) = let further = fault_from tree (suc i) rs in cond (is_fine tree i r) further (some i)
 
   -- none for a sound tree, or the node to name: 0 for a wrong count
   unfoldable pub fault_of : List (Record M) → Option ℕ
-  fault_of rs = cond (eqb (length rs) 0 || ltb max_nodes (length rs)) (some 0) (fault_from (nodes_of rs) 0 rs)
+  fault_of rs = cond (eqb (length rs) 0 || ltb max_nodes (length rs)) (some 0) (fault_from rs 0 rs)
 
-  -- The node to name of those met on the way from node i; none if a leaf is reached and all are in order
+  -- The node to name of those met on the way from node i; none if a leaf is reached and all are in order. Stored depths are not looked at
   unfoldable pub fault_on_way : ℕ → List (Record M) → List ℤ → ℕ → Option ℕ
   fault_on_way zero rs ps i = some i
   fault_on_way (suc fuel) rs ps i =
