@@ -6,7 +6,7 @@ use Rattle.model.specs.Single.{singles}
 use Rattle.model.specs.Tree.{Node, split, leaf}
 use Rattle.model.specs.Lent.{Stored, stored_node}
 use Rattle.model.specs.Grow.{Entry, no_entry}
-use Rattle.layout.specs.Tree.{NodeLists, HasRoom, info_at}
+use Rattle.layout.specs.Tree.{NodeLists, HasRoom, info_at, depth_at}
 use Rattle.layout.specs.Values.{info_is}
 use Rattle.layout.specs.Records.{stored_of, record_of, no_record, gt_at, le_at, span_is, no_span_record}
 use Rattle.layout.specs.declared.MaNode.{MaNode}
@@ -15,18 +15,18 @@ use Rattle.layout.specs.declared.MaNode.{MaNode}
 abbrev pub node_from : Stored singles → Bool → List ℕ → Node
 node_from m kept places = cond kept (split m.prop m.val (get_or places m.gt 0) (get_or places m.le 0)) leaf
 
--- its record: what stands beside it stays
+-- its record: what stands beside it and its depth stay
 abbrev pub record_from : MaNode → Bool → List ℕ → MaNode
-record_from m kept places = record_of (stored_node (node_from (stored_of m) kept places) (info_is m.info))
+record_from m kept places = record_of (stored_node (node_from (stored_of m) kept places) (info_is m.info) m.depth)
 
--- the entry of old number i; the node lists know neither its depth nor what it offers
+-- the entry of old number i; the node lists do not know what it offers
 abbrev pub entry_from : NodeLists → Bool → List ℕ → ℕ → Entry singles
 entry_from x kept places i =
     record {
       node = node_from (stored_of (get_or x.nodes i no_record)) kept places;
       info = info_at x i;
       span = span_is (get_or x.spans i no_span_record);
-      depth = 0;
+      depth = depth_at x i;
       offer = none;
     }
 

@@ -20,13 +20,14 @@ pub struct NewOrder<'a> {
     pub places: &'a [u32],
 }
 
-// The node for its new place: a split that is kept, with its children's new numbers; or else a leaf.
+// The node for its new place: a split that is kept, with its children's new numbers; or else a leaf. It stays as deep
+// as it was, since all splits above it are kept.
 fn renumbered(node: MaNode, kept: bool, places: &[u32]) -> MaNode
     requires { kept ≡ true → (node.gt < length places.now) × (node.le < length places.now) }
     ensures { result ≡ record_from node kept places.now }
 {
     if !kept {
-        return MaNode::leaf(node.info);
+        return MaNode::leaf(node.info, node.depth);
     }
     MaNode {
         kind: 1,
@@ -73,7 +74,7 @@ pub fn move_nodes(at: &mut Nodes, new_order: NewOrder)
         new_order.entry.splits.now new_order.entry.places.now new_order.entry.order.now)
         (lists_in at.old) }
 {
-    let blank = MaNode::leaf(NodeInfo::default());
+    let blank = MaNode::leaf(NodeInfo::default(), 0);
     let count = new_order.splits.len();
     let mut nodes = [blank; layout::MAX_NODES];
     let mut spans = [Span::default(); layout::MAX_NODES];

@@ -97,13 +97,13 @@ pub holding-none : (lent : NodeLists) → holding [] lent ≡ lent
 unfolding holding
 holding-none lent = refl
 
--- ---- entries that leave the same records: their depths and what they offer may differ
+-- ---- entries that leave the same records: what they offer may differ
 pub record SameCells (e d : Entry singles) : Type 0 where
   pub node : entry_record e ≡ entry_record d
   pub span : entry_span e ≡ entry_span d
 
-pub same-cells : (e d : Entry singles) → e.node ≡ d.node → e.info ≡ d.info → e.span ≡ d.span → SameCells e d
-same-cells e d n i s = record { node = rw (n, i); span = rw s }
+pub same-cells : (e d : Entry singles) → e.node ≡ d.node → e.info ≡ d.info → e.span ≡ d.span → e.depth ≡ d.depth → SameCells e d
+same-cells e d n i s p = record { node = rw (n, i, p); span = rw s }
 
 pub holding-same : (t u : List (Entry singles)) (lent : NodeLists) → length t ≡ length u
     → ((i : ℕ) → i < length t → SameCells (get_or t i no_entry) (get_or u i no_entry))
@@ -116,9 +116,14 @@ unfolding put
 put_same i e d x s = rw (s.node, s.span)
 
 -- what stands beside a stored node
-pub stored_info : (n : Node) (i : Info singles) → (stored_node n i).info ≡ i
-stored_info (split prop val gt le) i = refl
-stored_info leaf i = refl
+pub stored_info : (n : Node) (i : Info singles) (depth : ℕ) → (stored_node n i depth).info ≡ i
+stored_info (split prop val gt le) i depth = refl
+stored_info leaf i depth = refl
+
+-- and its depth
+pub stored_depth : (n : Node) (i : Info singles) (depth : ℕ) → (stored_node n i depth).depth ≡ depth
+stored_depth (split prop val gt le) i depth = refl
+stored_depth leaf i depth = refl
 
 -- ---- one entry more, one made a split, one read
 module _ (tree : List (Entry singles)) (lent : NodeLists) where
@@ -135,7 +140,10 @@ module _ (tree : List (Entry singles)) (lent : NodeLists) where
     held_node = written_read entry_record tree i no_entry no_record lent.nodes lt
 
     pub held_info : (get_or (holding tree lent).nodes i no_record).info ≡ info_of (get_or tree i no_entry).info
-    held_info = let e : Entry singles = get_or tree i no_entry in ap (λ (m : MaNode). m.info) held_node ∙ ap info_of (stored_info e.node e.info)
+    held_info = let e : Entry singles = get_or tree i no_entry in ap (λ (m : MaNode). m.info) held_node ∙ ap info_of (stored_info e.node e.info e.depth)
+
+    pub held_depth : (get_or (holding tree lent).nodes i no_record).depth ≡ (get_or tree i no_entry).depth
+    held_depth = let e : Entry singles = get_or tree i no_entry in ap (λ (m : MaNode). m.depth) held_node ∙ stored_depth e.node e.info e.depth
 
     pub held_span : get_or (holding tree lent).spans i no_span_record ≡ entry_span (get_or tree i no_entry)
     unfolding holding
@@ -147,7 +155,7 @@ module _ (tree : List (Entry singles)) (lent : NodeLists) where
     put-split o n =
         let d : Entry singles = become_split (get_or tree i no_entry) o n in
         let base : NodeLists = holding tree lent in
-        let record_is : split_record o.prop o.val n (get_or base.nodes i no_record).info ≡ entry_record d = rw (held_info, add-one) in
+        let record_is : split_record o.prop o.val n (get_or base.nodes i no_record) ≡ entry_record d = rw (held_info, held_depth, add-one) in
         let nodes = written_set entry_record tree i d lent.nodes lt in
         let spans : map entry_span (set tree i d) ≡ map entry_span tree = map-set_same entry_span tree i d no_entry refl in
         ap (λ (r : MaNode). node_lists (set base.nodes i r) base.spans) record_is ∙ rw (nodes, spans)

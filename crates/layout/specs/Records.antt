@@ -12,25 +12,25 @@ use Rattle.layout.specs.declared.MaNode.{MaNode}
 use Rattle.layout.specs.declared.Span.{Span}
 
 abbrev pub stored_of : MaNode → Stored singles
-stored_of m = record { kind = m.kind; prop = m.prop; val = m.val; gt = m.gt; le = m.le; info = info_is m.info }
+stored_of m = record { kind = m.kind; prop = m.prop; val = m.val; gt = m.gt; le = m.le; info = info_is m.info; depth = m.depth }
 
 abbrev pub info_of : Info singles → NodeInfo
 info_of i = record { cost = i.cost; pred = i.pred; offset = i.offset }
 
 abbrev pub record_of : Stored singles → MaNode
-record_of e = record { kind = e.kind; prop = e.prop; val = e.val; gt = e.gt; le = e.le; info = info_of e.info }
+record_of e = record { kind = e.kind; prop = e.prop; val = e.val; gt = e.gt; le = e.le; info = info_of e.info; depth = e.depth }
 
 -- the node that a record is
 abbrev pub node_is : MaNode → Node
 node_is m = cond (eqb m.kind 1) (split m.prop m.val m.gt m.le) leaf
 
 -- a leaf as a record
-abbrev pub leaf_record : NodeInfo → MaNode
-leaf_record i = record_of (stored_node leaf (info_is i))
+abbrev pub leaf_record : NodeInfo → ℕ → MaNode
+leaf_record i depth = record_of (stored_node leaf (info_is i) depth)
 
 -- a record to name where a list has none
 abbrev pub no_record : MaNode
-no_record = record { kind = 0; prop = 0; val = pos 0; gt = 0; le = 0; info = record { cost = nan; pred = 0; offset = pos 0 } }
+no_record = record { kind = 0; prop = 0; val = pos 0; gt = 0; le = 0; info = record { cost = nan; pred = 0; offset = pos 0 }; depth = 0 }
 
 -- node i of a list
 abbrev pub node_at : List MaNode → ℕ → Node

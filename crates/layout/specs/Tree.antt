@@ -1,5 +1,4 @@
--- How a node list and its spans hold a tree that grows: a record and a span a node, written over what was lent. What a leaf offers and its depth stand in the
--- queue alone. Assumes nothing.
+-- How a node list and its spans hold a tree that grows: a record and a span a node, written over what was lent. What a leaf offers stands in the queue alone. Assumes nothing.
 use Rattle.std.specs.Prelude.{ℕ, ◌+◌, ◌≤◌, List, map, length, get_or, set, ℤ}
 use Rattle.std.proofs.Math.Option.{none}
 use Rattle.model.specs.Lists.{written_over}
@@ -24,7 +23,7 @@ node_lists nodes spans = record { nodes = nodes; spans = spans }
 
 -- an entry's record, and its span
 abbrev pub entry_record : Entry singles → MaNode
-entry_record e = record_of (stored_node e.node e.info)
+entry_record e = record_of (stored_node e.node e.info e.depth)
 
 abbrev pub entry_span : Entry singles → Span
 entry_span e = span_record e.span
@@ -46,17 +45,21 @@ put i e x = node_lists (set x.nodes i (entry_record e)) (set x.spans i (entry_sp
 abbrev pub info_at : NodeLists → ℕ → Info singles
 info_at x i = info_is (get_or x.nodes i no_record).info
 
--- a leaf as the node lists have it: what stands beside it and its span
-abbrev pub leaf_beside : {M : Meter} → Info M → ℕ → ℕ → Entry M
-leaf_beside i first end = record { node = leaf; info = i; span = record { first = first; end = end }; depth = 0; offer = none }
+-- the depth that it stores
+abbrev pub depth_at : NodeLists → ℕ → ℕ
+depth_at x i = (get_or x.nodes i no_record).depth
 
-abbrev pub leaf_with : NodeInfo → ℕ → ℕ → Entry singles
-leaf_with i first end = leaf_beside (info_is i) first end
+-- a leaf as the node lists have it: what stands beside it, its span and its depth
+abbrev pub leaf_beside : {M : Meter} → Info M → ℕ → ℕ → ℕ → Entry M
+leaf_beside i first end depth = record { node = leaf; info = i; span = record { first = first; end = end }; depth = depth; offer = none }
 
--- a split's record, whose children stand side by side, gt first
-abbrev pub split_record : ℕ → ℤ → ℕ → NodeInfo → MaNode
-split_record prop val gt info = record { kind = 1; prop = prop; val = val; gt = gt; le = gt + 1; info = info }
+abbrev pub leaf_with : NodeInfo → ℕ → ℕ → ℕ → Entry singles
+leaf_with i first end depth = leaf_beside (info_is i) first end depth
 
--- the lists with node i made a split: what stands beside it and its span stay
+-- a split's record, whose children stand side by side, gt first; what stands beside it and its depth are those of the node that it was
+abbrev pub split_record : ℕ → ℤ → ℕ → MaNode → MaNode
+split_record prop val gt was = record { kind = 1; prop = prop; val = val; gt = gt; le = gt + 1; info = was.info; depth = was.depth }
+
+-- the lists with node i made a split: what stands beside it, its depth and its span stay
 abbrev pub put_split : ℕ → ℕ → ℤ → ℕ → NodeLists → NodeLists
-put_split i prop val gt x = node_lists (set x.nodes i (split_record prop val gt (get_or x.nodes i no_record).info)) x.spans
+put_split i prop val gt x = node_lists (set x.nodes i (split_record prop val gt (get_or x.nodes i no_record))) x.spans

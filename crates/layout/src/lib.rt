@@ -7,7 +7,7 @@ ghost use Rattle.std.specs.Prelude.{◌≡◌, ◌+◌, ◌/◌, ◌≤◌, ◌<
 ghost use Rattle.model.specs.Settings.{max_nodes};
 ghost use Rattle.model.specs.Deepen.{rowless};
 ghost use Rattle.layout.specs.Records.{node_is, node_at, leaf_record};
-ghost use Rattle.layout.specs.Tree.{HasRoom, put, info_at, leaf_with, put_split, entry_record};
+ghost use Rattle.layout.specs.Tree.{HasRoom, put, info_at, depth_at, leaf_with, put_split, entry_record};
 ghost use Rattle.layout.specs.Values.{info_is};
 ghost use Rattle.layout.specs.Lent.{lists_in, SameNodesLent};
 
@@ -29,8 +29,8 @@ pub struct NodeInfo {
 }
 
 // A node as a caller holds it: its kind, 1 for a split and any other number for a leaf; a split's property, threshold
-// and children, for which a leaf has no use; and beside every node its cost, predictor and offset. Eight numbers of 32
-// bits with nothing between them, and each may hold any bits.
+// and children, for which a leaf has no use; and beside every node its cost, predictor and offset, and its depth, which
+// is how many splits stand above it. Nine numbers of 32 bits with nothing between them, and each may hold any bits.
 // Stays: `kind` is a number and no enum with data, since the C interface lends the record, and a lent one may hold any.
 #[repr(C)]
 #[derive(Clone, Copy)]
@@ -41,12 +41,13 @@ pub struct MaNode {
     pub gt: u32,
     pub le: u32,
     pub info: NodeInfo,
+    pub depth: u32,
 }
 
 impl MaNode {
     // A leaf: fields that it has no use for hold 0.
-    pub fn leaf(info: NodeInfo) -> MaNode
-        ensures { result ≡ leaf_record info }
+    pub fn leaf(info: NodeInfo, depth: u32) -> MaNode
+        ensures { result ≡ leaf_record info depth }
     {
         MaNode {
             kind: 0,
@@ -55,20 +56,23 @@ impl MaNode {
             gt: 0,
             le: 0,
             info,
+            depth,
         }
     }
 
     // A seed's node that stays without rows: a split keeps its fields, costs without end, and has predictor and offset
-    // 0; a leaf keeps its predictor and offset and costs nothing.
+    // 0; a leaf keeps its predictor and offset and costs nothing. Its depth stays.
     pub fn kept(&self) -> MaNode
-        ensures { result ≡ entry_record (rowless (node_is self.now) (info_is self.now.info) 0) }
+        ensures { result
+            ≡ entry_record (rowless (node_is self.now) (info_is self.now.info) self.now.depth) }
     {
         let node = *self;
         if !node.is_split() {
-            return MaNode::leaf(NodeInfo {
+            let info = NodeInfo {
                 cost: 0.0,
                 ..node.info
-            });
+            };
+            return MaNode::leaf(info, node.depth);
         }
         let info = NodeInfo {
             cost: f32::INFINITY,
@@ -138,31 +142,31 @@ pub struct Nodes<'a> {
 
 impl<'a> Nodes<'a> {
     #[tactic(auto, unfolding(crate::specs::Tree::put))]
-    // Node i is a leaf over a span of rows.
-    pub fn put_leaf(&mut self, i: usize, info: NodeInfo, span: Span)
+    // Node i is a leaf over a span of rows, at a depth.
+    pub fn put_leaf(&mut self, i: usize, info: NodeInfo, span: Span, depth: u32)
         requires { HasRoom (i + 1) (lists_in self.old) }
         ensures lent { SameNodesLent self.old self.new }
         ensures lists { lists_in self.new
-            ≡ put i (leaf_with info span.first span.end) (lists_in self.old) }
+            ≡ put i (leaf_with info span.first span.end depth) (lists_in self.old) }
     {
-        self.nodes[i] = MaNode::leaf(info);
+        self.nodes[i] = MaNode::leaf(info, depth);
         self.spans[i] = span;
     }
 
-    // Node i becomes a split over the nodes gt and gt + 1. Its predictor, its offset, its cost and its span stay.
+    // Node i becomes a split over the nodes gt and gt + 1. What stands beside it, its depth and its span stay.
     pub fn put_split(&mut self, i: usize, prop: u32, val: i32, gt: u32)
         requires { (i < length self.old.nodes.now) × (gt < max_nodes) }
         ensures lent { SameNodesLent self.old self.new }
         ensures lists { lists_in self.new ≡ put_split i prop val gt (lists_in self.old) }
     {
-        let info = self.nodes[i].info;
+        let node = self.nodes[i];
         self.nodes[i] = MaNode {
             kind: 1,
             prop,
             val,
             gt,
             le: gt + 1,
-            info,
+            ..node
         };
     }
 
@@ -173,7 +177,7 @@ impl<'a> Nodes<'a> {
         ensures lent { SameNodesLent self.old self.new }
         ensures lists { lists_in self.new
             ≡ put i (rowless (node_at self.old.nodes.now i)
-            (info_at (lists_in self.old) i) 0) (lists_in self.old) }
+            (info_at (lists_in self.old) i) (depth_at (lists_in self.old) i)) (lists_in self.old) }
     {
         self.nodes[i] = self.nodes[i].kept();
         self.spans[i] = Span::default();

@@ -51,7 +51,7 @@ fn is_grown(r: Result<Learned, Refusal>, nodes: u32, leaves: u32, bits: f64, fla
 
 // A node before anything is learned.
 fn blank() -> MaNode {
-    MaNode::leaf(NodeInfo::default())
+    MaNode::leaf(NodeInfo::default(), 0)
 }
 
 // Learns into these nodes, with a queue for so many leaves: each has four words in it. No list is longer than the

@@ -20,7 +20,7 @@ use Rattle.model.proofs.Folding.{Folded, folds, length-pruned}
 use Rattle.model.proofs.Pruned.{closed, length-kept, entry_kept, order-short, old-number}
 use Rattle.model.specs.Lent.{stored_node}
 use Rattle.layout.specs.Records.{record_of, stored_of, no_record, no_span_record, span_is, kind_at, gt_at, le_at}
-use Rattle.layout.specs.Tree.{NodeLists, holding, HasRoom, entry_record, entry_span, info_at}
+use Rattle.layout.specs.Tree.{NodeLists, holding, HasRoom, entry_record, entry_span, info_at, depth_at}
 use Rattle.layout.specs.Values.{info_is}
 use Rattle.layout.specs.declared.MaNode.{MaNode}
 use Rattle.preorder.specs.Order.{ShownAs, ShowsNodes, Walkable, Ordered}
@@ -28,7 +28,7 @@ use Rattle.compact.specs.Moves.{node_from, entry_from, entries_from, compacted, 
 use Rattle.compact.proofs.Moving.{length-entries, entry-at}
 use Rattle.prune.specs.Prices.{AllPriceable, ShowsTree, PricedAs}
 use Rattle.prune.specs.Held.{HoldsTree, pruned_entries}
-use Rattle.layout.proofs.Held.{SameCells, same-cells, room-same, holding-lengths, held_node, held_span, stored_info}
+use Rattle.layout.proofs.Held.{SameCells, same-cells, room-same, holding-lengths, held_node, held_span, stored_info, stored_depth}
 use Rattle.prune.proofs.Held.{held-again, held_same}
 
 module _ {x : NodeLists} {count : ℕ} {price : Float} {tree : List (Entry singles)} {lent : NodeLists} (h : HoldsTree x count price tree lent) where
@@ -58,8 +58,8 @@ module _ {x : NodeLists} {count : ℕ} {price : Float} {tree : List (Entry singl
   front-at i a = get_or-take count x.nodes i no_record a
 
   -- the record of node i, by what it is
-  record_as : (i : ℕ) → i < count → (m : Node) → (entry i).node ≡ m → get_or x.nodes i no_record ≡ record_of (stored_node m (entry i).info)
-  record_as i a m z = node i a ∙ ap (λ (n : Node). record_of (stored_node n (entry i).info)) z
+  record_as : (i : ℕ) → i < count → (m : Node) → (entry i).node ≡ m → get_or x.nodes i no_record ≡ record_of (stored_node m (entry i).info (entry i).depth)
+  record_as i a m z = node i a ∙ ap (λ (n : Node). record_of (stored_node n (entry i).info (entry i).depth)) z
 
   node-is : (i : ℕ) → get_or (tree_nodes tree) i leaf ≡ (entry i).node
   node-is i = get_or-map (λ (e : Entry singles). e.node) tree i no_entry
@@ -217,10 +217,13 @@ module _ {x : NodeLists} {count : ℕ} {price : Float} {tree : List (Entry singl
         -- the entry that is moved leaves the same record and span
         pub new-entry : SameCells (entry_from x (get_or splits i false) places i) (get_or new q no_entry)
         unfolding moved
-        new-entry = rw (entry_new q a, split_is i in_count) (same-cells _ _ (go (get_or pn i leaf) refl) info rows)
+        new-entry = rw (entry_new q a, split_is i in_count) (same-cells _ _ (go (get_or pn i leaf) refl) info rows depth)
           where
             info : info_at x i ≡ (entry i).info
-            info = ap (λ (r : MaNode). info_is r.info) (node i in_count) ∙ stored_info (entry i).node (entry i).info
+            info = ap (λ (r : MaNode). info_is r.info) (node i in_count) ∙ stored_info (entry i).node (entry i).info (entry i).depth
+
+            depth : depth_at x i ≡ (entry i).depth
+            depth = ap (λ (r : MaNode). r.depth) (node i in_count) ∙ stored_depth (entry i).node (entry i).info (entry i).depth
 
             rows : record { first = (get_or x.spans i no_span_record).first; end = (get_or x.spans i no_span_record).end } ≡ (entry i).span
             rows = ap span_is (rows_of i in_count)
@@ -247,7 +250,7 @@ module _ {x : NodeLists} {count : ℕ} {price : Float} {tree : List (Entry singl
     some = omega (arith, h.some, long);
     few = omega (arith, h.few, long);
     splits_there = omega (arith, long);
-    numbers = λ i a. let b : i < count = omega (arith, long) in rw (front-at i b, node i b, stored_info (entry i).node (entry i).info) (h.numbers i b);
+    numbers = λ i a. let b : i < count = omega (arith, long) in rw (front-at i b, node i b, stored_info (entry i).node (entry i).info (entry i).depth) (h.numbers i b);
     price_number = h.price_number;
     children = λ i a is. let b : i < count = omega (arith, long) in let f = forward i b (rw (kind_at, front-at i b) at is) in rw (gt_at, le_at, front-at i b, long) (f.2, f.3);
   }

@@ -55,8 +55,8 @@ module _ (price : Float) (tree : List (Entry singles)) where
       abbrev m : MaNode
       m = get_or nodes i no_record
 
-      record-is : (n : Node) → e.node ≡ n → m ≡ record_of (stored_node n e.info)
-      record-is n z = shows.nodes_are i h ∙ ap (λ (n : Node). record_of (stored_node n e.info)) z
+      record-is : (n : Node) → e.node ≡ n → m ≡ record_of (stored_node n e.info e.depth)
+      record-is n z = shows.nodes_are i h ∙ ap (λ (n : Node). record_of (stored_node n e.info e.depth)) z
 
       whole : price_at i ≡ priced_before price i e e.node (drop (suc i) (priced_from {M = singles} price 0 tree))
       whole = rw zero-add at (price-of {M = singles} price 0 tree i (omega (arith, shows.many)))
