@@ -64,7 +64,7 @@ module _ (ns : List MaNode) (count : ℕ) (held : count ≤ length ns) where
 
   record_at_lem : (i : ℕ) → i < count → get_or tree i blank_record ≡ record_in (stored_of (get_or ns i no_record))
   record_at_lem i h =
-      let blank : Stored singles = stored_node leaf no_info in
+      let blank : Stored singles = stored_node leaf no_info 0 in
       let long = length-map ns stored_of in
       get_or-map record_in (take count (map stored_of ns)) i blank
       ∙ ap record_in (get_or-take count (map stored_of ns) i blank h ∙ get_d_any (map stored_of ns) i blank (stored_of no_record) (omega arith) ∙ get_or-map stored_of ns i no_record)

@@ -1,7 +1,6 @@
 -- What the records of a sound tree say, and when the first nodes of a list are one. Assumes nothing.
 use mathlib.Core.Path.{◌≡◌, refl}
 use Prim.Native.Nat.{ℕ, ◌≤◌, ◌<◌}
-use native.Mathlib.Omega.{arith}
 use mathlib.Core.Bool.{Bool, true, false, cond}
 use mathlib.Core.List.{List, map}
 use mathlib.Core.Option.{none, some}
@@ -18,7 +17,7 @@ use Rattle.model.specs.Family.{Forward}
 use Rattle.model.proofs.Sound as model
 use Rattle.layout.specs.Records.{stored_of, no_record}
 use Rattle.layout.specs.declared.MaNode.{MaNode}
-use Rattle.tree.specs.Trees.{records_in, IsSound, AtMost, Deepens}
+use Rattle.tree.specs.Trees.{records_in, IsSound}
 use Rattle.tree.proofs.Entries.{records-length, record_at_lem, nodes-length, node_at_lem, tree-is}
 
 module _ (t : List MaNode) (is : IsSound t) where
@@ -35,17 +34,6 @@ module _ (t : List MaNode) (is : IsSound t) where
       let among : i < length (nodes_of (records_in t)) = rw (nodes-length t) h in
       let prop = rw (record_at_lem t i blank_record h, k) at (all_sound.fits i inside) in
       (ltb→lt (get_or t i no_record).prop props_per_row prop, rw (nodes-length t, node_at_lem t i h, k) at (all_sound.rooted.family.forward i among))
-
-  -- a node's depth may be written, and its children's
-  pub deepens : (i : ℕ) (out : List ℕ) → length out ≡ length t → AtMost i out → i < length t → Deepens (get_or t i no_record) i out
-  deepens i out long low inside =
-      let many = some_nodes.1 in
-      let place : i < length out = omega arith in
-      record {
-        place = place;
-        shallow = omega (arith, low i place);
-        children = λ is. let fits = (node_fits i inside is).1 in (omega arith, omega arith);
-      }
 
 -- ---- the tree of the first nodes: no fault is named, so the list has them, and they are sound
 pub no_fault_named : (nodes : List MaNode) (count : ℕ) → fault_in count (map stored_of nodes) ≡ none → (count ≤ length nodes) × IsSound (take count nodes)

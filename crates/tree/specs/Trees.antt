@@ -1,22 +1,23 @@
 -- Trees as lists of records: what the functions on them ask for. Assumes nothing.
-use Rattle.std.specs.Prelude.{ℕ, ◌+◌, ◌*◌, ◌≤◌, ◌<◌, ◌≡◌, Bool, true, ◌&&◌, ◌||◌, List, map, length, get_or, set, ℤ, eqb}
+use Rattle.std.specs.Prelude.{ℕ, suc, ◌+◌, ◌*◌, ◌≤◌, ◌<◌, ◌≡◌, Bool, true, cond, not, ◌&&◌, List, map, length, get_or, ℤ, eqb}
 use Rattle.std.proofs.Math.Option.{none}
 use Rattle.model.specs.Lists.{count_if}
 use Rattle.model.specs.Settings.{props_per_row, max_nodes}
 use Rattle.model.specs.Rows.{Row}
 use Rattle.model.specs.Single.{singles}
-use Rattle.model.specs.Tree.{Node, split, leaf, Record, nodes_of, leaf_reached, is_orderly, has_child, has_two_children, fault_of}
+use Rattle.model.specs.Tree.{Record, nodes_of, leaf_reached, is_orderly, has_child, has_two_children, fault_of}
 use Rattle.model.specs.Lent.{record_in}
-use Rattle.layout.specs.Records.{stored_of, node_is}
+use Rattle.layout.specs.Records.{stored_of, node_is, no_record}
 use Rattle.layout.specs.declared.MaNode.{MaNode}
 
--- what is read of a list of records: a node each, and what stands beside it
+-- what is read of a list of records: a node each, what stands beside it, and its depth
 abbrev pub records_in : List MaNode → List (Record singles)
 records_in tree = map (λ (m : MaNode). record_in (stored_of m)) tree
 
--- node i, the child of so many splits, is not at fault
+-- node i, with such a count of its parents, is not at fault
 abbrev pub is_fine_in : ℕ → ℕ → ℕ → MaNode → Bool
-is_fine_in count i parents m = is_orderly count i m.info.pred (node_is m) && (has_two_children (node_is m) && (eqb i 0 || eqb parents 1))
+is_fine_in count i parents m =
+    is_orderly count i m.info.pred (node_is m) && (has_two_children (node_is m) && cond (eqb i 0) (eqb m.depth 0) (eqb parents 1))
 
 -- the records are a sound tree (document 01, 8 of deepening)
 abbrev pub IsSound : List MaNode → Type 0
@@ -42,29 +43,28 @@ pub record AllRoutable (tree : List MaNode) (props : List ℤ) (number : List �
 abbrev pub AtMost : ℕ → List ℕ → Type 0
 AtMost most l = (k : ℕ) → k < length l → get_or l k 0 ≤ most
 
--- of how many of these nodes each place is a child
-abbrev pub CountsParents : List MaNode → List ℕ → Type 0
-CountsParents tree parents = (k : ℕ) → k < length parents → get_or parents k 0 ≡ count_if (has_child k) (map node_is tree)
+-- At one pass. Node i was passed: it is in order, and has two children of its own, since neither was due before. They are due one deeper than it
+pub record Passed (m : MaNode) (i : ℕ) (old new : List ℕ) : Type 0 where
+  pub orderly : is_orderly (length old) i m.info.pred (node_is m) ≡ true
+  pub two : has_two_children (node_is m) ≡ true
+  pub own : (k : ℕ) → has_child k (node_is m) ≡ true → get_or old k 0 ≡ 0
+  pub lower : (k : ℕ) → k < length old → get_or new k 0 ≡ cond (has_child k (node_is m)) (get_or old i 0 + 1) (get_or old k 0)
 
--- of how many splits each node is a child was counted
+-- By counts. What a parent of node k counts: 1 if the node lies one deeper than it, else 2
+abbrev pub weight : List MaNode → ℕ → MaNode → ℕ
+weight tree k m = cond (eqb (get_or tree k no_record).depth (suc m.depth)) 1 2
+
+-- node k is a child of this node, and doesn't lie one deeper
+abbrev pub is_misplaced : List MaNode → ℕ → MaNode → Bool
+is_misplaced tree k m = has_child k (node_is m) && not (eqb (get_or tree k no_record).depth (suc m.depth))
+
+-- how many of these nodes each place is a child of, and once more those that it doesn't lie one deeper than
+abbrev pub CountsParents : List MaNode → List MaNode → List ℕ → Type 0
+CountsParents tree passed parents = (k : ℕ) → k < length parents
+    → get_or parents k 0 ≡ count_if (λ (m : MaNode). has_child k (node_is m)) passed + count_if (is_misplaced tree k) passed
+
+-- the parents of each node were counted, each by its weight
 pub record Counted (tree : List MaNode) (parents : List ℕ) : Type 0 where
   pub few : length tree ≤ max_nodes
   pub places : length parents ≡ length tree
-  pub counts : CountsParents tree parents
-
--- ---- depths
--- the children of split i lie one deeper than it
-abbrev pub deeper : Node → ℕ → List ℕ → List ℕ
-deeper (split prop val gt le) i depths = set (set depths gt (get_or depths i 0 + 1)) le (get_or depths i 0 + 1)
-deeper leaf i depths = depths
-
--- the places of the node's depth and of its children's are there
-pub record Deepens (m : MaNode) (i : ℕ) (depths : List ℕ) : Type 0 where
-  pub place : i < length depths
-  pub shallow : get_or depths i 0 < max_nodes
-  pub children : eqb m.kind 1 ≡ true → (m.gt < length depths) × (m.le < length depths)
-
--- a sound tree, and a place for the depth of each of its nodes
-pub record Measurable (tree : List MaNode) (depths : List ℕ) : Type 0 where
-  pub sound : IsSound tree
-  pub places : length depths ≡ length tree
+  pub counts : CountsParents tree tree parents
