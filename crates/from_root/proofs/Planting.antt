@@ -84,14 +84,14 @@ module _ {job : Job} {counts : List ℕ} {x : Flat} {n : NodeLists} {q : QueueLi
     rows_are = m.changed.rows ∙ rw (mine, drop_of_length-le given {i = rows} (omega (arith, counted))) (append-nil (fresh (uses_of job.settings x) given))
 
     -- ---- the lists afterwards
-    nodes_are : put 0 (leaf_with r.info 0 rows) n ≡ holding root.tree n
+    nodes_are : put 0 (leaf_with r.info 0 rows 0) n ≡ holding root.tree n
     unfolding root_state leaf_over
     nodes_are =
-        let e : Entry singles = leaf_with r.info 0 rows in
+        let e : Entry singles = leaf_with r.info 0 rows 0 in
         let room : HasRoom (0 + 1) n = room-fewer p.room (omega (arith, p.fitting.settings.limit.0)) in
         ap (put 0 e) (sym (holding-none n)) ∙ put-more [] n e room
         ∙ holding-same (e ∷ []) root.tree n refl
-        (λ i h. elim i as (λ k. SameCells (get_or (e ∷ []) k no_entry) (get_or root.tree k no_entry)) [ zero ↦ same-cells e (get_or root.tree 0 no_entry) refl info-is (ap (span 0) counted) | suc k ↦ same-cells no_entry no_entry refl refl refl ])
+        (λ i h. elim i as (λ k. SameCells (get_or (e ∷ []) k no_entry) (get_or root.tree k no_entry)) [ zero ↦ same-cells e (get_or root.tree 0 no_entry) refl info-is (ap (span 0) counted) refl | suc k ↦ same-cells no_entry no_entry refl refl refl refl ])
 
     offer-is : scored ≡ true → offer_is r.offer ≡ j.offered 0 (j.info (span_mode (uses_of job.settings x) given) (fresh (uses_of job.settings x) given)).cost (fresh (uses_of job.settings x) given)
     offer-is e = rw (mine, e) at m.leaf.offer
@@ -99,7 +99,7 @@ module _ {job : Job} {counts : List ℕ} {x : Flat} {n : NodeLists} {q : QueueLi
     pub planted : (q' : Queue) (bits : Float) → SameQueue q (queue_in q') → Queued q'.waiting (queue_in q') ([] ++ waits 0 0 (offer_is r.offer))
         → q'.waiting ≡ 0 + length (waits 0 0 (offer_is r.offer))
         → bits ≡ r.info.cost → (counts' : List ℕ) → counts' ≡ counts
-        → Grows job (work counts' y (put 0 (leaf_with r.info 0 rows) n) q') (record { nodes = 1; bits = bits }) (job.settings.max_leaves - 1) n root no_seeds given
+        → Grows job (work counts' y (put 0 (leaf_with r.info 0 rows 0) n) q') (record { nodes = 1; bits = bits }) (job.settings.max_leaves - 1) n root no_seeds given
     unfolding root_state leaf_over waiting_from
     planted q' bits same queued many cost counts' counts-are =
         let limit = p.fitting.settings.limit in

@@ -49,7 +49,7 @@ fn plant_root(lists: &mut Lists, job: Job) -> Tree
         0,
         1 < job.settings.max_leaves,
     );
-    lists.at.put_leaf(0, root.info, all);
+    lists.at.put_leaf(0, root.info, all, 0);
     lists.queue.waiting = 0;
     lists.queue.enqueue(0, 0, root.offer);
     Tree {

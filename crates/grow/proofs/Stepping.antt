@@ -238,13 +238,13 @@ module _ {job : Job} {counts : List ℕ} {x : Flat} {lists : NodeLists} {q : Que
         ∙ ap (λ (i : Info singles). grown_bits singles st.bits gt.info.cost i.cost e.info.cost) le-info
 
     -- ---- the nodes
-    gt-cells : SameCells (side_entry r.gt) gt
+    gt-cells : SameCells (side_entry r.gt r.depth) gt
     unfolding gt_leaf leaf_over gt_span
-    gt-cells = same-cells (side_entry r.gt) gt refl gt-info gt-span
+    gt-cells = same-cells (side_entry r.gt r.depth) gt refl gt-info gt-span (cut.depth_is ∙ same-depth)
 
-    le_cells : SameCells (side_entry r.le) le
+    le_cells : SameCells (side_entry r.le r.depth) le
     unfolding le_leaf leaf_over le_span
-    le_cells = same-cells (side_entry r.le) le refl le-info le-span
+    le_cells = same-cells (side_entry r.le r.depth) le refl le-info le-span (cut.depth_is ∙ same-depth)
 
     next-nodes : split_nodes i o.prop o.val tree.nodes r lists ≡ holding next.tree lent
     unfolding split_nodes split_at
@@ -255,17 +255,17 @@ module _ {job : Job} {counts : List ℕ} {x : Flat} {lists : NodeLists} {q : Que
         let size' : length (t ++ (gt ∷ [])) ≡ n + 1 = length-append t (gt ∷ []) ∙ ap (λ (m : ℕ). m + 1) size in
         let split : put_split i o.prop o.val n lists ≡ holding t lent =
         ap (put_split i o.prop o.val n) g.nodes ∙ put-split st.tree lent i standing.within o n in
-        let first : put n (side_entry r.gt) (put_split i o.prop o.val n lists) ≡ holding (t ++ (gt ∷ [])) lent =
-        ap (put n (side_entry r.gt)) split
-        ∙ put_same n (side_entry r.gt) gt (holding t lent) gt-cells
+        let first : put n (side_entry r.gt r.depth) (put_split i o.prop o.val n lists) ≡ holding (t ++ (gt ∷ [])) lent =
+        ap (put n (side_entry r.gt r.depth)) split
+        ∙ put_same n (side_entry r.gt r.depth) gt (holding t lent) gt-cells
         ∙ ap (λ (m : ℕ). put m gt (holding t lent)) (sym size)
         ∙ put-more t lent gt (room-fewer g.room (omega arith)) in
-        let second : put (n + 1) (side_entry r.le) (holding (t ++ (gt ∷ [])) lent) ≡ holding ((t ++ (gt ∷ [])) ++ (le ∷ [])) lent =
-        put_same (n + 1) (side_entry r.le) le (holding (t ++ (gt ∷ [])) lent) le_cells
+        let second : put (n + 1) (side_entry r.le r.depth) (holding (t ++ (gt ∷ [])) lent) ≡ holding ((t ++ (gt ∷ [])) ++ (le ∷ [])) lent =
+        put_same (n + 1) (side_entry r.le r.depth) le (holding (t ++ (gt ∷ [])) lent) le_cells
         ∙ ap (λ (m : ℕ). put m le (holding (t ++ (gt ∷ [])) lent)) (sym size')
         ∙ put-more (t ++ (gt ∷ [])) lent le (room-fewer g.room (omega arith)) in
         ap (λ (m : ℕ). split_nodes i o.prop o.val m r lists) c
-        ∙ ap (put (n + 1) (side_entry r.le)) first
+        ∙ ap (put (n + 1) (side_entry r.le r.depth)) first
         ∙ second
         ∙ ap (λ (u : List (Entry singles)). holding u lent) (append_assoc t (gt ∷ []) (le ∷ []))
 

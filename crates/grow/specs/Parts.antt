@@ -48,10 +48,10 @@ pub record RowsSplit (scored : Bool) (job : Job) (counts : List ℕ)
   pub depth_is : r.depth ≡ depth
 
 -- ---- the nodes
--- a new leaf as the node lists have it
-abbrev pub side_entry : Side → Entry singles
-side_entry s = leaf_with s.leaf.info s.span.first s.span.end
+-- a new leaf as the node lists have it, at its depth
+abbrev pub side_entry : Side → ℕ → Entry singles
+side_entry s depth = leaf_with s.leaf.info s.span.first s.span.end depth
 
 -- node i becomes a split over the nodes n and n + 1; "gt then le are appended"
 unfoldable pub split_nodes : ℕ → ℕ → ℤ → ℕ → Sides → NodeLists → NodeLists
-split_nodes i prop val n r x = put (n + 1) (side_entry r.le) (put n (side_entry r.gt) (put_split i prop val n x))
+split_nodes i prop val n r x = put (n + 1) (side_entry r.le r.depth) (put n (side_entry r.gt r.depth) (put_split i prop val n x))

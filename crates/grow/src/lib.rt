@@ -105,8 +105,8 @@ fn split_nodes(at: &mut Nodes, i: usize, count: usize, offer: Offer, sides: Side
     ensures nodes { lists_in at.new ≡ split_nodes i offer.prop offer.val count sides (lists_in at.old) }
 {
     at.put_split(i, offer.prop, offer.val, count as u32);
-    at.put_leaf(count, sides.gt.leaf.info, sides.gt.span);
-    at.put_leaf(count + 1, sides.le.leaf.info, sides.le.span);
+    at.put_leaf(count, sides.gt.leaf.info, sides.gt.span, sides.depth);
+    at.put_leaf(count + 1, sides.le.leaf.info, sides.le.span, sides.depth);
 }
 
 // The leaf at place k no longer waits, and the new leaves wait if they offer a split.

@@ -29,7 +29,7 @@ use Rattle.refuse.specs.declared.Job.{Job}
 use Rattle.layout.specs.Values.{info_is, offer_is}
 use Rattle.layout.specs.Records.{no_record, node_at}
 use Rattle.layout.specs.declared.Tree.{Tree}
-use Rattle.layout.specs.Tree.{NodeLists, HasRoom, put, leaf_with, info_at}
+use Rattle.layout.specs.Tree.{NodeLists, HasRoom, put, leaf_with, info_at, depth_at}
 use Rattle.layout.specs.Waiting.{Queued, queue_of, waits, waiting_from}
 use Rattle.queue.specs.declared.Queue.{Queue}
 use Rattle.queue.specs.Lent.{queue_in}
@@ -80,7 +80,7 @@ with_node tree = record { nodes = tree.nodes + 1; bits = tree.bits }
 module _ {job : Job} {counts : List ℕ} {x : Flat} {n n' : NodeLists} {q : Queue} {tree : Tree} {scored uses : Bool}
     {lent : NodeLists} {st : State singles} {left : List Row}
     (sown : Sown job (work counts x n q) tree scored uses lent st left) (depth : ℕ) (info : Info singles) (room : HasRoom (length st.tree + 1) lent) where
-  kept_in : (m : Node) → n' ≡ put (length st.tree) (rowless m info 0) n
+  kept_in : (m : Node) → n' ≡ put (length st.tree) (rowless m info depth) n
       → Sown job (work counts x n' q) (with_node tree) scored uses lent (with_seed_node (job_of single (settings_of job.settings) job.logs.now uses) m info depth [] st) left
   kept_in (split prop val gt le) e =
       let entry : Entry singles = seed_split (split prop val gt le) depth in
@@ -88,9 +88,7 @@ module _ {job : Job} {counts : List ℕ} {x : Flat} {n n' : NodeLists} {q : Queu
         fitting = sown.fitting;
         modes = sown.modes;
         rows = sown.rows;
-        nodes = e ∙ put_same (length st.tree) (seed_split (split prop val gt le) 0) entry n
-            (same-cells (seed_split (split prop val gt le) 0) entry refl refl refl)
-            ∙ ap (put (length st.tree) entry) sown.nodes ∙ put-more st.tree lent entry room;
+        nodes = e ∙ ap (put (length st.tree) entry) sown.nodes ∙ put-more st.tree lent entry room;
         queued = λ t. subst (Queued q.waiting (queue_in q)) (sym (queue_still st.tree entry refl)) (sown.queued t);
         idle = sown.idle;
         counted = counted-more st.tree entry sown.counted refl;
@@ -102,25 +100,24 @@ module _ {job : Job} {counts : List ℕ} {x : Flat} {n n' : NodeLists} {q : Queu
         fitting = sown.fitting;
         modes = sown.modes;
         rows = sown.rows ∙ ap (λ (l : List Row). l ++ left) (sym (ap (λ (l : List Row). st.rows ++ l) (fresh-none uses) ∙ append-nil st.rows));
-        nodes = e ∙ put_same (length st.tree) (empty_leaf info 0) entry n (same-cells (empty_leaf info 0) entry refl refl refl)
-            ∙ ap (put (length st.tree) entry) sown.nodes ∙ put-more st.tree lent entry room;
+        nodes = e ∙ ap (put (length st.tree) entry) sown.nodes ∙ put-more st.tree lent entry room;
         queued = λ t. subst (Queued q.waiting (queue_in q)) (sym (queue_still st.tree entry refl)) (sown.queued t);
         idle = sown.idle;
         counted = counted-more st.tree entry sown.counted refl;
         summed = sown.summed;
       }
 
-pub kept-planted : {job : Job} {counts : List ℕ} {x : Flat} {n n' : NodeLists} {q : Queue} {tree : Tree} (depth : ℕ) {scored : Bool}
+pub kept-planted : {job : Job} {counts : List ℕ} {x : Flat} {n n' : NodeLists} {q : Queue} {tree : Tree} {scored : Bool}
     → (eqb (get_or n.nodes tree.nodes no_record).kind 1 || eqb (span_at n.spans tree.nodes).first (span_at n.spans tree.nodes).end) ≡ true
-    → n' ≡ put tree.nodes (rowless (node_at n.nodes tree.nodes) (info_at n tree.nodes) 0) n
-    → NodePlanted job (work counts x n q) (work counts x n' q) tree (with_node tree) depth scored
-kept-planted {job} {counts} {x} {n} {n'} {q} {tree} depth {scored} test is =
+    → n' ≡ put tree.nodes (rowless (node_at n.nodes tree.nodes) (info_at n tree.nodes) (depth_at n tree.nodes)) n
+    → NodePlanted job (work counts x n q) (work counts x n' q) tree (with_node tree) scored
+kept-planted {job} {counts} {x} {n} {n'} {q} {tree} {scored} test is =
     record { size = size_same x; queue = same-itself (queue_in q); zeros = refl; counted = refl; risen = omega arith; sown = gains }
   where
     gains : (uses : Bool) (lent : NodeLists) (st : State singles) (mine left : List Row) → Sown job (work counts x n q) tree scored uses lent st (mine ++ left)
         → NextIs n tree.nodes lent st mine
         → Sown job (work counts x n' q) (with_node tree) scored uses lent (with_seed_node (job_of single (settings_of job.settings) job.logs.now uses) (node_at n.nodes tree.nodes)
-        (info_at n tree.nodes) depth mine st) left
+        (info_at n tree.nodes) (depth_at n tree.nodes) mine st) left
     gains uses lent st mine left w next =
         let m : Node = node_at n.nodes tree.nodes in
         let empty : mine ≡ [] = go (eqb (get_or n.nodes tree.nodes no_record).kind 1) refl in
@@ -128,7 +125,8 @@ kept-planted {job} {counts} {x} {n} {n'} {q} {tree} depth {scored} test is =
         let w' : Sown job (work counts x n q) tree scored uses lent st left = subst
         (λ (l : List Row). Sown job (work counts x n q) tree scored uses lent st (l ++ left)) empty w in
         let room : HasRoom (length st.tree + 1) lent = subst (λ (k : ℕ). HasRoom (k + 1) lent) (sym here) next.room in
-        let is' : n' ≡ put (length st.tree) (rowless m (info_at n tree.nodes) 0) n = is ∙ ap (λ (k : ℕ). put k (rowless m (info_at n tree.nodes) 0) n) (sym here) in
+        let depth : ℕ = depth_at n tree.nodes in
+        let is' : n' ≡ put (length st.tree) (rowless m (info_at n tree.nodes) depth) n = is ∙ ap (λ (k : ℕ). put k (rowless m (info_at n tree.nodes) depth) n) (sym here) in
         subst (λ (l : List Row). Sown job (work counts x n' q) (with_node tree) scored uses lent
         (with_seed_node (job_of single (settings_of job.settings) job.logs.now uses) m (info_at n tree.nodes) depth l st) left) (sym empty)
         (kept_in w' depth (info_at n tree.nodes) room m is')
@@ -159,9 +157,9 @@ module _ {job : Job} {counts counts' : List ℕ} {x y : Flat} {n n' : NodeLists}
         modes = sym (uses_still job.settings p.made.changed.size) ∙ w.modes;
         rows = p.made.changed.rows ∙ ap (λ (b : Bool). settled_at b sp (held_in x)) w.modes ∙ ap (settled_at uses sp) w.rows
             ∙ settled-middle st.rows mine left uses sp f e;
-        nodes = p.nodes ∙ ap (λ (k : ℕ). put k (leaf_with p.leaf.info sp.first sp.end) n) (sym here)
-            ∙ put_same (length st.tree) (leaf_with p.leaf.info sp.first sp.end) entry n
-            (same-cells (leaf_with p.leaf.info sp.first sp.end) entry refl info-is span-is)
+        nodes = p.nodes ∙ ap (λ (k : ℕ). put k (leaf_with p.leaf.info sp.first sp.end depth) n) (sym here)
+            ∙ put_same (length st.tree) (leaf_with p.leaf.info sp.first sp.end depth) entry n
+            (same-cells (leaf_with p.leaf.info sp.first sp.end depth) entry refl info-is span-is refl)
             ∙ ap (put (length st.tree) entry) w.nodes ∙ put-more st.tree lent entry (subst (λ (k : ℕ). HasRoom (k + 1) lent) (sym here) room);
         queued = λ t.
             subst (Queued q'.waiting (queue_in q')) (sym (queue-more st.tree entry ∙ ap (λ (k : ℕ). queue_of st.tree ++ waits k depth entry.offer) here
@@ -204,9 +202,9 @@ module _ {job : Job} {counts counts' : List ℕ} {x y : Flat} {n n' : NodeLists}
       no_offer : scored ≡ false → offer_is p.leaf.offer ≡ none
       no_offer t = p.made.leaf.offer ∙ rw t
 
-  pub leaf-planted : (eqb (get_or n.nodes i no_record).kind 1 || eqb sp.first sp.end) ≡ false → sp ≡ span_at n.spans i
-      → NodePlanted job (work counts x n q) (work counts' y n' q') tree tree' depth scored
-  leaf-planted test is =
+  pub leaf-planted : (eqb (get_or n.nodes i no_record).kind 1 || eqb sp.first sp.end) ≡ false → sp ≡ span_at n.spans i → depth ≡ depth_at n i
+      → NodePlanted job (work counts x n q) (work counts' y n' q') tree tree' scored
+  leaf-planted test is deep =
       let t = (neither (eqb (get_or n.nodes i no_record).kind 1) (eqb sp.first sp.end)).0 test in
       record {
         size = p.made.changed.size;
@@ -215,5 +213,5 @@ module _ {job : Job} {counts counts' : List ℕ} {x y : Flat} {n n' : NodeLists}
         counted = p.counted;
         risen = rw t.0 (omega (arith, p.many, few-waits i depth (offer_is p.leaf.offer)));
         sown = λ uses lent st mine left w next.
-            rw t.0 (leaf_in_lem mine left (info_at n i) w (ap (λ (s : Span). s.first) is ∙ next.first) (ap (λ (s : Span). s.end) is ∙ next.end) next.room (eqb-false sp.first sp.end t.1));
+            rw (t.0, ← deep) (leaf_in_lem mine left (info_at n i) w (ap (λ (s : Span). s.first) is ∙ next.first) (ap (λ (s : Span). s.end) is ∙ next.end) next.room (eqb-false sp.first sp.end t.1));
       }

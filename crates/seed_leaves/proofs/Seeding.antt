@@ -18,7 +18,7 @@ use Rattle.model.specs.Tree.{Node, split, leaf, is_leaf, Info, Record, blank_rec
 use Rattle.model.specs.Job.{Job}
 use Rattle.model.specs.Grow.{State}
 use Rattle.model.specs.Learn.{leaf_count}
-use Rattle.model.specs.Deepen.{depths_of, rows_at, seed_split, seed_leaf, with_seed_node, seed_from, seed_state}
+use Rattle.model.specs.Deepen.{rows_at, seed_split, seed_leaf, with_seed_node, seed_from, seed_state}
 use Rattle.model.proofs.Counting.{count_append, count_map, length-keep}
 use Rattle.model.proofs.Fresh.{length-fresh}
 use Rattle.model.proofs.Paths.{reached-leaf}
@@ -30,16 +30,16 @@ use Rattle.order.proofs.Leaves.{leaf-span}
 use Rattle.seed_leaves.specs.Sown.{seeded_to}
 
 -- ---- one node more
-seed-one : {M : Meter} (j : Job M) (nodes : List Node) (depths : List ℕ) (rows : List Row) (k : ℕ) (rs : List (Record M)) (r : Record M) (st : State M)
-    → seed_from j nodes depths rows k (rs ++ (r ∷ [])) st
-    ≡ with_seed_node j r.node r.info (get_or depths (k + length rs) 0) (rows_at nodes (k + length rs) rows) (seed_from j nodes depths rows k rs st)
+seed-one : {M : Meter} (j : Job M) (nodes : List Node) (rows : List Row) (k : ℕ) (rs : List (Record M)) (r : Record M) (st : State M)
+    → seed_from j nodes rows k (rs ++ (r ∷ [])) st
+    ≡ with_seed_node j r.node r.info r.depth (rows_at nodes (k + length rs) rows) (seed_from j nodes rows k rs st)
 unfolding seed_from
-seed-one j nodes depths rows k [] r st = ap (λ (m : ℕ). with_seed_node j r.node r.info (get_or depths m 0) (rows_at nodes m rows) st) (sym (add-zero k))
-seed-one {M} j nodes depths rows k (p ∷ rs) r st =
+seed-one j nodes rows k [] r st = ap (λ (m : ℕ). with_seed_node j r.node r.info r.depth (rows_at nodes m rows) st) (sym (add-zero k))
+seed-one {M} j nodes rows k (p ∷ rs) r st =
     let m : suc k + length rs ≡ k + suc (length rs) = omega arith in
-    let on : State M = with_seed_node j p.node p.info (get_or depths k 0) (rows_at nodes k rows) st in
-    seed-one j nodes depths rows (suc k) rs r on
-    ∙ ap (λ (m : ℕ). with_seed_node j r.node r.info (get_or depths m 0) (rows_at nodes m rows) (seed_from j nodes depths rows (suc k) rs on)) m
+    let on : State M = with_seed_node j p.node p.info p.depth (rows_at nodes k rows) st in
+    seed-one j nodes rows (suc k) rs r on
+    ∙ ap (λ (m : ℕ). with_seed_node j r.node r.info r.depth (rows_at nodes m rows) (seed_from j nodes rows (suc k) rs on)) m
 
 -- ---- leaves among the first nodes
 pub leaves-more : (nodes : List Node) (i : ℕ) → i < length nodes → leaf_count (take (suc i) nodes)
@@ -68,19 +68,17 @@ module _ {M : Meter} (j : Job M) (seed : List (Record M)) (rows : List Row) wher
   seeded-none = refl
 
   pub seeded-more : (i : ℕ) → i < length seed
-      → seeded_to j seed rows (suc i) ≡ with_seed_node j (get_or (nodes_of seed) i leaf) (get_or seed i blank_record).info (get_or (depths_of (nodes_of seed)) i 0)
+      → seeded_to j seed rows (suc i) ≡ with_seed_node j (get_or (nodes_of seed) i leaf) (get_or seed i blank_record).info (get_or seed i blank_record).depth
       (rows_at (nodes_of seed) i rows) (seeded_to j seed rows i)
   unfolding seeded_to
   seeded-more i h =
       let start : State M = record { rows = []; tree = []; bits = M.no_total } in
       let at : 0 + length (take i seed) ≡ i = zero-add (length (take i seed)) ∙ length-take-le i seed (omega arith) in
       let r : Record M = get_or seed i blank_record in
-      ap (λ (l : List (Record M)). seed_from j nodes (depths_of nodes) rows 0 l start) (take-suc seed i blank_record h)
-      ∙ seed-one j nodes (depths_of nodes) rows 0 (take i seed) r start
-      ∙ ap (λ (k : ℕ). with_seed_node j r.node r.info (get_or (depths_of nodes) k 0) (rows_at nodes k rows)
-      (seed_from j nodes (depths_of nodes) rows 0 (take i seed) start)) at
-      ∙ ap (λ (m : Node). with_seed_node j m r.info (get_or (depths_of nodes) i 0) (rows_at nodes i rows)
-      (seed_from j nodes (depths_of nodes) rows 0 (take i seed) start))
+      ap (λ (l : List (Record M)). seed_from j nodes rows 0 l start) (take-suc seed i blank_record h)
+      ∙ seed-one j nodes rows 0 (take i seed) r start
+      ∙ ap (λ (k : ℕ). with_seed_node j r.node r.info r.depth (rows_at nodes k rows) (seed_from j nodes rows 0 (take i seed) start)) at
+      ∙ ap (λ (m : Node). with_seed_node j m r.info r.depth (rows_at nodes i rows) (seed_from j nodes rows 0 (take i seed) start))
       (sym (get_or-map (λ (r : Record M). r.node) seed i blank_record))
 
   pub seeded-all : seeded_to j seed rows (length seed) ≡ seed_state j seed rows
@@ -98,7 +96,7 @@ module _ {M : Meter} (j : Job M) (seed : List (Record M)) (rows : List Row) wher
   seeded-length zero h = ap (λ (st : State M). length st.tree) seeded-none
   seeded-length (suc i) h =
       ap (λ (st : State M). length st.tree) (seeded-more i h)
-      ∙ more-tree (get_or nodes i leaf) (get_or seed i blank_record).info (get_or (depths_of nodes) i 0) (rows_at nodes i rows) (to i)
+      ∙ more-tree (get_or nodes i leaf) (get_or seed i blank_record).info (get_or seed i blank_record).depth (rows_at nodes i rows) (to i)
       ∙ ap suc (seeded-length i (omega arith))
 
   module _ (faultless : fault_of seed ≡ none) where
@@ -134,7 +132,7 @@ module _ {M : Meter} (j : Job M) (seed : List (Record M)) (rows : List Row) wher
     seeded-rows zero h = ap (λ (st : State M). length st.rows) seeded-none ∙ sym (first-none ks)
     seeded-rows (suc i) h =
         ap (λ (st : State M). length st.rows) (seeded-more i h)
-        ∙ more_rows (get_or nodes i leaf) (get_or seed i blank_record).info (get_or (depths_of nodes) i 0) (rows_at nodes i rows) (to i) (split-empty i)
+        ∙ more_rows (get_or nodes i leaf) (get_or seed i blank_record).info (get_or seed i blank_record).depth (rows_at nodes i rows) (to i) (split-empty i)
         ∙ (λ t. seeded-rows i (omega arith) t + mine-length i t) ∙ sym (first_more ks i)
 
     -- ---- the rows of node i stand in front of those of the later nodes

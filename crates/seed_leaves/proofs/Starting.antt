@@ -23,7 +23,7 @@ use Rattle.model.specs.Tree.{Node, split, leaf, Info, Record, nodes_of, fault_of
 use Rattle.model.specs.Job as model
 use Rattle.model.specs.Grow.{Entry, State, no_entry, leaf_over}
 use Rattle.model.specs.Learn.{leaf_count}
-use Rattle.model.specs.Deepen.{depths_of, rows_at, seed_split, empty_leaf, seed_leaf, with_seed_node, seed_from, seed_state}
+use Rattle.model.specs.Deepen.{rows_at, seed_split, empty_leaf, seed_leaf, with_seed_node, seed_from, seed_state}
 use Rattle.model.proofs.Each.{each_get_d, each_append}
 use Rattle.model.proofs.Growing.{seed-sized}
 use Rattle.model.proofs.Invariant.{none_is_no_some}
@@ -136,21 +136,20 @@ module _ (P : Profile) (t : settings.Settings P.meter) (logs : List P.meter.Cost
       each_append Shallow st.tree (seed_leaf j info depth (length st.rows) (r ∷ rs) ∷ []) h
       (shallow-leaf (fresh uses (r ∷ rs)) (span_mode uses (r ∷ rs)) (span (length st.rows) (length st.rows + length (r ∷ rs))) depth, tt)
 
-  shallow-from : (nodes : List Node) (depths : List ℕ) (rows : List Row) (i : ℕ) (rs : List (Record P.meter)) (st : State P.meter) → Each Shallow st.tree
-      → Each Shallow (seed_from j nodes depths rows i rs st).tree
+  shallow-from : (nodes : List Node) (rows : List Row) (i : ℕ) (rs : List (Record P.meter)) (st : State P.meter) → Each Shallow st.tree
+      → Each Shallow (seed_from j nodes rows i rs st).tree
   unfolding seed_from
-  shallow-from nodes depths rows i [] st h = h
-  shallow-from nodes depths rows i (r ∷ rs) st h =
+  shallow-from nodes rows i [] st h = h
+  shallow-from nodes rows i (r ∷ rs) st h =
       let mine : List Row = rows_at nodes i rows in
-      shallow-from nodes depths rows (suc i) rs (with_seed_node j r.node r.info (get_or depths i 0) mine st)
-      (shallow-node r.node r.info (get_or depths i 0) mine st h)
+      shallow-from nodes rows (suc i) rs (with_seed_node j r.node r.info r.depth mine st) (shallow-node r.node r.info r.depth mine st h)
 
   pub seed-shallow : (seed : List (Record P.meter)) (rows : List Row) (k : ℕ) (o : model.Offer P.meter) → (get_or (seed_state j seed rows).tree k no_entry).offer
       ≡ some o → (get_or (seed_state j seed rows).tree k no_entry).depth < max_depth
   unfolding seed_state
   seed-shallow seed rows k =
       each_get_d Shallow (seed_state j seed rows).tree k no_entry (λ o e. absurd (none_is_no_some o e))
-      (shallow-from (nodes_of seed) (depths_of (nodes_of seed)) rows 0 seed (record { rows = []; tree = []; bits = P.meter.no_total }) tt)
+      (shallow-from (nodes_of seed) rows 0 seed (record { rows = []; tree = []; bits = P.meter.no_total }) tt)
 
 -- ---- lists
 numbers-length : (nodes : List Node) (rows : List Row) → length (leaf_numbers nodes rows) ≡ length rows

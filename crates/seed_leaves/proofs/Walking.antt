@@ -18,7 +18,7 @@ use Rattle.model.specs.Tree.{Node, split, leaf, is_leaf, Record, blank_record, n
 use Rattle.model.specs.Job as model
 use Rattle.model.specs.Grow.{State}
 use Rattle.model.specs.Learn.{leaf_count}
-use Rattle.model.specs.Deepen.{depths_of, rows_at, with_seed_node}
+use Rattle.model.specs.Deepen.{rows_at, with_seed_node}
 use Rattle.model.specs.Accepting.{LogsWithin}
 use Rattle.refuse.specs.Given.{settings_of}
 use Rattle.refuse.specs.declared.Job.{Job}
@@ -27,7 +27,7 @@ use Rattle.layout.specs.Records.{node_is, no_record, node_at, span_is, no_span_r
 use Rattle.layout.specs.Values.{info_is}
 use Rattle.layout.specs.declared.MaNode.{MaNode}
 use Rattle.layout.specs.declared.Tree.{Tree}
-use Rattle.layout.specs.Tree.{NodeLists, HasRoom, holding, info_at}
+use Rattle.layout.specs.Tree.{NodeLists, HasRoom, holding, info_at, depth_at}
 use Rattle.layout.specs.Waiting.{QueueListsOf, QueueLists, Queued, QueueRoom, SameQueue, waiting_from, words_per_leaf}
 use Rattle.queue.specs.declared.Queue.{Queue}
 use Rattle.queue.specs.Lent.{queue_in}
@@ -86,7 +86,7 @@ module _ {job : Job} {counts : List ℕ} {x : Flat} {n : NodeLists} {q : QueueLi
   abbrev mine : ℕ → List Row
   mine i = rows_at nodes i given
 
-  pub walk-few : (0 < count) × (count ≤ max_nodes)
+  walk-few : (0 < count) × (count ≤ max_nodes)
   walk-few = seed-few count n given_to.room given_to.sound
 
   long : length seed ≡ count
@@ -149,6 +149,9 @@ module _ {job : Job} {counts : List ℕ} {x : Flat} {n : NodeLists} {q : QueueLi
     info-is : info_at n' i ≡ (get_or seed i blank_record).info
     info-is = ap (λ (m : MaNode). info_is m.info) record-is ∙ ap (λ (r : Record singles). r.info) (sym (record_in_lem count n given_to.room i blank_record inside))
 
+    depth-is : depth_at n' i ≡ (get_or seed i blank_record).depth
+    depth-is = ap (λ (m : MaNode). m.depth) record-is ∙ ap (λ (r : Record singles). r.depth) (sym (record_in_lem count n given_to.room i blank_record inside))
+
     is_leaf_lem : is_leaf (get_or nodes i leaf) ≡ cond (eqb (get_or n'.nodes i no_record).kind 1) false true
     is_leaf_lem = ap is_leaf (sym node-is) ∙ leaf-kind (get_or n'.nodes i no_record)
 
@@ -195,10 +198,10 @@ module _ {job : Job} {counts : List ℕ} {x : Flat} {n : NodeLists} {q : QueueLi
         ap (drop (first_of ks i)) given_to.rows ∙ rows_left j seed given given_to.sound count i inside (omega (arith, ap length given_to.rows, rows_long, end-inside))
         ∙ ap (λ (l : List Row). mine i ++ drop (first_of ks (suc i)) l) (sym given_to.rows)
 
-    module _ {counts'' : List ℕ} {z : Flat} {n'' : NodeLists} {q'' : Queue} {tree' : Tree} {depth : ℕ} (deep : depth ≡ get_or (depths_of nodes) i 0)
-        (planted : NodePlanted job (work counts' y n' q') (work counts'' z n'' q'') tree tree' depth scored) where
-      state-is : with_seed_node j (node_at n'.nodes i) (info_at n' i) depth (mine i) (to i) ≡ to (suc i)
-      state-is = (λ t. with_seed_node j (node-is t) (info-is t) (deep t) (mine i) (to i)) ∙ sym (seeded-more j seed given i (omega (arith, long)))
+    module _ {counts'' : List ℕ} {z : Flat} {n'' : NodeLists} {q'' : Queue} {tree' : Tree}
+        (planted : NodePlanted job (work counts' y n' q') (work counts'' z n'' q'') tree tree' scored) where
+      state-is : with_seed_node j (node_at n'.nodes i) (info_at n' i) (depth_at n' i) (mine i) (to i) ≡ to (suc i)
+      state-is = (λ t. with_seed_node j (node-is t) (info-is t) (depth-is t) (mine i) (to i)) ∙ sym (seeded-more j seed given i (omega (arith, long)))
 
       gained : Sown job (work counts'' z n'' q'') tree' scored (uses_of job.settings x) n (to (suc i)) (drop (first_of ks (suc i)) (held_in x))
       gained =
@@ -229,13 +232,11 @@ walked-none p none same nothing = record { passed = refl; planted = λ given pla
 
 module _ {job : Job} {counts counts' : List ℕ} {x y : Flat} {n n' : NodeLists} {q : QueueLists} {q' : Queue} {tree : Tree} {count i : ℕ} {scored : Bool}
     (w : Walked job (lists x n q counts) (work counts' y n' q') tree count scored i) where
-  pub walked-more : {counts'' : List ℕ} {z : Flat} {n'' : NodeLists} {q'' : Queue} {tree' : Tree} {depth : ℕ} → i < count
-      → depth ≡ get_or (depths_of (nodes_of (seed_in count n))) i 0 → NodePlanted job (work counts' y n' q') (work counts'' z n'' q'') tree tree' depth scored
+  pub walked-more : {counts'' : List ℕ} {z : Flat} {n'' : NodeLists} {q'' : Queue} {tree' : Tree} → i < count → NodePlanted job (work counts' y n' q') (work counts'' z n'' q'') tree tree' scored
       → Walked job (lists x n q counts) (work counts'' z n'' q'') tree' count scored (i + 1)
-  walked-more inside deep more = record {
+  walked-more inside more = record {
     passed = omega (arith, w.passed, more.counted);
-    planted = λ given p. planted-more p (omega (arith, w.passed)) (w.planted given p)
-        (deep ∙ ap (λ (k : ℕ). get_or (depths_of (nodes_of (seed_in count n))) k 0) (sym w.passed)) more;
+    planted = λ given p. planted-more p (omega (arith, w.passed)) (w.planted given p) more;
   }
 
   pub walked-all : i ≡ count → (given : List Row) → Plants job (lists x n q counts) count scored given → PlantedTo job (lists x n q counts) (work counts' y n' q') tree count count scored given

@@ -13,7 +13,7 @@ use Rattle.model.specs.Profile.{single, job_of}
 use Rattle.model.specs.Job as model
 use Rattle.model.specs.Grow.{State}
 use Rattle.model.specs.Lent.{Waiting}
-use Rattle.model.specs.Deepen.{depths_of, with_seed_node, seed_from}
+use Rattle.model.specs.Deepen.{with_seed_node, seed_from}
 use Rattle.model.specs.Accepting.{LogsWithin}
 use Rattle.refuse.specs.Given.{settings_of}
 use Rattle.refuse.specs.declared.Job.{Job}
@@ -22,7 +22,7 @@ use Rattle.layout.specs.Values.{offer_is}
 use Rattle.layout.specs.Records.{no_record, node_at, span_is, no_span_record}
 use Rattle.layout.specs.declared.Span as layout
 use Rattle.layout.specs.declared.Tree.{Tree}
-use Rattle.layout.specs.Tree.{NodeLists, holding, HasRoom, put, leaf_with, info_at}
+use Rattle.layout.specs.Tree.{NodeLists, holding, HasRoom, put, leaf_with, info_at, depth_at}
 use Rattle.layout.specs.Waiting.{Queued, QueueRoom, SameQueue, queue_of, waits}
 use Rattle.queue.specs.Lent.{queue_in}
 use Rattle.order.specs.Order.{ordered_by, first_of}
@@ -40,9 +40,7 @@ span_at spans i = span_is (get_or spans i no_span_record)
 
 -- the model's state after the first i nodes of the seed
 unfoldable pub seeded_to : {M : Meter} → model.Job M → List (Record M) → List Row → ℕ → State M
-seeded_to {M} j seed rows i =
-    let nodes = nodes_of seed in
-    seed_from j nodes (depths_of nodes) rows 0 (take i seed) (record { rows = []; tree = []; bits = M.no_total })
+seeded_to {M} j seed rows i = seed_from j (nodes_of seed) rows 0 (take i seed) (record { rows = []; tree = []; bits = M.no_total })
 
 -- The lists hold the state `st`, over what was lent; behind its rows stand those of the leaves still to come. What waits is kept only if leaves are scored
 pub record Sown (job : Job) (w : Work) (tree : Tree) (scored uses : Bool)
@@ -71,7 +69,7 @@ pub record LeafReady (job : Job) (w : Work) (tree : Tree) (sp : Span) (scored : 
 pub record LeafPlanted (job : Job) (w w' : Work) (tree tree' : Tree) (sp : Span) (depth : ℕ) (scored : Bool) : Type 0 where
   pub leaf : Leaf
   pub made : MadeLeaf scored job depth sp w.rows w'.rows leaf
-  pub nodes : w'.nodes ≡ put tree.nodes (leaf_with leaf.info sp.first sp.end) w.nodes
+  pub nodes : w'.nodes ≡ put tree.nodes (leaf_with leaf.info sp.first sp.end depth) w.nodes
   pub queued : (leaves : List (Waiting singles)) → Queued w.queue.waiting (queue_in w.queue) leaves
       → Queued w'.queue.waiting (queue_in w'.queue) (leaves ++ waits tree.nodes depth (offer_is leaf.offer))
   pub counted : tree'.nodes ≡ tree.nodes + 1
@@ -97,8 +95,8 @@ pub record NextIs (n : NodeLists) (i : ℕ) (lent : NodeLists) (st : State singl
   pub bare : eqb (get_or n.nodes i no_record).kind 1 ≡ true → mine ≡ []
   pub room : HasRoom (i + 1) lent
 
--- every state that the lists held has gained the next node, as the model gains it
-pub record NodePlanted (job : Job) (w w' : Work) (tree tree' : Tree) (depth : ℕ) (scored : Bool) : Type 0 where
+-- every state that the lists held has gained the next node at the depth that it stores, as the model gains it
+pub record NodePlanted (job : Job) (w w' : Work) (tree tree' : Tree) (scored : Bool) : Type 0 where
   pub size : SameSize w.rows w'.rows
   pub queue : SameQueue (queue_in w.queue) (queue_in w'.queue)
   pub zeros : w'.counts ≡ w.counts
@@ -107,8 +105,8 @@ pub record NodePlanted (job : Job) (w w' : Work) (tree tree' : Tree) (depth : �
   pub sown : (uses : Bool) (lent : NodeLists) (st : State singles) (mine left : List Row) → Sown job w tree scored uses lent st (mine ++ left)
       → NextIs w.nodes tree.nodes lent st mine
       → Sown job w' tree' scored uses lent
-      (with_seed_node (job_of single (settings_of job.settings) job.logs.now uses) (node_at w.nodes.nodes tree.nodes) (info_at w.nodes tree.nodes) depth mine st)
-      left
+      (with_seed_node (job_of single (settings_of job.settings) job.logs.now uses) (node_at w.nodes.nodes tree.nodes) (info_at w.nodes tree.nodes)
+      (depth_at w.nodes tree.nodes) mine st) left
 
 -- ---- all nodes
 

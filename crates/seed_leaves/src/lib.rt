@@ -33,7 +33,7 @@ fn plant_leaf(
         tree result (span_is span) depth score_split }
 {
     let leaf = leaf::make_leaf(lists.rows, lists.counts, job, span, depth, score_split);
-    lists.at.put_leaf(tree.nodes, leaf.info, span);
+    lists.at.put_leaf(tree.nodes, leaf.info, span, depth);
     lists.queue.enqueue(tree.nodes, depth, leaf.offer);
     let bits = tree.bits + f64::from(leaf.info.cost);
     Tree {
@@ -42,12 +42,12 @@ fn plant_leaf(
     }
 }
 
-// The next node of the seed, whose span already stands beside it.
-fn plant_node(lists: &mut Lists, job: Job, depth: u32, score_split: bool, tree: Tree) -> Tree
+// The next node of the seed, whose span already stands beside it. It keeps the depth that it stores.
+fn plant_node(lists: &mut Lists, job: Job, score_split: bool, tree: Tree) -> Tree
     requires { NodeFits job (work_in lists.old) tree score_split }
     ensures lent { SameLent lists.old lists.new }
     ensures planted { NodePlanted job.entry (work_in lists.old) (work_in lists.new)
-        tree result depth score_split }
+        tree result score_split }
 {
     let i = tree.nodes;
     let span = lists.at.spans[i];
@@ -58,6 +58,7 @@ fn plant_node(lists: &mut Lists, job: Job, depth: u32, score_split: bool, tree: 
             bits: tree.bits,
         };
     }
+    let depth = lists.at.nodes[i].depth;
     plant_leaf(lists, job, span, depth, score_split, tree)
 }
 
@@ -72,15 +73,13 @@ fn plant_nodes(lists: &mut Lists, job: Job, count: usize, score_split: bool) -> 
         → PlantedTo job.entry (lists_now lists.old) (work_in lists.new)
         result count count score_split given }
 {
-    let mut depths = [0u32; layout::MAX_NODES];
-    seed_rows::seed_depths(lists.at, count, &mut depths);
     lists.queue.waiting = 0;
     let mut tree = Tree {
         nodes: 0,
         bits: 0.0,
     };
-    for depth in &depths[..count] {
-        tree = plant_node(lists, job, *depth, score_split, tree);
+    for _ in 0..count {
+        tree = plant_node(lists, job, score_split, tree);
     }
     tree
 }

@@ -2,7 +2,7 @@
 -- Assumes nothing.
 use Rattle.std.specs.Prelude.{ℕ, suc, ◌+◌, ◌*◌, ◌≤◌, ◌<◌, ◌≡◌, List, map, length, get_or, drop, replicate}
 use Rattle.std.proofs.Math.Option.{none}
-use Rattle.model.specs.Settings.{max_rows, max_nodes}
+use Rattle.model.specs.Settings.{max_rows}
 use Rattle.model.specs.Single.{singles}
 use Rattle.model.specs.Rows.{Row}
 use Rattle.model.specs.Tree.{Record, nodes_of, fault_of, Node}
@@ -69,9 +69,3 @@ pub record OrderedBy (numbers : List ℕ) (count : ℕ) (x y : Flat) (n n' : Nod
   pub rows : held_in y ≡ ordered_by numbers count (held_in x)
   pub size : SameSize x y
   pub spans_are : SpansOf numbers count n n'
-
--- a sound seed, and a list of zeros that has a place for the depth of each node of any seed
-pub record DepthsFit (nodes : List MaNode) (count : ℕ) (out : List ℕ) : Type 0 where
-  pub sound : fault_of (seed_of count nodes) ≡ none
-  pub there : count ≤ length nodes
-  pub zeros : out ≡ replicate max_nodes 0

@@ -1,20 +1,14 @@
-// A seed as deepening finds it (document 01, "Deepening"; the Rust's `deepen_ma_tree`): its rows ordered by leaf, and
-// its depths.
+// A seed's rows as deepening takes them (document 01, "Deepening"; the Rust's `deepen_ma_tree`): ordered by leaf.
 #![tactic(auto)]
 
-ghost use Rattle.std.specs.Prelude.{◌≡◌, take};
-ghost use Rattle.model.specs.Tree.{nodes_of};
-ghost use Rattle.model.specs.Deepen.{depths_of};
+ghost use Rattle.std.specs.Prelude.{◌≡◌};
 ghost use Rattle.layout.specs.Lent.{lists_in, SameNodesLent};
 ghost use Rattle.rows.specs.Flat.{held_in};
 ghost use Rattle.rows.specs.Lent.{flat_in, SameRowsLent};
-ghost use Rattle.seed_rows.specs.Ordered.{seed_in, numbers_in, Numberable, Paired, Pairs};
-ghost use Rattle.seed_rows.specs.Ordered.{Orderable, OrderedBy, DepthsFit};
+ghost use Rattle.seed_rows.specs.Ordered.{numbers_in, Numberable, Paired, Pairs, Orderable, OrderedBy};
 
 use layout::{Nodes, Span};
 use rows::Rows;
-
-// ---- the rows
 
 // The number of the leaf that each row reaches.
 // Stays: `count`, as in `order_by_leaf`, which calls it.
@@ -59,17 +53,4 @@ pub fn order_by_leaf(rows: &mut Rows, at: &mut Nodes, counts: &mut [u32], count:
     order::order_by_number(rows, &mut counts[..space]);
     pair_spans(&counts[row_count..ends], &counts[ends..space], at.spans);
     counts[row_count..space].fill(0);
-}
-
-// ---- the depths
-
-// The depth of each node, at the front of a list for any seed.
-// Stays: `count` says where the seed ends, since growth appends behind it. The caller's nodes lie behind two
-// references, and a part of those the borrow checker does not let it lend: so the cut is here.
-pub fn seed_depths(at: &Nodes, count: usize, out: &mut [u32])
-    requires { DepthsFit at.now.nodes.now count out.old }
-    ensures { take count out.new ≡ depths_of (nodes_of (seed_in count (lists_in at.now))) }
-{
-    let seed = &at.nodes[..count];
-    tree::depths(seed, &mut out[..count]);
 }

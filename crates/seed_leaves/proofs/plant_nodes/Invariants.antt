@@ -4,6 +4,6 @@ use Rattle.lent.specs.Lists.{lists_now, work_in}
 use Rattle.seed_leaves.proofs.Walking.{Walked}
 use Rattle.seed_leaves.proofs.plant_nodes.Given as goal
 
-abbrev pub invariant-loop-depth : goal.invariant-loop-depth
-invariant-loop-depth l = SameLent l.fn.lists l.lists
-    × Walked l.job (lists_now l.fn.lists) (work_in l.lists) l.tree l.count l.score_split l.depth-index
+abbrev pub invariant-loop : goal.invariant-loop
+invariant-loop l = SameLent l.fn.lists l.lists
+    × Walked l.job (lists_now l.fn.lists) (work_in l.lists) l.tree l.count l.score_split l.counter
