@@ -1,4 +1,4 @@
--- The node with which a list of symbols begins, as the code tells and reads it (document 02, c). Assumes nothing.
+-- The node with which a list of symbols begins, as the code tells and reads it (document 02, c and d). Assumes nothing.
 use Rattle.std.specs.Prelude.{ℕ, ◌+◌, Bool, true, false, List, map, length}
 use Rattle.std.proofs.Math.Option.{Option, none, some}
 use Rattle.model.specs.Meter.{Meter}
@@ -21,18 +21,18 @@ is_split no_node = false
 is_split (first_split prop val rest) = true
 is_split (first_leaf pred offset rest) = false
 
--- the node; if it is a split, its children are the nodes gt and gt + 1
-abbrev pub record_read : {M : Meter} → ℕ → FirstNode → Record M
-record_read gt no_node = blank_record
-record_read gt (first_split prop val rest) = rowless_record (split prop val gt (gt + 1)) no_info
-record_read {M} gt (first_leaf pred offset rest) = rowless_record leaf (record { cost = M.nought; pred = pred; offset = offset })
+-- the node at this depth; if it is a split, its children are the nodes gt and gt + 1
+abbrev pub record_read : {M : Meter} → ℕ → ℕ → FirstNode → Record M
+record_read gt depth no_node = blank_record
+record_read gt depth (first_split prop val rest) = rowless_record (split prop val gt (gt + 1)) no_info depth
+record_read {M} gt depth (first_leaf pred offset rest) = rowless_record leaf (record { cost = M.nought; pred = pred; offset = offset }) depth
 
 -- a record of the model, as it is stored
 abbrev pub as_stored : Record singles → MaNode
 as_stored r = record_of (stored r)
 
-abbrev pub node_read : ℕ → FirstNode → MaNode
-node_read gt first = as_stored (record_read gt first)
+abbrev pub node_read : ℕ → ℕ → FirstNode → MaNode
+node_read gt depth first = as_stored (record_read gt depth first)
 
 -- how many nodes a tree has that was read
 abbrev pub count_of : Option (List (Record singles)) → Option ℕ

@@ -51,20 +51,21 @@ fn is_split(symbols: &[Symbol]) -> bool
         & (value.context == model::SPLIT_VAL_CONTEXT)
 }
 
-// The node that comes next, with the record of a seed's node without rows. A split's children are the nodes gt and
-// gt + 1. Since a node does come next, nothing but the 0 of a leaf is tested.
-fn read_node(symbols: &[Symbol], gt: NodeNumber) -> MaNode
+// The node that comes next, with the record of a seed's node without rows at this depth. A split's children are the
+// nodes gt and gt + 1. Since a node does come next, nothing but the 0 of a leaf is tested.
+fn read_node(symbols: &[Symbol], gt: NodeNumber, depth: u32) -> MaNode
     requires node { first_node symbols.now ≢ no_node }
     requires number { gt.0 ≤ max_nodes }
-    ensures { result ≡ node_read gt.0 (first_node symbols.now) }
+    ensures { result ≡ node_read gt.0 depth (first_node symbols.now) }
 {
     let property = symbols[0].value;
     if property == 0 {
-        return MaNode::leaf(NodeInfo {
+        let info = NodeInfo {
             cost: 0.0,
             pred: symbols[1].value,
             offset: entropy::unpack_signed(symbols[2].value),
-        });
+        };
+        return MaNode::leaf(info, depth);
     }
     let split = MaNode {
         kind: 1,
@@ -73,6 +74,7 @@ fn read_node(symbols: &[Symbol], gt: NodeNumber) -> MaNode
         gt: gt.0,
         le: gt.0 + 1,
         info: NodeInfo::default(),
+        depth,
     };
     split.kept()
 }
@@ -101,15 +103,23 @@ fn count_nodes(symbols: &[Symbol]) -> Option<u32>
     if rest.is_empty() { Some(nodes) } else { None }
 }
 
-// The nodes of the tree that the symbols are. A split's children get the next numbers behind all nodes that are due.
+// The nodes of the tree that the symbols are, each with its depth (document 02, d). A split's children get the next
+// numbers behind all nodes that are due, so the nodes of one depth come one after the other, and where they end, all
+// that are due lie one deeper.
 fn write_nodes(symbols: &[Symbol], nodes: &mut [MaNode])
     requires { count_of (tree_read symbols.now) ≡ some (length nodes.old) }
     ensures { nodes.new ≡ records_read symbols.now }
 {
     let mut rest = symbols;
     let mut due = 1;
-    for node in nodes.iter_mut() {
-        *node = read_node(rest, NodeNumber(due));
+    let mut depth = 0;
+    let mut level_end = 1;
+    for (i, node) in nodes.iter_mut().enumerate() {
+        if i == level_end as usize {
+            depth += 1;
+            level_end = due;
+        }
+        *node = read_node(rest, NodeNumber(due), depth);
         if node.is_split() {
             rest = &rest[SPLIT_SYMBOLS..];
             due += 2;

@@ -2,5 +2,5 @@
 use Rattle.symbol_reader.proofs.Writing.{Written}
 use Rattle.symbol_reader.proofs.write_nodes.Given as goal
 
-abbrev pub invariant-loop-node : goal.invariant-loop-node
-invariant-loop-node l = Written l.symbols l.nodes l.node-index l.due l.rest
+abbrev pub invariant-loop-i : goal.invariant-loop-i
+invariant-loop-i l = Written l.symbols l.nodes l.i l.due l.depth l.level_end l.rest
