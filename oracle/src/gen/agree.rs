@@ -2,13 +2,14 @@
 //! each there for one thing that it shows.
 
 mod choices;
+mod depths;
 mod refused;
 
 use crate::At;
 use crate::draft::{Draft, plain_settings};
 use crate::logs;
 use crate::rows::Rows;
-use crate::trees::{Shape, Tests, tree};
+use crate::trees::{Shape, Tests, tree, with_depths};
 use stream::{Job, Record};
 
 const JOBS: &[fn() -> Job] = &[
@@ -28,9 +29,9 @@ const JOBS: &[fn() -> Job] = &[
     no_rows,
 ];
 
-/// The fourteen, then those of choices.rs and of refused.rs, again and again.
+/// The fourteen, then those of choices.rs, of refused.rs and of depths.rs, again and again.
 pub fn agree(at: At) -> Job {
-    let all = [JOBS, choices::JOBS, refused::JOBS].concat();
+    let all = [JOBS, choices::JOBS, refused::JOBS, depths::JOBS].concat();
     all[at.index as usize % all.len()]()
 }
 
@@ -83,11 +84,11 @@ fn equal_gains() -> Job {
 /// Two seed leaves offer the same and one may be split.
 fn equal_gains_in_a_seed() -> Job {
     let mut draft = draft(8, 3, pairs());
-    draft.seed = vec![
+    draft.seed = with_depths(vec![
         Record::split(2, 1, 1, 2),
         Record::leaf(1, 5),
         Record::leaf(0, 0),
-    ];
+    ]);
     Job::Deepen(draft.fitted())
 }
 
@@ -154,7 +155,7 @@ fn rowless_leaf() -> Job {
         cost: 77,
         ..Record::leaf(12, -5)
     };
-    draft.seed = vec![Record::split(2, 5, 1, 2), junk, Record::leaf(3, 3)];
+    draft.seed = with_depths(vec![Record::split(2, 5, 1, 2), junk, Record::leaf(3, 3)]);
     Job::Deepen(draft.fitted())
 }
 

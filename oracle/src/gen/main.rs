@@ -10,7 +10,9 @@
 //! demand 3: each learning and deepening as it is, then unpruned with limits k and k + 1.
 
 mod agree;
+mod depths;
 mod draft;
+mod fitted;
 mod kinds;
 mod learn;
 mod logs;
@@ -103,6 +105,7 @@ const FAMILIES: &[Family] = &[
     family("seeds-large", "deepening seeds of about 8,191 nodes, or far deeper than 26", seeds::seeds_large),
     family("seed-faults", "every fault of a seed alone and two at once, deepening and contexts", seeds::seed_faults),
     family("seed-room", "deepening's own bound on count space, a count of 0 included", refusals::seed_room),
+    family("depths", "deepening, contexts, symbol writer and lookup on right depths and wrong", depths::depths),
     family("refusals", "every refusal of learning and deepening alone and two at once", refusals::refusals),
     family("kinds", "deepening, lookup and contexts over nodes of a kind that is neither 0 nor 1", kinds::kinds),
     family("lookup", "lookup, with faults on the way and off it", parts::lookup),
@@ -127,7 +130,7 @@ const FAMILIES: &[Family] = &[
     family("symbol-reads", "the symbol reader on lists of trees, with room and without", symbols::symbol_reads),
     family("unreadable", "the symbol reader on lists of no tree, each way alone", symbols::unreadable),
     family("symbols-large", "symbol writer and reader on trees of 8,191 nodes and just beyond", symbols::symbols_large),
-    family("agree", "63 tiny jobs fit for a proof checker, again and again", agree::agree),
+    family("agree", "86 tiny jobs fit for a proof checker, again and again", agree::agree),
 ];
 
 const USAGE: &str = "usage: gen FAMILY SEED COUNT [FIRST] > jobs, or gen --version > message, \

@@ -2,14 +2,12 @@
 
 use crate::draft::counts_for;
 use std::io::{BufRead, Write};
-use stream::{Damaged, Job, Learning, Messages, PROPERTIES, version, write_message};
+use stream::{Damaged, Job, Learning, Messages, PROPERTIES, STATE, version, write_message};
 
-/// Each learning and deepening as it is, then twice unpruned, with limits k and k + 1; a version message stays in front.
+/// Each learning and deepening as it is, then twice unpruned, with limits k and k + 1, behind the version message.
 pub fn write_pairs(input: &mut impl BufRead, output: &mut impl Write) -> Result<(), Damaged> {
     let mut jobs = Messages::open(input)?;
-    if let Some(state) = jobs.version() {
-        write_message(output, &version(state))?;
-    }
+    write_message(output, &version(STATE))?;
     while let Some(message) = jobs.next_message()? {
         let (wrap, job): (fn(Learning) -> Job, _) = match Job::read(&message)? {
             Job::Learn(job) => (Job::Learn, job),

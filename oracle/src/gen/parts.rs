@@ -5,7 +5,7 @@ use crate::At;
 use crate::draft::{any_fill, any_slack};
 use crate::rng::Rng;
 use crate::rows::{self, EXTREMES};
-use crate::trees::{Shape, Tests, renumbered, tree, with_junk};
+use crate::trees::{Shape, Tests, renumbered, tree, with_depths, with_junk};
 use stream::{ContextsJob, Job, LookupJob, NodeList, PruneJob, Record, SampleJob, Span};
 
 fn any_tree(rng: &mut Rng, leaves: usize, tests: &Tests) -> Vec<Record> {
@@ -36,7 +36,7 @@ pub fn any_word(rng: &mut Rng) -> u32 {
     }
 }
 
-/// Sound trees and spoilt ones. A fault off the way, equal children and more
+/// Sound trees and spoilt ones. A fault off the way, equal children, wrong depths and more
 /// than 8,191 nodes are nothing to lookup.
 pub fn lookup(at: At) -> Job {
     let mut rng = at.rng();
@@ -80,12 +80,13 @@ fn spoil(rng: &mut Rng, nodes: &mut [Record]) {
     let any = rng.word() % count;
     let other = rng.pick(&[0, at as u32, count, count - 1, u32::MAX, any]);
     let node = &mut nodes[at];
-    match rng.below(5) {
+    match rng.below(6) {
         0 => node.prop = rng.pick(&[24, 255]),
         1 => node.pred = rng.pick(&[14, u32::MAX]),
         2 => node.gt = other,
         3 => node.le = other,
-        _ => node.le = node.gt,
+        4 => node.le = node.gt,
+        _ => node.depth = other,
     }
 }
 
@@ -283,13 +284,13 @@ pub fn prune(at: At) -> Job {
 fn prune_by_a_rounding(rng: &mut Rng) -> Job {
     let scale = (1u32 << rng.below(20)) as f32;
     let e = scale / (1u64 << 53) as f32;
-    let mut nodes = vec![
+    let mut nodes = with_depths(vec![
         Record::split(3, 7, 1, 2).with_cost(rng.pick(&[1.0, 2.0, 3.0, 4.0]) * e),
         Record::split(4, 7, 3, 4).with_cost(f32::INFINITY),
         Record::leaf(1, 0).with_cost(-scale),
         Record::leaf(2, 0).with_cost(scale),
         Record::leaf(3, 0).with_cost(e),
-    ];
+    ]);
     if rng.one_in(2) {
         let (gt, le) = (nodes[3], nodes[4]);
         (nodes[3], nodes[4]) = (le, gt);

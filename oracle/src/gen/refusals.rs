@@ -224,6 +224,9 @@ const SEEDS: &[Change] = &[
     Before(|d| d.seed[1].pred = 14),
     Before(|d| d.seed[0].prop = 24),
     Before(|d| d.seed.push(Record::leaf(0, 0))),
+    Before(|d| d.seed[0].depth = 1),
+    Before(|d| d.seed[1].depth = 0),
+    Before(|d| d.seed[2].depth = u32::MAX),
     // A seed that alone decides how long lists must be, and one entry less.
     Before(|d| large_seed(d, 4_000)),
     Before(|d| large_seed(d, 4_096)),

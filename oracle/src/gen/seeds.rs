@@ -1,5 +1,6 @@
 //! Families of deepening jobs.
 
+use crate::depths::DEPTHS;
 use crate::draft::{Draft, any_fill, any_settings, any_slack};
 use crate::logs;
 use crate::rng::Rng;
@@ -45,7 +46,7 @@ pub fn seeds(at: At) -> Job {
 }
 
 /// Seeds at the bound of 8,191 nodes and just beyond, and seeds far deeper
-/// than growth may go.
+/// than growth may go; of one in eight the last node's depth is wrong.
 pub fn seeds_large(at: At) -> Job {
     let mut rng = at.rng();
     let shape = [Shape::Level, Shape::GtChain, Shape::LeChain, Shape::Any][at.index as usize % 4];
@@ -66,13 +67,22 @@ pub fn seeds_large(at: At) -> Job {
     if rng.one_in(2) {
         draft.seed = renumbered(&mut rng, &draft.seed);
     }
+    if rng.one_in(8) {
+        let last = draft.seed.last_mut().expect("a tree has a root");
+        last.depth = rng.pick(&[0, last.depth - 1, last.depth + 1]);
+    }
     draft.deepen(&mut rng)
 }
 
 /// One way to spoil a sound tree; the node that it strikes is drawn.
 pub type Fault = fn(&mut Rng, &mut Vec<Record>);
 
-pub const FAULTS: [Fault; 19] = [
+/// Those of the nodes, then those of their depths.
+pub fn faults() -> Vec<Fault> {
+    [&NODES[..], &DEPTHS].concat()
+}
+
+const NODES: [Fault; 19] = [
     |rng, seed| any_split(rng, seed).prop = 24,
     |rng, seed| any_split(rng, seed).prop = 255,
     |rng, seed| set_child(rng, seed, |node, _| node),
@@ -92,18 +102,21 @@ pub const FAULTS: [Fault; 19] = [
     },
     |rng, seed| any_leaf(rng, seed).pred = 14,
     |rng, seed| any_leaf(rng, seed).pred = u32::MAX,
-    // A node more than the tree has.
-    |_, seed| seed.push(Record::leaf(1, 0)),
+    // A node more than the tree has, whatever its depth.
+    |rng, seed| seed.push(Record::leaf(1, 0).at_depth(rng.pick(&[0, 1, 7]))),
     |_, seed| seed.push(Record::split(0, 0, 1, 2)),
     // A split that forgets its children.
-    |rng, seed| *any_split(rng, seed) = Record::leaf(3, 0),
-    // So does this one, and a late split names one of them on both sides, which
-    // makes that node the child of exactly one split.
     |rng, seed| {
         let split = any_split(rng, seed);
-        let gt = split.gt;
-        *split = Record::leaf(3, 0);
-        seed.push(Record::split(0, 0, gt, gt));
+        *split = Record::leaf(3, 0).at_depth(split.depth);
+    },
+    // So does this one, and a late split at its depth names one of them on both sides,
+    // which makes that node the child of exactly one split.
+    |rng, seed| {
+        let split = any_split(rng, seed);
+        let Record { gt, depth, .. } = *split;
+        *split = Record::leaf(3, 0).at_depth(depth);
+        seed.push(Record::split(0, 0, gt, gt).at_depth(depth));
     },
     // The last node is cut off.
     |_, seed| seed.truncate(seed.len() - 1),
@@ -165,8 +178,9 @@ pub fn to_be_spoilt(rng: &mut Rng) -> Vec<Record> {
 pub fn seed_faults(at: At) -> Job {
     let mut rng = at.rng();
     let mut seed = to_be_spoilt(&mut rng);
-    for fault in alone_then_two(at.index / 2, FAULTS.len()) {
-        FAULTS[fault](&mut rng, &mut seed);
+    let faults = faults();
+    for fault in alone_then_two(at.index / 2, faults.len()) {
+        faults[fault](&mut rng, &mut seed);
     }
     let count = match rng.below(16) {
         0 => 0,

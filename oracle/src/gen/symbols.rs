@@ -6,7 +6,7 @@ use crate::kinds::any_kind;
 use crate::parts::any_word;
 use crate::rng::Rng;
 use crate::rows;
-use crate::seeds::{FAULTS, to_be_spoilt};
+use crate::seeds::{Fault, faults, to_be_spoilt};
 use crate::trees::{Shape, Tests, learned, preordered, renumbered, tree, with_junk};
 use crate::{At, alone_then_two};
 use stream::{Job, NodeList, ReadSymbolsJob, Record, Symbol, WriteSymbolsJob};
@@ -128,28 +128,29 @@ fn count_beyond_given(job: &mut WriteSymbolsJob, more: u32) {
 /// Rooms of trees at fault, of which three are too little: 8 comes before 7.
 const FAULTY_ROOMS: [Room; 5] = [EXACT, (NONE, NONE), (9, 3), (-1, 0), (0, -1)];
 
-/// Each fault of a seed and each wrong count alone among the first 26 jobs, then each two at once, all among the first
-/// 702, with five sorts of room.
+/// Each fault of a seed and each wrong count alone among the first 40 jobs, then each two at once, all among the first
+/// 1,640, with five sorts of room.
 pub fn symbol_faults(at: At) -> Job {
     let mut rng = at.rng();
     let turn = at.index as usize;
-    let mut chosen = alone_then_two(at.index, FAULTS.len() + COUNTS.len());
+    let faults = faults();
+    let mut chosen = alone_then_two(at.index, faults.len() + COUNTS.len());
     chosen.sort_unstable();
-    let (faults, counts): (Vec<_>, Vec<_>) = chosen.into_iter().partition(|&n| n < FAULTS.len());
-    let nodes = spoilt(&mut rng, faults);
+    let (struck, counts): (Vec<_>, Vec<_>) = chosen.into_iter().partition(|&n| n < faults.len());
+    let nodes = spoilt(&mut rng, struck.into_iter().map(|n| faults[n]));
     let room = FAULTY_ROOMS[turn % FAULTY_ROOMS.len()];
     let mut job = writing(&mut rng, nodes, room);
     for count in counts {
-        COUNTS[count - FAULTS.len()](&mut job);
+        COUNTS[count - faults.len()](&mut job);
     }
     Job::WriteSymbols(job)
 }
 
 /// A tree with these faults.
-fn spoilt(rng: &mut Rng, faults: Vec<usize>) -> Vec<Record> {
+fn spoilt(rng: &mut Rng, faults: impl Iterator<Item = Fault>) -> Vec<Record> {
     let mut nodes = to_be_spoilt(rng);
     for fault in faults {
-        FAULTS[fault](rng, &mut nodes);
+        fault(rng, &mut nodes);
     }
     nodes
 }

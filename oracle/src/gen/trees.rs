@@ -51,9 +51,11 @@ pub fn tree(rng: &mut Rng, leaves: usize, shape: Shape, tests: &Tests) -> Vec<Re
         let leaf: usize = open.remove(at);
         let gt = nodes.len();
         let (property, value) = tests.draw(rng);
-        nodes[leaf] = Record::split(property, value, gt as u32, gt as u32 + 1);
-        nodes.push(any_leaf(rng));
-        nodes.push(any_leaf(rng));
+        let depth = nodes[leaf].depth;
+        let split = Record::split(property, value, gt as u32, gt as u32 + 1);
+        nodes[leaf] = split.at_depth(depth);
+        nodes.push(any_leaf(rng).at_depth(depth + 1));
+        nodes.push(any_leaf(rng).at_depth(depth + 1));
         open.extend([gt, gt + 1]);
     }
     nodes
@@ -62,6 +64,18 @@ pub fn tree(rng: &mut Rng, leaves: usize, shape: Shape, tests: &Tests) -> Vec<Re
 fn any_leaf(rng: &mut Rng) -> Record {
     let offset = rng.pick(&[0, 0, 1, -7, i32::MIN, i32::MAX]);
     Record::leaf(rng.below(14) as u32, offset)
+}
+
+/// These nodes, each with its depth: a tree whose splits stand before their children.
+pub fn with_depths(mut nodes: Vec<Record>) -> Vec<Record> {
+    for at in 0..nodes.len() {
+        let Record { gt, le, depth, .. } = nodes[at];
+        if nodes[at].is_split() {
+            nodes[gt as usize].depth = depth + 1;
+            nodes[le as usize].depth = depth + 1;
+        }
+    }
+    nodes
 }
 
 /// The same tree with its nodes in another order, parents still before their
@@ -120,16 +134,16 @@ pub fn learned(rng: &mut Rng, leaves: usize, rows: &Rows) -> Vec<Record> {
             continue;
         };
         let gt = nodes.len();
-        let Record {
-            cost, pred, offset, ..
-        } = nodes[node];
+        let leaf = nodes[node];
         nodes[node] = Record {
-            cost,
-            pred,
-            offset,
+            cost: leaf.cost,
+            pred: leaf.pred,
+            offset: leaf.offset,
+            depth: leaf.depth,
             ..Record::split(property as u32, value, gt as u32, gt as u32 + 1)
         };
-        nodes.extend([evaluated(rng), evaluated(rng)]);
+        let below = |record: Record| record.at_depth(leaf.depth + 1);
+        nodes.extend([below(evaluated(rng)), below(evaluated(rng))]);
         let above = |&row: &usize| rows.properties[row][property] > value;
         let (above, below) = own.into_iter().partition(above);
         open.extend([(gt, above), (gt + 1, below)]);
@@ -165,6 +179,7 @@ pub fn with_junk(rng: &mut Rng, nodes: &mut [Record]) {
             cost: rng.word(),
             pred: rng.below(30) as u32,
             offset: rng.word() as i32,
+            depth: node.depth,
         };
         *node = if node.is_split() {
             Record {

@@ -1,7 +1,8 @@
-//! What document 01 adds to a learned tree: settling, and what each lent list
-//! reads at the end. Nothing of this is in the original.
+//! What documents 01 and 02 add to a learned tree: settling, depths, and what
+//! each lent list reads at the end. Nothing of this is in the original.
 
 use crate::coder_scratch::CoderScratch;
+use crate::depths;
 use crate::ma_tree::{MaSamples, hooks};
 use crate::refusals::Refusal;
 use stream::{Learned, Learning, Record, Runs, Span};
@@ -37,7 +38,8 @@ impl Exit {
         if job.settings.settling && job.settings.modal_offsets {
             self.settle(scratch);
         }
-        let Self { tree, samples } = self;
+        let Self { mut tree, samples } = self;
+        depths::store(&mut tree.nodes);
         let is_leaf = |node: &&Record| !node.is_split();
         Learned {
             number: 0,

@@ -1,7 +1,7 @@
 //! Document 01's bench table, as answers of the oracle.
 
 use crate::coder_scratch::CoderScratch;
-use crate::operations;
+use crate::{operations, plain};
 use stream::*;
 
 fn answer(job: Job) -> Answer {
@@ -10,34 +10,14 @@ fn answer(job: Job) -> Answer {
 
 /// `rows` rows of zeros with just enough room, predictor 5 alone allowed.
 fn learning(rows: usize, alphabet: u32) -> Learning {
-    Learning {
-        settings: Settings {
-            alphabet,
-            limit: 1,
-            split_cost: 0.0,
-            price: 0.0,
-            smallest_node: 0,
-            side_predictors: 0,
-            candidates: 0,
-            weighted: false,
-            allowed: 1 << 5,
-            modal_offsets: true,
-            settling: false,
-        },
-        properties: vec![0; PROPERTIES * rows],
-        tokens: vec![0; PREDICTORS * rows],
-        residuals: vec![0; rows],
-        logarithms: vec![0.0; rows + 1],
-        seed_count: 0,
-        nodes: NodeList {
-            entries: 1,
-            given: Vec::new(),
-        },
-        span_entries: 1,
-        queue_entries: 1,
-        count_entries: 4_096 + 56 * alphabet,
-        fill: 7,
-    }
+    let mut job = plain::learning(rows, alphabet, 1);
+    job.settings.side_predictors = 0;
+    job.settings.candidates = 0;
+    job.settings.allowed = 1 << 5;
+    job.settings.modal_offsets = true;
+    job.logarithms.fill(0.0);
+    job.count_entries = 4_096 + 56 * alphabet;
+    job
 }
 
 fn learned(job: Learning) -> Learned {
@@ -172,8 +152,8 @@ fn pruning() {
     let pruned = |price| {
         let nodes = vec![
             Record::split(0, 0, 1, 2).with_cost(10.0),
-            Record::leaf(0, 0).with_cost(4.0),
-            Record::leaf(0, 0).with_cost(5.0),
+            Record::leaf(0, 0).with_cost(4.0).at_depth(1),
+            Record::leaf(0, 0).with_cost(5.0).at_depth(1),
         ];
         let spans = vec![Span::BLANK; 3];
         match answer(Job::Prune(PruneJob {
@@ -193,10 +173,12 @@ fn pruning() {
 fn five_nodes() -> Vec<Record> {
     vec![
         Record::split(0, 0, 1, 2).with_cost(f32::INFINITY),
-        Record::split(0, 0, 3, 4).with_cost(f32::INFINITY),
-        Record::leaf(0, 2),
-        Record::leaf(0, 3),
-        Record::leaf(0, 4),
+        Record::split(0, 0, 3, 4)
+            .with_cost(f32::INFINITY)
+            .at_depth(1),
+        Record::leaf(0, 2).at_depth(1),
+        Record::leaf(0, 3).at_depth(2),
+        Record::leaf(0, 4).at_depth(2),
     ]
 }
 

@@ -7,6 +7,7 @@ mod adaptive_quant;
 mod additions;
 mod bit_writer;
 mod coder_scratch;
+mod depths;
 mod entropy;
 mod lossless;
 #[allow(dead_code, unused_imports)]
@@ -23,7 +24,11 @@ mod util;
 #[cfg(test)]
 mod bench;
 #[cfg(test)]
+mod plain;
+#[cfg(test)]
 mod scores;
+#[cfg(test)]
+mod stored_depths;
 
 use coder_scratch::CoderScratch;
 use std::io::{self, BufReader, BufWriter, Write};

@@ -1,9 +1,10 @@
 //! From a job to its answer: a refusal, or the original's answer with what
-//! document 01 adds to it.
+//! documents 01 and 02 add to it.
 
 use crate::adaptive_quant;
 use crate::additions::{Exit, refused_lists};
 use crate::coder_scratch::CoderScratch;
+use crate::depths;
 use crate::entropy::{pack_signed, uint_encode};
 use crate::lossless::leaf_contexts;
 use crate::ma_tree::{MaProperties, MaSamples, hooks};
@@ -186,6 +187,7 @@ fn prune(job: PruneJob) -> Result<Pruned, Damaged> {
     let (mut nodes, mut spans) = (job.nodes, job.spans);
     let written = nodes.len();
     let estimated_bits = hooks::prune(&mut nodes, &mut spans, job.price);
+    depths::store(&mut nodes);
     let node_count = nodes.len() as u32;
     nodes.resize(written, Record::BLANK);
     spans.resize(written, Span::BLANK);

@@ -197,23 +197,35 @@ pub(crate) fn fault_of_seed(seed: &[Record]) -> Option<usize> {
     (0..seed.len()).find(|&node| {
         node_at_fault(seed, node)
             || equal_children(&seed[node])
-            || (node != 0 && parents[node] != 1)
+            || !stands_right(seed, node, &parents[node])
     })
 }
 
-/// How many splits each node is a child of. A split counts once, also if both
+/// The splits that each node is a child of. A split counts once, also if both
 /// of its sides name the node, and whatever else is wrong with it.
-fn parents_of(seed: &[Record]) -> Vec<u32> {
-    let mut parents = vec![0; seed.len()];
-    for split in seed.iter().filter(|node| node.is_split()) {
+fn parents_of(seed: &[Record]) -> Vec<Vec<usize>> {
+    let mut parents = vec![Vec::new(); seed.len()];
+    let splits = seed.iter().enumerate().filter(|(_, node)| node.is_split());
+    for (at, split) in splits {
         let le = (!equal_children(split)).then_some(split.le);
         for child in [Some(split.gt), le].into_iter().flatten() {
             if let Some(parents) = parents.get_mut(child as usize) {
-                *parents += 1;
+                parents.push(at);
             }
         }
     }
     parents
+}
+
+/// Node 0 stores depth 0, whoever its parents are. Any other has one parent, wherever that stands, and stores one more
+/// than it, with no running round at 2^32: no number is one more than the last.
+fn stands_right(seed: &[Record], node: usize, parents: &[usize]) -> bool {
+    let depth = |at: usize| u64::from(seed[at].depth);
+    match parents {
+        _ if node == 0 => depth(node) == 0,
+        &[parent] => depth(node) == depth(parent) + 1,
+        _ => false,
+    }
 }
 
 fn equal_children(node: &Record) -> bool {

@@ -2,6 +2,7 @@
 //! this one is written after libjxl's `DecodeTree` (lib/jxl/modular/encoding/dec_ma.cc of 0.7.0), with the request's
 //! bounds for its own, and nothing of its `ValidateTree`.
 
+use crate::depths;
 use crate::entropy::Token;
 use crate::lossless::tree_symbols;
 use crate::ma_tree::hooks;
@@ -93,6 +94,7 @@ fn decode_tree(symbols: &[Symbol]) -> Option<Vec<Record>> {
         tree.push(Record::split(property, value, gt, le).with_cost(f32::INFINITY));
         to_decode += 2;
     }
+    depths::store(&mut tree);
     source.0.is_empty().then_some(tree)
 }
 

@@ -305,10 +305,11 @@ fn node(record: &Record) -> String {
         le,
         pred,
         offset,
+        depth,
         ..
     } = record;
     let beside = format!(
-        "cost {}, predictor {pred}, offset {offset}",
+        "cost {}, predictor {pred}, offset {offset}, depth {depth}",
         f32::from_bits(record.cost)
     );
     match record.kind {

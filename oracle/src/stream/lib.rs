@@ -15,7 +15,7 @@ pub use job::{ContextsJob, Job, Learning, LookupJob, PruneJob, SampleJob, Settin
 pub use record::{NodeList, Record, Span};
 pub use score::{ScoreJob, Scored};
 pub use symbol::{ReadSymbolsJob, Symbol, SymbolsRead, SymbolsWritten, WriteSymbolsJob};
-pub use version::{Messages, STATE, version};
+pub use version::{Messages, STATE, VERSION, version};
 pub use wire::{Damaged, Message, read_message, write_message};
 
 /// Properties of a row.

@@ -1,8 +1,8 @@
-//! A node with what stands beside it, its span, and the lent list of nodes.
+//! A node with what stands beside it and its depth, its span, and the lent list of nodes.
 
 use crate::wire::{Reader, Result, Wire, damaged, wire_struct};
 
-/// One node and what stands beside it. Kind and cost are kept as they travel, the
+/// One node, what stands beside it, and its depth. Kind and cost are kept as they travel, the
 /// cost as its bit pattern: unchanged entries must come back bit for bit, whatever
 /// they hold.
 #[derive(Clone, Copy, Debug, Eq, PartialEq)]
@@ -16,6 +16,8 @@ pub struct Record {
     pub cost: u32,
     pub pred: u32,
     pub offset: i32,
+    /// How many splits stand above it.
+    pub depth: u32,
 }
 
 wire_struct!(Record {
@@ -26,7 +28,8 @@ wire_struct!(Record {
     le,
     cost,
     pred,
-    offset
+    offset,
+    depth
 });
 
 impl Record {
@@ -51,6 +54,7 @@ impl Record {
             cost: 0,
             pred,
             offset,
+            depth: 0,
         }
     }
 
@@ -64,6 +68,7 @@ impl Record {
             cost: 0,
             pred: 0,
             offset: 0,
+            depth: 0,
         }
     }
 
@@ -72,6 +77,10 @@ impl Record {
             cost: cost.to_bits(),
             ..self
         }
+    }
+
+    pub const fn at_depth(self, depth: u32) -> Self {
+        Self { depth, ..self }
     }
 
     /// What an entry holds beforehand where the job gives none.
@@ -85,6 +94,7 @@ impl Record {
             cost: v & 0x3fff_ffff,
             pred: v % 14,
             offset: v as i32,
+            depth: v,
         }
     }
 }
@@ -146,5 +156,47 @@ impl Wire for NodeList {
     fn write(&self, to: &mut Vec<u8>) {
         self.entries.write(to);
         self.given.write(to);
+    }
+}
+
+#[cfg(test)]
+mod tests {
+    use super::*;
+
+    /// Nine words, of which the depth is the last.
+    #[test]
+    fn a_record_travels_as_nine_words() {
+        let leaf = Record::leaf(5, -1).with_cost(1.0).at_depth(26);
+        let split = Record::split(23, -2, 7, 9).at_depth(u32::MAX);
+        let list = NodeList {
+            entries: 4,
+            given: vec![leaf, split],
+        };
+        let words: [&[u32]; 3] = [
+            &[4, 2],
+            &[0, 0, 0, 0, 0, 0x3f80_0000, 5, u32::MAX, 26],
+            &[1, 23, u32::MAX - 1, 7, 9, 0, 0, 0, u32::MAX],
+        ];
+        let words = words.concat();
+        let mut bytes = Vec::new();
+        list.write(&mut bytes);
+        let expected: Vec<u8> = words.iter().flat_map(|word| word.to_le_bytes()).collect();
+        assert_eq!(bytes, expected);
+        let read: NodeList = Reader::new(&bytes).get().expect("a sound list");
+        assert_eq!(read, list);
+    }
+
+    /// Entries that a job does not give hold v, their number and the fill, in each part as far as it goes.
+    #[test]
+    fn entries_hold_their_pattern() {
+        let list = NodeList {
+            entries: 3,
+            given: vec![Record::leaf(1, 0)],
+        };
+        let whole = list.whole(u32::MAX);
+        let depths: Vec<u32> = whole.iter().map(|record| record.depth).collect();
+        assert_eq!(depths, [0, 0, 1]);
+        assert_eq!(list.whole(70)[2], Record::pattern(72));
+        assert_eq!(Record::pattern(72).depth, 72);
     }
 }

@@ -140,7 +140,7 @@ mod tests {
             nodes: vec![Record::leaf(5, -1)],
         });
         let message = answer.message();
-        let record = [0, 0, 0, 0, 0, 0, 5, u32::MAX];
+        let record = [0, 0, 0, 0, 0, 0, 5, u32::MAX, 0];
         travels(&message, 33, &[&[0, 0, 1, 1][..], &record].concat());
         assert_eq!(Answer::read(&message).expect("a sound answer"), answer);
     }
@@ -159,7 +159,7 @@ mod tests {
             queue_entries: 3,
         });
         let message = job.message();
-        let record = [0, 0, 0, 0, 0, 0, 5, u32::MAX];
+        let record = [0, 0, 0, 0, 0, 0, 5, u32::MAX, 0];
         travels(
             &message,
             32,
@@ -197,5 +197,6 @@ mod tests {
         };
         assert_eq!((first.kind, first.prop, first.pred), (1, 1, 11));
         assert_eq!((second.kind, second.prop, second.val), (0, 2, 26));
+        assert_eq!((first.depth, second.depth), (25, 26));
     }
 }

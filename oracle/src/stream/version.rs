@@ -5,9 +5,10 @@ use crate::wire::{Message, Reader, Result, damaged, read_message, write_message}
 use std::io::{Read, Write};
 
 /// The state of this format: the base with so many of the requests that came after it.
-pub const STATE: u32 = 3;
+pub const STATE: u32 = 4;
 
-const VERSION: u32 = 30;
+/// The kind of a version message.
+pub const VERSION: u32 = 30;
 
 /// A version message; job and answer have one form.
 pub fn version(state: u32) -> Message {
@@ -17,66 +18,47 @@ pub fn version(state: u32) -> Message {
     }
 }
 
-/// The messages of a stream behind its version message, if it has one.
+/// The messages of a stream behind its version message.
 pub struct Messages<R> {
     input: R,
-    version: Option<u32>,
-    /// The first message, where it is none.
-    first: Option<Message>,
 }
 
 impl<R: Read> Messages<R> {
     /// A stream to be read: its form must be this one.
-    pub fn open(input: R) -> Result<Self> {
-        let messages = Self::of_any_state(input)?;
-        match messages.version {
-            Some(state) if state != STATE => {
-                damaged(format!("a stream of state {state}, not {STATE}"))
-            }
-            _ => Ok(messages),
+    pub fn open(mut input: R) -> Result<Self> {
+        match opening(&mut input)? {
+            STATE => Ok(Self { input }),
+            other => damaged(format!("a stream of state {other}, not {STATE}")),
         }
     }
 
-    /// Jobs to be answered: a version message is answered at once. `None` if the stream is of another state, of
+    /// Jobs to be answered: the version message is answered at once. `None` if the stream is of another state, of
     /// which nothing more is to be answered.
-    pub fn greet(input: R, output: &mut impl Write) -> Result<Option<Self>> {
-        let messages = Self::of_any_state(input)?;
-        let Some(asked) = messages.version else {
-            return Ok(Some(messages));
-        };
+    pub fn greet(mut input: R, output: &mut impl Write) -> Result<Option<Self>> {
+        let asked = opening(&mut input)?;
         write_message(output, &version(STATE))?;
         output.flush()?;
-        Ok((asked == STATE).then_some(messages))
-    }
-
-    fn of_any_state(mut input: R) -> Result<Self> {
-        let (version, first) = match read_message(&mut input)? {
-            Some(message) if message.kind == VERSION => (Some(state_of(&message)?), None),
-            first => (None, first),
-        };
-        Ok(Self {
-            input,
-            version,
-            first,
-        })
-    }
-
-    /// The state that the version message names; without one a stream is of state 0, none of whose forms changed yet.
-    pub fn version(&self) -> Option<u32> {
-        self.version
+        Ok((asked == STATE).then_some(Self { input }))
     }
 
     /// The next message, or `None` where the stream ends between two.
     pub fn next_message(&mut self) -> Result<Option<Message>> {
-        if let Some(first) = self.first.take() {
-            return Ok(Some(first));
-        }
         match read_message(&mut self.input)? {
             Some(message) if message.kind == VERSION => {
                 damaged("a version message that is not the first")
             }
             next => Ok(next),
         }
+    }
+}
+
+/// The state that a stream's version message names. Without one it is of state 0, whose records are shorter.
+fn opening(input: &mut impl Read) -> Result<u32> {
+    match read_message(input)? {
+        Some(message) if message.kind == VERSION => state_of(&message),
+        _ => damaged(format!(
+            "a stream without a version message, which is of state 0, not {STATE}"
+        )),
     }
 }
 
@@ -90,6 +72,7 @@ fn state_of(message: &Message) -> Result<u32> {
 #[cfg(test)]
 mod tests {
     use super::*;
+    use crate::Damaged;
 
     /// Kinds 6 and 7 with empty lists.
     const JOBS: [u32; 2] = [6, 7];
@@ -100,6 +83,11 @@ mod tests {
             write_message(&mut bytes, &message).expect("a list has room");
         }
         bytes
+    }
+
+    /// The version message, then these.
+    fn opened(messages: impl Iterator<Item = Message>) -> Vec<u8> {
+        stream([version(STATE)].into_iter().chain(messages))
     }
 
     fn jobs() -> impl Iterator<Item = Message> {
@@ -118,14 +106,12 @@ mod tests {
 
     #[test]
     fn a_version_message_is_none_of_the_jobs() {
-        for opening in [None, Some(version(STATE))] {
-            let has_version = opening.is_some();
-            let bytes = stream(opening.into_iter().chain(jobs()));
-            let messages = Messages::open(&bytes[..]).expect("a sound stream");
-            assert_eq!(messages.version(), has_version.then_some(STATE));
-            assert_eq!(kinds(messages), JOBS);
-        }
-        assert!(kinds(Messages::open(&[][..]).expect("an empty stream")).is_empty());
+        let bytes = opened(jobs());
+        let messages = Messages::open(&bytes[..]).expect("a sound stream");
+        assert_eq!(kinds(messages), JOBS);
+        let bytes = opened(std::iter::empty());
+        let messages = Messages::open(&bytes[..]).expect("a sound stream");
+        assert!(kinds(messages).is_empty());
     }
 
     #[test]
@@ -138,18 +124,29 @@ mod tests {
             assert_eq!(left.map(kinds), (asked == STATE).then(|| JOBS.to_vec()));
             assert_eq!(Messages::open(&bytes[..]).is_ok(), asked == STATE);
         }
-        let bytes = stream(jobs());
-        let mut answers = Vec::new();
-        let left = Messages::greet(&bytes[..], &mut answers).expect("a sound stream");
-        assert_eq!((left.map(kinds), answers.len()), (Some(JOBS.to_vec()), 0));
+    }
+
+    /// Nothing is answered, and what is wrong is said.
+    #[test]
+    fn a_stream_without_a_version_message_is_of_another_state() {
+        for bytes in [stream(jobs()), Vec::new()] {
+            let mut answers = Vec::new();
+            let opened = Messages::open(&bytes[..]).err();
+            let greeted = Messages::greet(&bytes[..], &mut answers).err();
+            for said in [opened, greeted] {
+                let Damaged(what) = said.expect("no stream of this state");
+                assert!(what.contains("without a version message"), "{what}");
+            }
+            assert!(answers.is_empty());
+        }
     }
 
     #[test]
     fn a_version_message_is_the_first_and_one_word() {
-        let twice = stream([version(STATE), version(STATE)]);
+        let twice = opened([version(STATE)].into_iter());
         let mut messages = Messages::open(&twice[..]).expect("a first message");
         assert!(messages.next_message().is_err());
-        let late = stream(jobs().chain([version(STATE)]));
+        let late = opened(jobs().chain([version(STATE)]));
         let mut messages = Messages::open(&late[..]).expect("a first message");
         let taken = [(); 3].map(|()| messages.next_message().is_ok());
         assert_eq!(taken, [true, true, false]);

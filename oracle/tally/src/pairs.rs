@@ -79,7 +79,7 @@ fn differ_by_one_split(job: &Learning, first: &Learned, second: &Learned) -> Che
         "the leaf count is not 1 more",
     )?;
     let parent = the_split(first, second, count)?;
-    new_leaves(second, count, first.spans[parent])?;
+    new_leaves(second, count, parent, first.spans[parent])?;
     estimate(first, second, parent, count)?;
     rows(job, first, second, parent)
 }
@@ -97,7 +97,7 @@ fn the_split(first: &Learned, second: &Learned, count: usize) -> Checked<usize> 
         parent < count && !was.is_split(),
         format_args!("entry {parent}, which changed, was no leaf"),
     )?;
-    // What stands beside the node stays: its cost, predictor and offset.
+    // What stands beside the node stays, its cost, predictor and offset; and so does its depth.
     let due = Record {
         kind: Record::SPLIT,
         prop: is.prop,
@@ -117,12 +117,12 @@ fn the_split(first: &Learned, second: &Learned, count: usize) -> Checked<usize> 
     }
 }
 
-/// The two leaves behind the first answer's nodes share the span, gt first.
-fn new_leaves(second: &Learned, count: usize, parent: Span) -> Checked {
+/// The two leaves behind the first answer's nodes lie one deeper than the split and share its span, gt first.
+fn new_leaves(second: &Learned, count: usize, parent: usize, shared: Span) -> Checked {
     for node in [second.nodes[count], second.nodes[count + 1]] {
         let due = Record {
             cost: node.cost,
-            ..Record::leaf(node.pred, node.offset)
+            ..Record::leaf(node.pred, node.offset).at_depth(second.nodes[parent].depth + 1)
         };
         ensure(
             node == due && node.pred <= 13,
@@ -130,14 +130,14 @@ fn new_leaves(second: &Learned, count: usize, parent: Span) -> Checked {
         )?;
     }
     let (gt, le) = (second.spans[count], second.spans[count + 1]);
-    let is_shared = gt.first == parent.first
+    let is_shared = gt.first == shared.first
         && gt.first <= gt.end
         && gt.end == le.first
         && le.first <= le.end
-        && le.end == parent.end;
+        && le.end == shared.end;
     ensure(
         is_shared,
-        format_args!("{gt:?} and {le:?} do not share {parent:?}"),
+        format_args!("{gt:?} and {le:?} do not share {shared:?}"),
     )
 }
 

@@ -187,9 +187,10 @@ fn prune(job: &PruneJob, answer: &Pruned) -> Checked {
         "not as many entries as before",
     )?;
     ensure(
-        count <= answer.nodes.len() && rules::is_sound(&answer.nodes[..count]),
+        count <= answer.nodes.len() && rules::is_tree(&answer.nodes[..count]),
         "no sound tree",
     )?;
+    rules::depths_are_stored(&answer.nodes[..count])?;
     ensure(
         answer.nodes[count..]
             .iter()
@@ -199,7 +200,7 @@ fn prune(job: &PruneJob, answer: &Pruned) -> Checked {
                 .all(|span| *span == Span::BLANK),
         "a vacated entry is not blank",
     )?;
-    let beside = |node: &Record, span: &Span| (node.cost, node.pred, node.offset, *span);
+    let beside = |n: &Record, span: &Span| (n.cost, n.pred, n.offset, n.depth, *span);
     let old: Vec<_> = job
         .nodes
         .iter()

@@ -1,7 +1,7 @@
 //! The few rules of document 01 that the promises speak of, written down once
 //! more and plainly.
 
-use crate::Checked;
+use crate::{Checked, ensure};
 use std::collections::BTreeMap;
 use std::ops::Range;
 use stream::{Learned, Learning, PREDICTORS, PROPERTIES, Record, Span};
@@ -64,8 +64,13 @@ pub fn mode(residuals: &[i32]) -> i32 {
     *commonest.expect("there are residuals").0
 }
 
-/// Whether nodes make up one tree, as document 01 wants it of a seed.
+/// Whether nodes make up one tree with its depths, as documents 01 and 02 want it of a seed.
 pub fn is_sound(nodes: &[Record]) -> bool {
+    is_tree(nodes) && depths_are_stored(nodes).is_ok()
+}
+
+/// Whether nodes make up one tree, whatever depths they store.
+pub fn is_tree(nodes: &[Record]) -> bool {
     let mut parents = vec![0; nodes.len()];
     for (i, node) in nodes.iter().enumerate() {
         if !node.is_split() {
@@ -82,6 +87,23 @@ pub fn is_sound(nodes: &[Record]) -> bool {
         parents[le] += 1;
     }
     nodes.len() % 2 == 1 && parents[0] == 0 && parents[1..].iter().all(|&count| count == 1)
+}
+
+/// "Equal to the distance from the root": each node of a tree stores how many splits stand above it.
+pub fn depths_are_stored(tree: &[Record]) -> Checked {
+    let mut due = vec![0; tree.len()];
+    for (at, node) in tree.iter().enumerate() {
+        let (stored, due_here) = (node.depth, due[at]);
+        ensure(
+            stored == due_here,
+            format_args!("node {at} stores depth {stored}, and not {due_here}"),
+        )?;
+        if node.is_split() {
+            due[node.gt as usize] = due_here + 1;
+            due[node.le as usize] = due_here + 1;
+        }
+    }
+    Ok(())
 }
 
 /// The leaf that a row's lookup reaches; what is wrong on the way, if something is.

@@ -44,13 +44,20 @@ fn refused(job: &Learning, answer: &Learned) -> Checked {
 /// Spans hold their rows after every run; of tokens demand 3 says nothing where a tree was pruned without settling.
 fn accepted(job: &Learning, answer: &Learned) -> Checked {
     ensure(answer.place == 0, "accepted, yet a place is named")?;
+    let nodes = job.nodes.whole(job.fill);
+    let seed = nodes.get(..job.seed_count as usize);
+    ensure(
+        job.seed_count == 0 || seed.is_some_and(rules::is_sound),
+        "accepted, yet the seed is no sound tree",
+    )?;
     ensure(
         answer.queue == Runs::of(0, job.queue_entries)
             && answer.counts == Runs::of(0, job.count_entries),
         "space does not hold zeros",
     )?;
     let tree = tree(answer)?;
-    ensure(rules::is_sound(tree), "no sound tree")?;
+    ensure(rules::is_tree(tree), "no sound tree")?;
+    rules::depths_are_stored(tree)?;
     let leaves = tree.iter().filter(|node| !node.is_split()).count();
     ensure(
         leaves == answer.leaf_count as usize,

@@ -117,7 +117,9 @@ pub fn tree_of(symbols: &[Symbol]) -> Option<Vec<Record>> {
             Some((parent, false)) => tree[parent].le = number as u32,
             None => {}
         }
+        let depth = place.map_or(0, |(parent, _)| tree[parent].depth + 1);
         let (node, behind) = first_node(left)?;
+        let node = node.at_depth(depth);
         if node.is_split() {
             due.extend([Some((number, true)), Some((number, false))]);
         }

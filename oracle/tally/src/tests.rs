@@ -21,8 +21,9 @@ fn bytes(messages: impl Iterator<Item = Message>) -> Vec<u8> {
 
 /// What is said of these jobs and answers.
 fn told(jobs: &[Job], answers: &[Answer]) -> Result<Tally, String> {
-    let jobs = bytes(jobs.iter().map(Job::message));
-    let answers = bytes(answers.iter().map(Answer::message));
+    let opened = || [version(STATE)].into_iter();
+    let jobs = bytes(opened().chain(jobs.iter().map(Job::message)));
+    let answers = bytes(opened().chain(answers.iter().map(Answer::message)));
     tally(&mut &jobs[..], &mut &answers[..]).map_err(|Damaged(what)| what)
 }
 
@@ -104,9 +105,15 @@ const BROKEN_RUNS: &[Break] = &[
     (|a| a.nodes[0].le = 0, "no sound tree"),
     (|a| a.nodes[0].prop = 24, "no sound tree"),
     (|a| a.nodes[2].pred = 14, "no sound tree"),
+    (|a| a.nodes[0].depth = 1, "node 0 stores depth 1, and not 0"),
+    (|a| a.nodes[1].depth = 0, "node 1 stores depth 0, and not 1"),
+    (|a| a.nodes[2].depth = 2, "node 2 stores depth 2, and not 1"),
+    (|a| a.nodes[2].depth = u32::MAX, "node 2 stores depth 4294967295, and not 1"),
     (|a| a.nodes[2].kind = 7, "a leaf has junk"),
     (|a| a.nodes[2].val = 1, "a leaf has junk"),
     (|a| a.nodes[5].cost += 1, "an entry past those written changed"),
+    (|a| a.nodes[5].depth += 1, "an entry past those written changed"),
+    (|a| a.nodes[3].depth = 0, "an entry past those written changed"),
     (|a| a.spans[3].end += 1, "an entry past those written changed"),
     (|a| a.nodes[3] = Record::BLANK, "an entry was vacated without pruning"),
     (|a| _ = a.nodes.pop(), "the lists of nodes and spans have other lengths"),
@@ -169,13 +176,20 @@ fn broken_pairs_are_refused() {
     }
 }
 
-/// The second answer's spans would be refused without the first too, so the pair's own rule is asked.
+/// The second answer's spans and depths would be refused without the first too, so the pair's own rule is asked.
 #[test]
-fn broken_spans_of_pairs_are_refused() {
+fn broken_spans_and_depths_of_pairs_are_refused() {
     const BROKEN: &[Break] = &[
         (|a| a.spans[0].first = 1, "k + 1: span entry 0 changed"),
         (|a| a.spans[2].end = 3, "k + 1: span entry 2 changed"),
         (|a| a.spans.swap(3, 4), "do not share"),
+        (
+            |a| a.nodes[0].depth = 1,
+            "k + 1: entries [0, 2] of the node list",
+        ),
+        (|a| a.nodes[2].depth = 2, "k + 1: leaf 2 became Record"),
+        (|a| a.nodes[3].depth = 1, "a new leaf is Record"),
+        (|a| a.nodes[4].depth = 3, "a new leaf is Record"),
     ];
     let run = |limit, answer| Run {
         deepens: false,
@@ -312,6 +326,24 @@ fn pruning_leaves_tokens_stale_unless_it_settles() {
     kept.nodes[2] = two_leaves().nodes[2];
     let why = "an entry past those written changed";
     refuses(&jobs, &learned([folded(), kept]), why);
+    let mut deep = settled();
+    deep.nodes[2].depth = 1;
+    refuses(&jobs, &learned([folded(), deep]), why);
+}
+
+/// Where a seed is taken that should be refused, that is said, whatever became of it.
+#[test]
+fn acceptances_without_a_seed_are_refused() {
+    const SPOILT: &[fn(&mut Record)] = &[|root| root.depth = 1, |root| root.pred = 14];
+    let why = "accepted, yet the seed is no sound tree";
+    for spoil in SPOILT {
+        let mut job = deepening(2);
+        spoil(&mut job.nodes.given[0]);
+        refuses(&[Job::Deepen(job)], &[Answer::Deepened(two_leaves())], why);
+    }
+    let mut job = deepening(2);
+    job.seed_count = 7;
+    refuses(&[Job::Deepen(job)], &[Answer::Deepened(two_leaves())], why);
 }
 
 #[test]
@@ -320,6 +352,7 @@ fn a_refusal_that_changes_something_is_refused() {
         (|a| a.node_count = 1, "a refusal says more"),
         (|a| a.flat_bits = -0.0, "a refusal says more"),
         (|a| a.nodes[5].kind = 9, "refused, nodes changed"),
+        (|a| a.nodes[0].depth = 0, "refused, nodes changed"),
         (|a| a.spans[0].end = 0, "refused, spans changed"),
         (|a| a.tokens[0] = 0, "refused, rows changed"),
         (|a| a.properties.swap(1, 25), "refused, rows changed"),
@@ -335,7 +368,7 @@ fn a_refusal_that_changes_something_is_refused() {
     }
 }
 
-/// A version message is no job, and its answer no answer to one.
+/// A version message is no job, and its answer no answer to one; a stream without one is of another state.
 #[test]
 fn versions_stand_apart() {
     let job = || Job::Pack(vec![0]).message();
@@ -348,8 +381,10 @@ fn versions_stand_apart() {
     assert_eq!(seen.ok().as_deref(), Some("1 jobs, 1 accepted"));
     assert!(told(vec![version(STATE), job()], vec![answer()]).is_err());
     assert!(told(vec![job()], vec![version(STATE), answer()]).is_err());
+    assert!(told(vec![job()], vec![answer()]).is_err());
     assert!(told(vec![version(STATE)], vec![version(STATE + 1)]).is_err());
-    assert!(told(vec![job(), version(STATE)], vec![answer(), version(STATE)]).is_err());
+    let twice = |message| vec![version(STATE), message, version(STATE)];
+    assert!(told(twice(job()), twice(answer())).is_err());
 }
 
 #[test]
@@ -372,7 +407,7 @@ fn tree() -> NodeList {
     }
 }
 
-/// A job of each other operation, its answer, and a broken one.
+/// A job of each other operation but pruning, its answer, and a broken one.
 #[rustfmt::skip]
 fn others() -> Vec<(Job, Answer, Answer, &'static str)> {
     let lookup = LookupJob { count: 3, nodes: tree(), fill: 0, properties: vec![6; 24] };
@@ -389,16 +424,6 @@ fn others() -> Vec<(Job, Answer, Answer, &'static str)> {
     let mode = |mode, tokens: [u8; 3]| Answer::Mode(mode, tokens.to_vec());
     let candidates = |found: [i32; 2]| Answer::Candidates(found.to_vec());
     let parted = |above| Answer::Partitioned(above, vec![3, 1]);
-    let nodes = tree().given;
-    let spans = two_leaves().spans[..3].to_vec();
-    let pruned = |node_count, node| Answer::Pruned(Pruned {
-        estimated_bits: 8.0,
-        node_count,
-        nodes: vec![node, Record::BLANK, Record::BLANK],
-        spans: vec![spans[0], Span::BLANK, Span::BLANK],
-    });
-    let folded = Record::leaf(0, 3).with_cost(8.0);
-    let prune = PruneJob { price: 20.0, nodes, spans: spans.clone() };
     vec![
         (Job::Lookup(lookup), found(1), found(2), "another leaf"),
         (Job::Contexts(contexts), counted(1), counted(2), "other contexts"),
@@ -412,8 +437,31 @@ fn others() -> Vec<(Job, Answer, Answer, &'static str)> {
         (Job::Candidates(vec![1, 3, 2], 2), candidates([1, 2]), candidates([1, 3]), "other candidates"),
         (Job::Partition(vec![1, 3], 2), parted(1), parted(2), "not parted at the threshold"),
         (Job::Partition(vec![1, 3], 2), parted(1), parted(3), "not parted at the threshold"),
-        (Job::Prune(prune.clone()), pruned(1, folded), pruned(4, folded), "no sound tree"),
-        (Job::Prune(prune), pruned(1, folded), pruned(1, Record::leaf(0, 4)), "a node that was not there before"),
+    ]
+}
+
+/// Jobs of pruning, each with its answer and a broken one.
+#[rustfmt::skip]
+fn prunings() -> Vec<(Job, Answer, Answer, &'static str)> {
+    let nodes = tree().given;
+    let spans = two_leaves().spans[..3].to_vec();
+    let pruned_to = |node_count, node, span, vacated| Answer::Pruned(Pruned {
+        estimated_bits: 8.0,
+        node_count,
+        nodes: vec![node, vacated, vacated],
+        spans: vec![span, Span::BLANK, Span::BLANK],
+    });
+    let pruned = |node_count, node| pruned_to(node_count, node, spans[0], Record::BLANK);
+    let vacated = |node, vacated| pruned_to(1, node, spans[0], vacated);
+    let lifted = pruned_to(1, nodes[1].at_depth(0), spans[1], Record::BLANK);
+    let folded = Record::leaf(0, 3).with_cost(8.0);
+    let prune = || Job::Prune(PruneJob { price: 20.0, nodes: nodes.clone(), spans: spans.clone() });
+    vec![
+        (prune(), pruned(1, folded), pruned(4, folded), "no sound tree"),
+        (prune(), pruned(1, folded), pruned(1, folded.at_depth(1)), "node 0 stores depth 1, and not 0"),
+        (prune(), pruned(1, folded), vacated(folded, Record::BLANK.at_depth(1)), "a vacated entry is not blank"),
+        (prune(), pruned(1, folded), lifted, "a node that was not there before"),
+        (prune(), pruned(1, folded), pruned(1, Record::leaf(0, 4)), "a node that was not there before"),
     ]
 }
 
@@ -477,8 +525,8 @@ fn markings() -> impl Iterator<Item = (Job, Answer, Answer, &'static str)> {
 
 #[test]
 fn broken_answers_to_the_other_jobs_are_refused() {
-    let all = others().into_iter().chain(scorings()).chain(markings());
-    for (job, right, broken, why) in all {
+    let listed = [others(), prunings(), scorings()].into_iter().flatten();
+    for (job, right, broken, why) in listed.chain(markings()) {
         passes(std::slice::from_ref(&job), &[right]);
         refuses(&[job], &[broken], why);
     }
@@ -499,20 +547,47 @@ fn acceptances_without_a_tree_are_refused() {
     lookup.nodes.given[0].gt = 0;
     let why = "a lookup breaks off at node 0";
     refuses(&[Job::Lookup(lookup.clone())], &[found()], why);
-    let contexts = ContextsJob {
+    let mut contexts = ContextsJob {
         count: 3,
         nodes: lookup.nodes,
         fill: 7,
         context_entries: 3,
         queue_entries: 3,
     };
-    let counted = Contexts {
-        number: 0,
-        place: 0,
-        context_count: 2,
-        contexts: vec![7; 3],
-        queue: Runs::of(0, 3),
+    let counted = || {
+        Answer::Contexts(Contexts {
+            number: 0,
+            place: 0,
+            context_count: 2,
+            contexts: vec![u32::MAX, 0, 1],
+            queue: Runs::of(0, 3),
+        })
     };
-    let jobs = [Job::Contexts(contexts)];
-    refuses(&jobs, &[Answer::Contexts(counted)], "without a sound tree");
+    let why = "without a sound tree";
+    refuses(&[Job::Contexts(contexts.clone())], &[counted()], why);
+    for (node, depth) in [(0, 1), (1, 0), (2, 2), (2, u32::MAX)] {
+        contexts.nodes = tree();
+        contexts.nodes.given[node].depth = depth;
+        refuses(&[Job::Contexts(contexts.clone())], &[counted()], why);
+    }
+}
+
+/// Which depths are stored is nothing to lookup.
+#[test]
+fn lookups_over_any_depths_pass() {
+    let mut nodes = tree();
+    for depth in [0, 1, 2, u32::MAX] {
+        nodes.given = nodes.given.iter().map(|n| n.at_depth(depth)).collect();
+        let lookup = LookupJob {
+            count: 3,
+            nodes: nodes.clone(),
+            fill: 0,
+            properties: vec![6; 24],
+        };
+        let found = Found {
+            leaf: 1,
+            ..Found::default()
+        };
+        passes(&[Job::Lookup(lookup)], &[Answer::Found(found)]);
+    }
 }

@@ -3,6 +3,7 @@
 use super::{draft, learn};
 use crate::draft::Draft;
 use crate::rows::Rows;
+use crate::trees::with_depths;
 use stream::{Job, Record};
 
 pub const JOBS: &[fn() -> Job] = &[
@@ -172,7 +173,7 @@ fn zigzag(splits: u32) -> Vec<Record> {
         nodes.extend([Record::leaf(0, 0); 2]);
         last = gt + to_le as usize;
     }
-    nodes
+    with_depths(nodes)
 }
 
 /// The leaf at depth 25 is split. Both parts would offer a split themselves.

@@ -3,6 +3,7 @@
 
 use crate::draft::{Draft, plain_settings};
 use crate::rows::Rows;
+use crate::trees::with_depths;
 use stream::{ContextsJob, Job, Learning, NodeList, Record, Settings};
 
 pub const JOBS: &[fn() -> Job] = &[
@@ -122,11 +123,11 @@ fn just_enough(side_predictors: u32, candidates: u32, change: fn(&mut Learning))
 fn stray_node(count: u32, change: fn(&mut Learning)) -> Job {
     let mut draft = Draft::new(plain_settings(1, 1), Rows::zeros(1));
     draft.settings.candidates = 0;
-    draft.seed = vec![
+    draft.seed = with_depths(vec![
         Record::split(0, 0, 1, 2),
         Record::leaf(0, 0),
         Record::leaf(0, 0),
-    ];
+    ]);
     let mut job = draft.fitted();
     job.seed_count = count;
     job.nodes.entries = count;
@@ -142,7 +143,7 @@ fn bad_predictor(count: u32) -> Job {
         count,
         nodes: NodeList {
             entries: count,
-            given: vec![Record::split(0, 0, 1, 2), Record::leaf(14, 0)],
+            given: vec![Record::split(0, 0, 1, 2), Record::leaf(14, 0).at_depth(1)],
         },
         fill: 1,
         context_entries: 0,

@@ -176,24 +176,27 @@ fn each_fault_comes_up_alone() {
                 .any(|n| !n.is_split() && n.pred == 14)
         },
         |job| job.nodes.given.iter().any(|n| n.is_split() && n.gt == n.le),
+        |job| job.nodes.given[0].depth == 1,
+        |job| job.nodes.given.iter().skip(1).any(|n| n.depth == 0),
+        |job| job.nodes.given.iter().any(|n| n.depth == u32::MAX),
     ];
-    assert_eq!(FAULTS.len() + COUNTS.len(), 26);
+    assert_eq!(faults().len() + COUNTS.len(), 40);
     for seed in SEEDS {
-        let jobs = written("symbol-faults", seed, 26);
+        let jobs = written("symbol-faults", seed, 40);
         for (at, is_so) in ALONE.iter().enumerate() {
             assert!(jobs.iter().any(is_so), "{at}");
         }
         let is_bare = |job: &&WriteSymbolsJob| (job.pair_entries, job.queue_entries) == (0, 0);
         assert!(jobs.iter().filter(is_bare).count() >= 5);
-        let mut struck = jobs[..FAULTS.len()].iter();
+        let mut struck = jobs[..faults().len()].iter();
         assert!(struck.all(|job| job.count == given(job)));
     }
 }
 
 #[test]
 fn each_two_faults_come_together() {
-    let kinds = FAULTS.len() + COUNTS.len();
-    let chosen = (0..702).map(|turn| alone_then_two(turn, kinds));
+    let kinds = faults().len() + COUNTS.len();
+    let chosen = (0..1_640).map(|turn| alone_then_two(turn, kinds));
     let twos: BTreeSet<Vec<usize>> = chosen.filter(|chosen| chosen.len() == 2).collect();
     assert_eq!(twos.len(), kinds * kinds);
 }

@@ -1,7 +1,7 @@
 //! Symbols worked out by hand, every refusal, and a learned tree there and back.
 
 use crate::coder_scratch::CoderScratch;
-use crate::operations;
+use crate::{operations, plain};
 use stream::*;
 
 fn answer(job: Job) -> Answer {
@@ -53,8 +53,10 @@ fn read(symbols: &[Symbol], node_entries: usize) -> SymbolsRead {
 }
 
 /// A split as it is read.
-fn read_split(prop: u32, val: i32, gt: u32) -> Record {
-    Record::split(prop, val, gt, gt + 1).with_cost(f32::INFINITY)
+fn read_split(prop: u32, val: i32, gt: u32, depth: u32) -> Record {
+    Record::split(prop, val, gt, gt + 1)
+        .with_cost(f32::INFINITY)
+        .at_depth(depth)
 }
 
 const LEAF: [(u32, u32); 5] = [(1, 0), (2, 13), (3, 5), (4, 0), (5, 0)];
@@ -79,10 +81,10 @@ fn a_leaf_alone() {
 fn five_nodes() -> [Record; 5] {
     [
         Record::split(0, 8, 1, 2),
-        Record::split(23, -1, 3, 4),
-        Record::leaf(2, 0),
-        Record::leaf(3, 1),
-        Record::leaf(4, -1),
+        Record::split(23, -1, 3, 4).at_depth(1),
+        Record::leaf(2, 0).at_depth(1),
+        Record::leaf(3, 1).at_depth(2),
+        Record::leaf(4, -1).at_depth(2),
     ]
 }
 
@@ -100,8 +102,8 @@ fn the_order_is_breadth_first() {
     let written = written(writing(&nodes));
     assert_eq!(written.symbols, symbols(&pairs.concat()));
     let expected = [
-        read_split(0, 8, 1),
-        read_split(23, -1, 3),
+        read_split(0, 8, 1, 0),
+        read_split(23, -1, 3, 1),
         nodes[2],
         nodes[3],
         nodes[4],
@@ -114,17 +116,17 @@ fn the_order_is_breadth_first() {
 fn any_numbering_is_renumbered() {
     let nodes = [
         Record::split(5, 1, 2, 1),
-        Record::split(6, 2, 3, 6),
-        Record::split(7, 3, 5, 4),
-        Record::leaf(3, 0),
-        Record::leaf(4, 0),
-        Record::leaf(5, 0),
-        Record::leaf(6, 0),
+        Record::split(6, 2, 3, 6).at_depth(1),
+        Record::split(7, 3, 5, 4).at_depth(1),
+        Record::leaf(3, 0).at_depth(2),
+        Record::leaf(4, 0).at_depth(2),
+        Record::leaf(5, 0).at_depth(2),
+        Record::leaf(6, 0).at_depth(2),
     ];
     let expected = [
-        read_split(5, 1, 1),
-        read_split(7, 3, 3),
-        read_split(6, 2, 5),
+        read_split(5, 1, 1, 0),
+        read_split(7, 3, 3, 1),
+        read_split(6, 2, 5, 1),
         nodes[5],
         nodes[4],
         nodes[3],
@@ -139,8 +141,8 @@ fn both_ends_of_32_bits() {
     for (value, packed) in [(i32::MIN, u32::MAX), (i32::MAX, u32::MAX - 1)] {
         let nodes = [
             Record::split(0, value, 1, 2),
-            Record::leaf(0, value),
-            Record::leaf(1, 0),
+            Record::leaf(0, value).at_depth(1),
+            Record::leaf(1, 0).at_depth(1),
         ];
         let written = written(writing(&nodes));
         let ends = [written.symbols[1].value, written.symbols[4].value];
@@ -176,6 +178,8 @@ fn what_the_writer_refuses() {
         (|job| job.nodes.given[0].gt = 2, 8, 0),
         (|job| job.nodes.given[1].prop = 24, 8, 1),
         (|job| job.nodes.given[4].pred = 14, 8, 4),
+        (|job| job.nodes.given[0].depth = 1, 8, 0),
+        (|job| job.nodes.given[3].depth = 1, 8, 3),
         (|job| job.count = 3, 8, 1),
         (|job| (job.count, job.nodes.entries) = (8_192, 8_192), 8, 0),
     ];
@@ -250,7 +254,7 @@ fn at_most_8191_nodes() {
     let largest = chain(4_095);
     let answer = read(&symbols(&largest), 8_191);
     assert_eq!((answer.number, answer.node_count), (0, 8_191));
-    assert_eq!(answer.nodes[8_187], read_split(2, 0, 8_189));
+    assert_eq!(answer.nodes[8_187], read_split(2, 0, 8_189, 4_094));
     let back = written(writing(&answer.nodes));
     assert_eq!(back.symbols, symbols(&largest));
     refuses(&largest, 8_190, 7);
@@ -264,37 +268,18 @@ fn learning() -> Learning {
     const ROWS: usize = 300;
     let mixed = |at: usize| (at * 7_919 % 997) as i32 - 300;
     let token = |row: usize, column: usize| (mixed(row) + column as i32).unsigned_abs() as u8 % 13;
-    let limit = 20;
-    Learning {
-        settings: Settings {
-            alphabet: 128,
-            limit,
-            split_cost: 0.0,
-            price: 1.0,
-            smallest_node: 0,
-            side_predictors: 3,
-            candidates: 32,
-            weighted: true,
-            allowed: 0xffff,
-            modal_offsets: true,
-            settling: false,
-        },
-        properties: (0..ROWS * PROPERTIES).map(mixed).collect(),
-        tokens: (0..ROWS * PREDICTORS)
-            .map(|at| token(at / PREDICTORS, at % PREDICTORS))
-            .collect(),
-        residuals: (0..ROWS).map(|row| mixed(row) % 50).collect(),
-        logarithms: (0..=ROWS).map(|count| (count as f32).log2()).collect(),
-        seed_count: 0,
-        nodes: NodeList {
-            entries: 2 * limit - 1,
-            given: Vec::new(),
-        },
-        span_entries: 2 * limit - 1,
-        queue_entries: limit,
-        count_entries: 30_000,
-        fill: 7,
-    }
+    let mut job = plain::learning(ROWS, 128, 20);
+    job.settings.price = 1.0;
+    job.settings.side_predictors = 3;
+    job.settings.weighted = true;
+    job.settings.allowed = 0xffff;
+    job.settings.modal_offsets = true;
+    job.properties = (0..ROWS * PROPERTIES).map(mixed).collect();
+    job.tokens = (0..ROWS * PREDICTORS)
+        .map(|at| token(at / PREDICTORS, at % PREDICTORS))
+        .collect();
+    job.residuals = (0..ROWS).map(|row| mixed(row) % 50).collect();
+    job
 }
 
 fn contexts(nodes: &[Record]) -> Vec<u32> {
@@ -347,7 +332,13 @@ fn a_learned_tree_comes_back() {
     for row in job.properties.chunks(PROPERTIES) {
         let (old, new) = (leaf_of(tree, row), leaf_of(&back.nodes, row));
         assert_eq!(before[old], after[new]);
-        let leaf = Record::leaf(tree[old].pred, tree[old].offset);
+        let Record {
+            pred,
+            offset,
+            depth,
+            ..
+        } = tree[old];
+        let leaf = Record::leaf(pred, offset).at_depth(depth);
         assert_eq!(back.nodes[new], leaf);
     }
     assert_eq!(self::written(writing(&back.nodes)).symbols, written.symbols);

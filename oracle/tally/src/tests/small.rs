@@ -98,6 +98,7 @@ fn split(prop: u32, val: i32, gt: u32, leaf: Record) -> Record {
         cost: leaf.cost,
         pred: leaf.pred,
         offset: leaf.offset,
+        depth: leaf.depth,
         ..Record::split(prop, val, gt, gt + 1)
     }
 }
@@ -116,8 +117,8 @@ pub fn one_leaf() -> Learned {
 pub fn two_leaves() -> Learned {
     let nodes = [
         (split(0, 5, 1, leaf(3, 8.0)), [0, 4]),
-        (leaf(10, 1.0), [0, 2]),
-        (leaf(3, 2.0), [2, 4]),
+        (leaf(10, 1.0).at_depth(1), [0, 2]),
+        (leaf(3, 2.0).at_depth(1), [2, 4]),
     ];
     answer(&nodes, [(2, 0), (3, 0), (0, 0), (1, 0)], 3.0)
 }
@@ -126,10 +127,10 @@ pub fn two_leaves() -> Learned {
 pub fn three_leaves() -> Learned {
     let nodes = [
         (split(0, 5, 1, leaf(3, 8.0)), [0, 4]),
-        (leaf(10, 1.0), [0, 2]),
-        (split(1, 0, 3, leaf(3, 2.0)), [2, 4]),
-        (leaf(3, 0.5), [2, 3]),
-        (leaf(3, 0.5), [3, 4]),
+        (leaf(10, 1.0).at_depth(1), [0, 2]),
+        (split(1, 0, 3, leaf(3, 2.0).at_depth(1)), [2, 4]),
+        (leaf(3, 0.5).at_depth(2), [2, 3]),
+        (leaf(3, 0.5).at_depth(2), [3, 4]),
     ];
     answer(&nodes, [(2, 0), (3, 0), (1, 0), (0, 0)], 2.0)
 }

@@ -16,10 +16,10 @@ const NODES: u32 = 4;
 fn tree() -> Vec<Record> {
     vec![
         Record::split(23, -3, 2, 1).with_cost(2.5),
-        Record::leaf(4, 1),
+        Record::leaf(4, 1).at_depth(1),
         Record {
             val: 9,
-            ..Record::leaf(13, 0)
+            ..Record::leaf(13, 0).at_depth(1)
         },
     ]
 }
@@ -91,7 +91,8 @@ fn reading() -> ReadSymbolsJob {
 fn read() -> SymbolsRead {
     let mut nodes = reading().lent();
     nodes[0] = Record::split(23, -3, 1, 2).with_cost(f32::INFINITY);
-    (nodes[1], nodes[2]) = (Record::leaf(13, 0), Record::leaf(4, 1));
+    nodes[1] = Record::leaf(13, 0).at_depth(1);
+    nodes[2] = Record::leaf(4, 1).at_depth(1);
     SymbolsRead {
         number: 0,
         place: 0,
@@ -152,6 +153,9 @@ fn writing_is_refused_where_due() {
         (|job| job.nodes.given[0].prop = 24, 8),
         (|job| job.nodes.given[0].gt = 1, 8),
         (|job| job.nodes.given[2].pred = 14, 8),
+        (|job| job.nodes.given[0].depth = 1, 8),
+        (|job| job.nodes.given[1].depth = 0, 8),
+        (|job| job.nodes.given[2].depth = u32::MAX, 8),
         (|job| (job.count, job.pair_entries) = (2, 0), 8),
         (|job| give(job, left_chain(4_096)), 8),
     ];
@@ -183,11 +187,13 @@ fn give(job: &mut WriteSymbolsJob, given: Vec<Record>) {
 
 /// So many splits, each on the le side of the one before.
 fn left_chain(splits: u32) -> Vec<Record> {
-    let nodes = (0..splits).flat_map(|split| {
-        let gt = 2 * split + 1;
-        [Record::split(0, 0, gt, gt + 1), Record::leaf(0, 0)]
+    let nodes = (0..splits).flat_map(|above| {
+        let gt = 2 * above + 1;
+        let split = Record::split(0, 0, gt, gt + 1).at_depth(above);
+        [split, Record::leaf(0, 0).at_depth(above + 1)]
     });
-    nodes.chain([Record::leaf(0, 0)]).collect()
+    let last = Record::leaf(0, 0).at_depth(splits);
+    nodes.chain([last]).collect()
 }
 
 #[test]
@@ -231,6 +237,10 @@ fn broken_trees_are_refused() {
         ),
         (|a| a.nodes.swap(1, 2), "node 1 is another"),
         (|a| a.nodes[2].kind = 2, "node 2 is another"),
+        (|a| a.nodes[0].depth = 1, "node 0 is another"),
+        (|a| a.nodes[1].depth = 0, "node 1 is another"),
+        (|a| a.nodes[2].depth = 2, "node 2 is another"),
+        (|a| a.nodes[3].depth = 0, "node entry 3 changed"),
         (|a| a.nodes[3].pred += 1, "node entry 3 changed"),
         (|a| _ = a.nodes.pop(), "the node list has another length"),
     ];
