@@ -4,7 +4,7 @@ use crate::stored::{Fault, Stored};
 use layout::{MaNode, NodeInfo};
 use std::alloc::Global;
 
-// The next record: kind, property, threshold, gt, le, cost, predictor and offset; the cost is of no use here.
+// The next record: kind, property, threshold, gt, le, cost, predictor, offset and depth; the cost is of no use here.
 fn record(job: &mut Stored) -> Result<MaNode, Fault> {
     let kind = job.word()?;
     let prop = job.word()?;
@@ -17,6 +17,7 @@ fn record(job: &mut Stored) -> Result<MaNode, Fault> {
         pred: job.word()?,
         offset: job.signed()?,
     };
+    let depth = job.word()?;
     Ok(MaNode {
         kind,
         prop,
@@ -24,6 +25,7 @@ fn record(job: &mut Stored) -> Result<MaNode, Fault> {
         gt,
         le,
         info,
+        depth,
     })
 }
 
@@ -42,6 +44,7 @@ fn pattern(v: u32) -> MaNode {
         gt: v,
         le: v,
         info,
+        depth: v,
     }
 }
 

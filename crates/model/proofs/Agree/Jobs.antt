@@ -44,14 +44,14 @@ abbrev pub run : ℕ → ℕ → ℕ → List ℕ → List ℕ
 run zero x step rest = rest
 run (suc n) x step rest = x ∷ run n (x + step) step rest
 
--- a record of eight words
-abbrev pub node : ℕ → ℕ → ℕ → ℕ → ℕ → ℕ → ℕ → ℕ → Stored singles
-node kind prop val gt le cost pred offset =
-    record { kind = kind; prop = prop; val = word val; gt = gt; le = le; info = record { cost = f32 cost; pred = pred; offset = word offset } }
+-- a record of nine words
+abbrev pub node : ℕ → ℕ → ℕ → ℕ → ℕ → ℕ → ℕ → ℕ → ℕ → Stored singles
+node kind prop val gt le cost pred offset depth =
+    record { kind = kind; prop = prop; val = word val; gt = gt; le = le; info = record { cost = f32 cost; pred = pred; offset = word offset }; depth = depth }
 
 -- entry i of a node list past the records given
 abbrev pub fill_node : ℕ → Stored singles
-fill_node v = let w = v % 2 ^ 32 in node (w % 2) (w % 24) w w w (w % 2 ^ 30) (w % 14) w
+fill_node v = let w = v % 2 ^ 32 in node (w % 2) (w % 24) w w w (w % 2 ^ 30) (w % 14) w w
 
 abbrev pub fill_nodes : ℕ → ℕ → ℕ → List (Stored singles)
 fill_nodes fill first count = map (λ (i : ℕ). fill_node (fill + i)) (range first count)
@@ -136,7 +136,7 @@ pub data Answer : Type 0 where
 
 -- a record of the stream as an entry of a tree
 abbrev entry : Stored singles → Span → Entry singles
-entry r s = record { node = (record_in r).node; info = r.info; span = s; depth = 0; offer = none }
+entry r s = record { node = (record_in r).node; info = r.info; span = s; depth = r.depth; offer = none }
 
 abbrev entries : List (Stored singles) → List Span → List (Entry singles)
 entries [] ss = []
