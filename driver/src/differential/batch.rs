@@ -46,18 +46,15 @@ pub fn run(batch: &Batch, programs: &Programs, folder: &Path) -> Result<Compared
     }
 }
 
+/// A stream of this state. One of another is no answer, whatever it says.
 fn open(path: &Path) -> Result<Messages<BufReader<File>>> {
     let file = File::open(path)?;
-    Ok(Messages::open(BufReader::with_capacity(1 << 20, file))?)
+    let messages = Messages::open(BufReader::with_capacity(1 << 20, file));
+    messages.map_err(|damaged| Failure(format!("{}: {damaged}", path.display())))
 }
 
 fn compare(first: u64, jobs: &Path, oracle: &Path, driver: &Path) -> Result<Compared> {
     let (mut jobs, mut oracle, mut driver) = (open(jobs)?, open(oracle)?, open(driver)?);
-    if driver.version() != oracle.version() {
-        return Err(Failure(
-            "the driver has no answer to the version message".into(),
-        ));
-    }
     let mut tally = Tally::new();
     let mut difference: Option<Difference> = None;
     let mut index = first;

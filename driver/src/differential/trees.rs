@@ -1,4 +1,4 @@
-//! Smaller trees: a part of one in its place, splits folded, and fields brought to 0.
+//! Smaller trees: a part of one in its place, splits folded, fields brought to 0, and depths to what they are.
 
 use crate::Result;
 use crate::shrink::Shrinker;
@@ -85,10 +85,15 @@ fn fold<J: Tree>(job: &mut J, at: usize) {
     let nodes = job.nodes();
     if nodes[at].is_split() {
         let Record {
-            cost, pred, offset, ..
+            cost,
+            pred,
+            offset,
+            depth,
+            ..
         } = nodes[at];
         nodes[at] = Record {
             cost,
+            depth,
             ..Record::leaf(pred, offset)
         };
         let reached = reached_from(nodes, 0);
@@ -96,10 +101,14 @@ fn fold<J: Tree>(job: &mut J, at: usize) {
     }
 }
 
-/// Keeps the tree below a node alone.
+/// Keeps the tree below a node alone, all of it as much less deep as the node was: right depths stay right.
 fn keep_from<J: Tree>(job: &mut J, root: usize) {
     let reached = reached_from(job.nodes(), root);
+    let above = job.nodes()[root].depth;
     keep_only(job, |node| reached[node]);
+    for node in job.nodes() {
+        node.depth = node.depth.wrapping_sub(above);
+    }
 }
 
 /// Which nodes can be come to from this one, by children that are greater.
@@ -159,7 +168,40 @@ fn fields<J: Tree>(s: &mut Shrinker<'_, J>) -> Result<()> {
         s.lower(|job| &mut job.nodes()[at].offset)?;
         plain_cost(s, at)?;
     }
+    depths(s)
+}
+
+/// Makes the depths right of as many nodes as goes, and the others nearer to 0.
+fn depths<J: Tree>(s: &mut Shrinker<'_, J>) -> Result<()> {
+    s.pieces(
+        |job| job.nodes().len(),
+        |job, piece| {
+            let right = right_depths(job.nodes());
+            let nodes = job.nodes()[piece.clone()].iter_mut();
+            nodes
+                .zip(&right[piece])
+                .for_each(|(node, &depth)| node.depth = depth);
+        },
+    )?;
+    for (at, right) in right_depths(s.job.nodes()).into_iter().enumerate() {
+        if s.job.nodes()[at].depth != right {
+            s.lower(|job| &mut job.nodes()[at].depth)?;
+        }
+    }
     Ok(())
+}
+
+/// How many splits stand above each node, as far as children are greater than their splits.
+fn right_depths(nodes: &[Record]) -> Vec<u32> {
+    let mut depths = vec![0; nodes.len()];
+    for (at, node) in nodes.iter().enumerate().filter(|(_, node)| node.is_split()) {
+        for child in [node.gt, node.le].map(|child| child as usize) {
+            if child > at && child < nodes.len() {
+                depths[child] = depths[at] + 1;
+            }
+        }
+    }
+    depths
 }
 
 /// A leaf has no children.

@@ -2,8 +2,8 @@
 
 use super::*;
 use stream::{
-    Learning, NodeList, PREDICTORS, PROPERTIES, PruneJob, ReadSymbolsJob, Record, ScoreJob,
-    Settings, Span, Symbol, WriteSymbolsJob,
+    ContextsJob, Learning, LookupJob, NodeList, PREDICTORS, PROPERTIES, PruneJob, ReadSymbolsJob,
+    Record, ScoreJob, Settings, Span, Symbol, WriteSymbolsJob,
 };
 
 const ROWS: usize = 37;
@@ -28,12 +28,12 @@ fn settings() -> Settings {
 fn seed() -> Vec<Record> {
     vec![
         Record::split(2, 70, 1, 2),
-        Record::split(9, -5, 3, 4),
-        Record::leaf(5, 8).with_cost(3.5),
-        Record::leaf(1, 0),
-        Record::split(12, 33, 5, 6).with_cost(0.25),
-        Record::leaf(13, 0),
-        Record::leaf(0, -4),
+        Record::split(9, -5, 3, 4).at_depth(1),
+        Record::leaf(5, 8).with_cost(3.5).at_depth(1),
+        Record::leaf(1, 0).at_depth(2),
+        Record::split(12, 33, 5, 6).with_cost(0.25).at_depth(2),
+        Record::leaf(13, 0).at_depth(3),
+        Record::leaf(0, -4).at_depth(3),
     ]
 }
 
@@ -163,13 +163,102 @@ fn seeds() {
     expected.nodes.entries = 3;
     expected.nodes.given = vec![
         Record::split(12, 21, 1, 2),
-        Record::leaf(0, 0),
-        Record::leaf(0, 0),
+        Record::leaf(0, 0).at_depth(1),
+        Record::leaf(0, 0).at_depth(1),
     ];
     assert_eq!(
         shrunk(Job::Deepen(learning(seed())), differs),
         Job::Deepen(expected)
     );
+}
+
+/// Contexts of the seed above, with room to spare.
+fn contexts(given: Vec<Record>) -> Job {
+    Job::Contexts(ContextsJob {
+        count: given.len() as u32,
+        nodes: NodeList { entries: 9, given },
+        fill: 77,
+        context_entries: 20,
+        queue_entries: 30,
+    })
+}
+
+fn contexts_left(given: Vec<Record>) -> Job {
+    Job::Contexts(ContextsJob {
+        count: given.len() as u32,
+        nodes: NodeList {
+            entries: given.len() as u32,
+            given,
+        },
+        fill: 0,
+        context_entries: 0,
+        queue_entries: 0,
+    })
+}
+
+/// The nodes whose depth is not one more than their split's.
+fn wrong_depths_of(nodes: &[Record]) -> Vec<usize> {
+    let mut due = vec![0; nodes.len()];
+    for node in nodes.iter().filter(|node| node.is_split()) {
+        for child in [node.gt, node.le].map(|child| child as usize) {
+            if child < nodes.len() {
+                due[child] = node.depth + 1;
+            }
+        }
+    }
+    let is_wrong = |&at: &usize| nodes[at].depth != due[at];
+    (0..nodes.len()).filter(is_wrong).collect()
+}
+
+/// A depth that must be wrong stays so, with as little as there is above it, and comes down.
+#[test]
+fn wrong_depths() {
+    let mut nodes = seed();
+    nodes[6].depth = 99;
+    let differs = |job: &Job| {
+        let Job::Contexts(job) = job else {
+            return false;
+        };
+        let nodes = &job.nodes.given;
+        let mut splits = nodes.iter().filter(|node| node.is_split());
+        let is_due = |at: &usize| *at > 0 && nodes[*at].depth > 30;
+        job.count as usize == nodes.len()
+            && splits.all(|split| split.gt != split.le)
+            && matches!(&wrong_depths_of(nodes)[..], [at] if is_due(at))
+    };
+    let expected = vec![
+        Record::split(0, 0, 1, 2),
+        Record::leaf(0, 0).at_depth(1),
+        Record::leaf(0, 0).at_depth(31),
+    ];
+    assert_eq!(shrunk(contexts(nodes), differs), contexts_left(expected));
+}
+
+/// Where depths are nothing to the difference they are made right.
+#[test]
+fn right_depths() {
+    let depths = [7, 0, u32::MAX, 2, 9, 1, 1];
+    let given = seed().into_iter().zip(depths);
+    let job = LookupJob {
+        count: 7,
+        nodes: NodeList {
+            entries: 9,
+            given: given.map(|(node, depth)| node.at_depth(depth)).collect(),
+        },
+        fill: 77,
+        properties: vec![50; PROPERTIES],
+    };
+    let differs = |job: &Job| {
+        let Job::Lookup(job) = job else { return false };
+        let splits = job.nodes.given.iter().filter(|node| node.is_split());
+        splits.count() == 2
+    };
+    let Job::Lookup(left) = shrunk(Job::Lookup(job), differs) else {
+        panic!("no lookup");
+    };
+    let depths = left.nodes.given.iter().map(|node| node.depth);
+    assert_eq!(depths.collect::<Vec<_>>(), [0, 1]);
+    assert!(left.nodes.given.iter().all(|node| node.is_split()));
 }
 
 /// Spans go with their nodes.
@@ -286,8 +375,8 @@ fn symbols_to_write() {
             entries: 3,
             given: vec![
                 Record::split(12, 21, 1, 2),
-                Record::leaf(0, 0),
-                Record::leaf(0, 0),
+                Record::leaf(0, 0).at_depth(1),
+                Record::leaf(0, 0).at_depth(1),
             ],
         },
         fill: 0,
