@@ -28,6 +28,9 @@ static void count(struct call *c, uint32_t value) { c->count = value; }
 static void property(struct call *c, uint32_t value) { c->nodes[0].words[PROP] = value; }
 static void child(struct call *c, uint32_t value) { c->nodes[0].words[GT] = value; }
 static void predictor(struct call *c, uint32_t value) { c->nodes[4].words[PRED] = value; }
+static void root_depth(struct call *c, uint32_t value) { c->nodes[0].words[DEPTH] = value; }
+static void split_depth(struct call *c, uint32_t value) { c->nodes[2].words[DEPTH] = value; }
+static void leaf_depth(struct call *c, uint32_t value) { c->nodes[4].words[DEPTH] = value; }
 static void bare(struct call *c, uint32_t node) { c->nodes[node].given = 0; }
 
 /* A symbol with another value. */
@@ -253,6 +256,15 @@ static const struct job jobs[] = {
     {JOB(WANTS_SOUND, child, 2), REFUSED(8, 0)},
     {JOB(WANTS_TREE, predictor, 14), REFUSED(8, 4)},
     {JOB(WANTS_TREE, predictor, 0x7f800001), REFUSED(8, 4)},
+    /* 8, a depth: of the root, then of node 2, whose children come after it, and of leaf 4. */
+    {JOB(WANTS_SOUND, root_depth, 1), REFUSED(8, 0)},
+    {JOB(WANTS_SOUND, root_depth, 0xffffffff), REFUSED(8, 0)},
+    {JOB(WANTS_SOUND, split_depth, 0), REFUSED(8, 2)},
+    {JOB(WANTS_SOUND, split_depth, 2), REFUSED(8, 2)},
+    {JOB(WANTS_SOUND, leaf_depth, 0), REFUSED(8, 4)},
+    {JOB(WANTS_SOUND, leaf_depth, 1), REFUSED(8, 4)},
+    {JOB(WANTS_SOUND, leaf_depth, 3), REFUSED(8, 4)},
+    {JOB(WANTS_SOUND, leaf_depth, 0xffffffff), REFUSED(8, 4)},
     /* 9, the properties of a lookup. */
     {JOB(LOOKS_UP, width, 23), REFUSED(9, 0)},
     {JOB(LOOKS_UP, width, 25), REFUSED(9, 0)},

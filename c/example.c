@@ -1,7 +1,8 @@
 /*
- * Learns a tree from the 64 pixels of a small picture: the right half is lit, the left half is not, the top line is brighter, and there are a few specks.
- * Prints the tree, the leaf that each pixel reaches, the leaves' contexts, the symbols that JPEG XL transmits for the
- * tree, the tree read back from them, and what refusals look like.
+ * Learns a tree from the 64 pixels of a small picture: the right half is lit, the left half is not, the top line is
+ * brighter, and there are a few specks. Prints the tree, its nodes set in by their depths, the leaf that each pixel
+ * reaches, the leaves' contexts, the symbols that JPEG XL transmits for the tree, the tree read back from them, and
+ * what refusals look like.
  */
 #include "ostrovuc.h"
 
@@ -92,11 +93,17 @@ static void print_node(const ostrovuc_ma_node *node) {
         printf("leaf, predictor %u, offset %d", node->info.pred, node->info.offset);
 }
 
+/* Begins a node's line, set in by its depth. */
+static void print_number(uint32_t n, const ostrovuc_ma_node *node) {
+    printf("%*snode %u", 2 * (int)node->depth, "", n);
+}
+
 static void print_tree(ostrovuc_learned_tree tree, const struct room *room) {
     printf("%d rows: %u nodes, %u leaves, %.2f bits, flat %.2f\n", ROWS, tree.nodes, tree.leaves, tree.bits, tree.flat);
     for (uint32_t n = 0; n < tree.nodes; n++) {
         const ostrovuc_ma_node *node = &room->nodes[n];
-        printf("node %u, %u rows: ", n, room->spans[n].end - room->spans[n].first);
+        print_number(n, node);
+        printf(", %u rows: ", room->spans[n].end - room->spans[n].first);
         print_node(node);
         if (node->kind != OSTROVUC_SPLIT) printf(", %.2f bits", node->info.cost);
         putchar('\n');
@@ -145,7 +152,8 @@ static void print_read_back(const ostrovuc_symbol *symbols, size_t length) {
     ostrovuc_count read = ostrovuc_read_symbols(symbols, length, nodes, entries);
     printf("read back: %u nodes\n", read.count);
     for (uint32_t n = 0; n < read.count; n++) {
-        printf("node %u: ", n);
+        print_number(n, &nodes[n]);
+        printf(": ");
         print_node(&nodes[n]);
         putchar('\n');
     }
@@ -166,6 +174,15 @@ static void print_transmitted(ostrovuc_learned_tree tree, const struct room *roo
     free(queue);
 }
 
+/* A tree whose last node does not have its distance from the root as its depth: the nodes are looked at before room. */
+static void print_wrong_depth(ostrovuc_learned_tree tree, const struct room *room) {
+    uint32_t last = tree.nodes - 1;
+    room->nodes[last].depth++;
+    ostrovuc_count counted = ostrovuc_leaf_contexts(room->nodes, tree.nodes, tree.nodes, NULL, 0, NULL, 0);
+    printf("node %u a level too deep: refusal %u, place %u\n", last, counted.number, counted.place);
+    room->nodes[last].depth--;
+}
+
 int main(void) {
     ostrovuc_settings s = {
         .alphabet = 128, .max_leaves = 4, .split_cost_bits = 4, .side_preds = 1, .max_candidates = 16, .allowed_preds = 1, .modal_offsets = true};
@@ -178,6 +195,7 @@ int main(void) {
     print_leaves(tree, &room);
     print_contexts(tree, &room);
     print_transmitted(tree, &room);
+    print_wrong_depth(tree, &room);
 
     rows.tok[5 * OSTROVUC_PREDICTORS + 13] = 128;
     tree = learn(&s, &rows, &room);

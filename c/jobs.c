@@ -1,7 +1,7 @@
 /*
  * Answers a job stream (standard input) through the C interface, on standard output, for comparison with the oracle
- * byte for byte. It has the public operations, kinds 1 to 8, 32 and 33, and a stream's version message, kind 30. Every
- * list goes into an answer whole, filled beforehand as the job says.
+ * byte for byte. It has the public operations, kinds 1 to 8, 32 and 33, and a stream's version message, kind 30, which
+ * comes first. Every list goes into an answer whole, filled beforehand as the job says.
  */
 #include "ostrovuc.h"
 #include "wire.h"
@@ -16,7 +16,10 @@ enum kind {
 };
 
 /* The state of this format: the base with so many of the requests that came after it. */
-#define STATE UINT32_C(3)
+#define STATE UINT32_C(4)
+
+/* What is wrong with a stream that does not begin with a version message: its records have no depth. */
+static const char no_version[] = "a stream without a version message, which is of state 0";
 
 static uint32_t *filled(size_t length, uint32_t fill) {
     uint32_t *list = new_list(length, sizeof *list);
@@ -36,6 +39,7 @@ static ostrovuc_ma_node read_node(struct reader *from) {
     node.info.cost = read_single(from);
     node.info.pred = read_word(from);
     node.info.offset = (int32_t)read_word(from);
+    node.depth = read_word(from);
     return node;
 }
 
@@ -48,6 +52,7 @@ static void write_node(struct writer *to, const ostrovuc_ma_node *node) {
     write_bytes(to, &node->info.cost, sizeof node->info.cost);
     write_word(to, node->info.pred);
     write_word(to, (uint32_t)node->info.offset);
+    write_word(to, node->depth);
 }
 
 static void write_nodes(struct writer *to, const ostrovuc_ma_node *nodes, size_t length) {
@@ -57,7 +62,7 @@ static void write_nodes(struct writer *to, const ostrovuc_ma_node *nodes, size_t
 
 /* What an entry holds beforehand where the job gives none. */
 static ostrovuc_ma_node pattern(uint32_t v) {
-    ostrovuc_ma_node node = {.kind = v % 2, .prop = v % 24, .val = (int32_t)v, .gt = v, .le = v};
+    ostrovuc_ma_node node = {.kind = v % 2, .prop = v % 24, .val = (int32_t)v, .gt = v, .le = v, .depth = v};
     uint32_t cost = v & UINT32_C(0x3fffffff);
     memcpy(&node.info.cost, &cost, sizeof cost);
     node.info.pred = v % 14;
@@ -76,7 +81,8 @@ static struct nodes read_nodes(struct reader *from) {
     struct nodes nodes;
     nodes.length = read_word(from);
     nodes.given = read_word(from);
-    if (nodes.given > nodes.length || nodes.given > from->left / 32) damaged("more nodes given than there is room for");
+    if (nodes.given > nodes.length || nodes.given > from->left / sizeof *nodes.list)
+        damaged("more nodes given than there is room for");
     nodes.list = new_list(nodes.length, sizeof *nodes.list);
     for (size_t i = 0; i < nodes.given; i++) nodes.list[i] = read_node(from);
     return nodes;
@@ -352,14 +358,11 @@ static void answer(uint32_t kind, struct reader *from, struct writer *to) {
 }
 
 /*
- * Answers the stream's first message if it is a version message, which says what state the stream is of; tells whether
- * what follows is to be answered.
+ * Answers the stream's first message, which says what state the stream is of; tells whether what follows is to be
+ * answered.
  */
 static bool greets(uint32_t kind, struct reader *from, struct writer *to) {
-    if (kind != VERSION) {
-        answer(kind, from, to);
-        return true;
-    }
+    if (kind != VERSION) damaged(no_version);
     write_word(to, STATE);
     return read_word(from) == STATE;
 }
@@ -381,6 +384,7 @@ int main(void) {
         free(body);
         first = false;
     }
+    if (first) damaged(no_version);
     free(to.bytes);
     if (fflush(stdout) != 0) {
         perror("jobs");

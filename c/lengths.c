@@ -43,7 +43,9 @@ static void due_lengths(const struct job *job, size_t due[LISTS]) {
 
 /* A seed of `count` nodes: every other node is a split, of whose children the first is a leaf, which takes all rows. */
 static void plant(ostrovuc_ma_node *nodes, size_t length, uint32_t count) {
-    for (uint32_t n = 0; n + 2 < count && n < length; n += 2) {
+    for (uint32_t n = 0; n < count && n < length; n++) {
+        nodes[n].depth = (n + 1) / 2;
+        if (n % 2 == 1 || n + 2 >= count) continue;
         nodes[n].kind = OSTROVUC_SPLIT;
         nodes[n].val = -1;
         nodes[n].gt = n + 1;

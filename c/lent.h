@@ -66,8 +66,11 @@ static uint32_t fill_word(unsigned fill, size_t i) {
 }
 
 /* The words of a node record, and those that a split and a leaf have a use for. */
-enum { KIND, PROP, VAL, GT, LE, COST, PRED, OFFSET, NODE_WORDS };
-enum { OF_SPLIT = 1 << KIND | 1 << PROP | 1 << VAL | 1 << GT | 1 << LE, OF_LEAF = 1 << PRED | 1 << OFFSET };
+enum { KIND, PROP, VAL, GT, LE, COST, PRED, OFFSET, DEPTH, NODE_WORDS };
+enum {
+    OF_SPLIT = 1 << KIND | 1 << PROP | 1 << VAL | 1 << GT | 1 << LE | 1 << DEPTH,
+    OF_LEAF = 1 << PRED | 1 << OFFSET | 1 << DEPTH
+};
 
 /* A node as a call gives it: word w, if bit w of `given` is set. The others are what the fill left. */
 struct node {
@@ -107,10 +110,11 @@ struct call {
 /* The first row comes to leaf 4 by nodes 0 and 2; no row comes to leaf 3. */
 static void give_tree(struct node nodes[TREE]) {
     nodes[0] = (struct node){OF_SPLIT, {[KIND] = OSTROVUC_SPLIT, [PROP] = 3, [VAL] = 0, [GT] = 1, [LE] = 2}};
-    nodes[1] = (struct node){OF_LEAF, {[PRED] = 5, [OFFSET] = 3}};
-    nodes[2] = (struct node){OF_SPLIT, {[KIND] = OSTROVUC_SPLIT, [PROP] = 2, [VAL] = 100, [GT] = 3, [LE] = 4}};
-    nodes[3] = (struct node){OF_LEAF, {[PRED] = 6, [OFFSET] = 9}};
-    nodes[4] = (struct node){OF_LEAF, {[PRED] = 7, [OFFSET] = 1}};
+    nodes[1] = (struct node){OF_LEAF, {[PRED] = 5, [OFFSET] = 3, [DEPTH] = 1}};
+    nodes[2] = (struct node){
+        OF_SPLIT, {[KIND] = OSTROVUC_SPLIT, [PROP] = 2, [VAL] = 100, [GT] = 3, [LE] = 4, [DEPTH] = 1}};
+    nodes[3] = (struct node){OF_LEAF, {[PRED] = 6, [OFFSET] = 9, [DEPTH] = 2}};
+    nodes[4] = (struct node){OF_LEAF, {[PRED] = 7, [OFFSET] = 1, [DEPTH] = 2}};
 }
 
 /* Property 2 is a row's line and property 3 its column, which tells the residuals apart. */
@@ -192,11 +196,13 @@ static void put(uint8_t *list, size_t bytes, const void *given, size_t given_byt
     memcpy(list, given, bytes < given_bytes ? bytes : given_bytes);
 }
 
-static void put_nodes(uint8_t *list, size_t bytes, const struct node nodes[TREE]) {
+/* A lookup is given no depths, since it does not look at them. */
+static void put_nodes(const struct call *c, uint8_t *list, size_t bytes) {
+    unsigned left_out = c->operation == LOOKUP ? 1 << DEPTH : 0;
     for (size_t k = 0; k < TREE * NODE_WORDS && 4 * k < bytes; k++) {
-        const struct node *node = &nodes[k / NODE_WORDS];
+        const struct node *node = &c->nodes[k / NODE_WORDS];
         size_t word = k % NODE_WORDS;
-        if (node->given >> word & 1) memcpy(list + 4 * k, &node->words[word], 4);
+        if ((node->given & ~left_out) >> word & 1) memcpy(list + 4 * k, &node->words[word], 4);
     }
 }
 
@@ -211,7 +217,7 @@ static void put_symbols(uint8_t *list, size_t bytes, const struct symbols *given
 static void put_given(const struct call *c, enum list which, uint8_t *list, size_t bytes) {
     switch (which) {
     case NODES:
-        if (c->operation != LEARN && c->operation != READ) put_nodes(list, bytes, c->nodes);
+        if (c->operation != LEARN && c->operation != READ) put_nodes(c, list, bytes);
         break;
     case READ_SYMBOLS: put_symbols(list, bytes, &c->symbols); break;
     case LOGS: put(list + 4, bytes - 4, &c->logs[1], sizeof c->logs - 4); break;

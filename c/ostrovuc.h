@@ -54,7 +54,8 @@ enum ostrovuc_number {
     OSTROVUC_REFUSED_SHORT_ALPHABET = 5, /* modal offsets on rows with residuals want an alphabet of at least 128 */
     OSTROVUC_REFUSED_LOGARITHMS = 6,     /* there are fewer than rows + 1, or one of 1 to rows is not from 0 to 32 */
     OSTROVUC_REFUSED_ROOM = 7,           /* a lent list is too short */
-    OSTROVUC_REFUSED_TREE = 8,           /* the nodes are no sound tree; place: the lowest node at fault, 0 for a wrong count */
+    OSTROVUC_REFUSED_TREE = 8,           /* the nodes, their depths included, are no sound tree; place: the lowest node
+                                            at fault, 0 for a wrong count */
     OSTROVUC_REFUSED_PROPERTIES = 9,     /* a lookup takes exactly 24 properties */
     OSTROVUC_REFUSED_TOKEN_VALUE = 10,   /* the token is over 127, or its extra bits are too large for their count */
     OSTROVUC_REFUSED_SYMBOLS = 11        /* the symbols are no tree: see ostrovuc_read_symbols */
@@ -71,6 +72,10 @@ typedef struct ostrovuc_node_info {
  * A node. A split sends a row whose property is above `val` to `gt`, else to `le`. A leaf has no use for prop, val, gt
  * and le: they are written as 0 and never read. Any bit pattern may stand in any field, and a record that a call does
  * not write keeps it.
+ *
+ * `depth` is the distance from the root. Learning, deepening and reading symbols give it. In a seed, and in a tree
+ * whose contexts or symbols are asked for, it must be 0 at node 0, else one more than at the node's only parent; a node
+ * where it is not is at fault (8). A lookup does not look at it.
  */
 typedef struct ostrovuc_ma_node {
     uint32_t kind;
@@ -79,6 +84,7 @@ typedef struct ostrovuc_ma_node {
     uint32_t gt;
     uint32_t le;
     ostrovuc_node_info info;
+    uint32_t depth;
 } ostrovuc_ma_node;
 
 /* The rows of a node: the first, and the one behind the last. */
@@ -160,7 +166,7 @@ typedef struct ostrovuc_read {
 OSTROVUC_HOLDS(sizeof(bool) == 1, "a bool is one byte");
 OSTROVUC_HOLDS(sizeof(size_t) == 8, "a length is eight bytes");
 OSTROVUC_HOLDS(sizeof(ostrovuc_node_info) == 12, "three words");
-OSTROVUC_HOLDS(sizeof(ostrovuc_ma_node) == 32, "eight words");
+OSTROVUC_HOLDS(sizeof(ostrovuc_ma_node) == 36, "nine words");
 OSTROVUC_HOLDS(sizeof(ostrovuc_span) == 8, "two words");
 OSTROVUC_HOLDS(sizeof(ostrovuc_symbol) == 8, "two words");
 OSTROVUC_HOLDS(sizeof(ostrovuc_settings) == 36, "nine words");
@@ -234,7 +240,7 @@ static inline size_t ostrovuc_read_nodes_length(size_t symbols) {
 /*
  * Learns a tree from the rows. Refusals 1 to 7, in this order.
  *
- *   nodes     ostrovuc_nodes_length(max_leaves, 0): the tree, node 0 its root
+ *   nodes     ostrovuc_nodes_length(max_leaves, 0): the tree, node 0 its root, each node with its depth
  *   spans     ostrovuc_spans_length(max_leaves, 0): the rows of each node; a split's are parted between its children,
  *             gt's first, and le has those at or under its value, neither none nor all
  *   logs      ostrovuc_logs_length(rows)
@@ -247,7 +253,7 @@ static inline size_t ostrovuc_read_nodes_length(size_t symbols) {
  *
  * What nodes, spans, queue_* and counts hold beforehand does not matter: any bytes, as memory straight from malloc has
  * them. Entries of nodes and spans past those written keep every byte; those that pruning vacates hold a leaf of
- * predictor 0 and the span (0, 0).
+ * predictor 0 and depth 0, and the span (0, 0).
  */
 ostrovuc_learned_tree ostrovuc_learn(
     ostrovuc_ma_node *nodes, size_t nodes_length, ostrovuc_span *spans, size_t spans_length, ostrovuc_settings s,
@@ -257,9 +263,9 @@ ostrovuc_learned_tree ostrovuc_learn(
 
 /*
  * Deepens the seed, the tree of the first `count` nodes. Refusals 1 to 8, in this order. Lists as for learning, at the
- * lengths for a seed of `count` nodes. In the seed's records a split's info and a leaf's cost may be anything too. The
- * seed's splits stay, with infinite cost, predictor and offset 0 and the span (0, 0); its leaves without rows keep
- * predictor and offset, with cost 0 and the span (0, 0).
+ * lengths for a seed of `count` nodes. In the seed's records a split's info and a leaf's cost may be anything too, but
+ * every depth must be right. The seed's splits stay, with infinite cost, predictor and offset 0 and the span (0, 0);
+ * its leaves without rows keep predictor and offset, with cost 0 and the span (0, 0).
  */
 ostrovuc_learned_tree ostrovuc_deepen(
     ostrovuc_ma_node *nodes, size_t nodes_length, ostrovuc_span *spans, size_t spans_length, ostrovuc_settings s,
@@ -269,8 +275,8 @@ ostrovuc_learned_tree ostrovuc_deepen(
     size_t counts_length);
 
 /*
- * The leaf that a row of 24 properties reaches in the tree of `count` nodes. Refusals 9, then 8: the count is 0 or beyond the list, or a node met on the way is
- * at fault.
+ * The leaf that a row of 24 properties reaches in the tree of `count` nodes. Refusals 9, then 8: the count is 0 or
+ * beyond the list, or a node met on the way is at fault. Depths are not looked at.
  */
 ostrovuc_leaf ostrovuc_lookup(const ostrovuc_ma_node *nodes, size_t nodes_length, uint32_t count, const int32_t *props, size_t props_length);
 
@@ -295,11 +301,11 @@ ostrovuc_count ostrovuc_write_symbols(
     uint32_t *queue, size_t queue_length);
 
 /*
- * Reads such symbols back, all of them, and gives how many nodes the tree has. Its nodes are numbered breadth first; a
- * split has infinite cost, predictor and offset 0, a leaf cost 0. Written again, the tree is the same symbols. `nodes`
- * has at least ostrovuc_read_nodes_length(symbols_length) entries, with any bytes in them; those past the tree stay.
- * Refusals 11, then 7. 11: the symbols are cut short or some are left over, one has not the context that is due, a
- * property is over 23, a predictor over 13, a multiplier not 1, or there are more than 8,191 nodes.
+ * Reads such symbols back, all of them, and gives how many nodes the tree has. Its nodes are numbered breadth first and
+ * have their depths; a split has infinite cost, predictor and offset 0, a leaf cost 0. Written again, the tree is the
+ * same symbols. `nodes` has at least ostrovuc_read_nodes_length(symbols_length) entries, with any bytes in them; those
+ * past the tree stay. Refusals 11, then 7. 11: the symbols are cut short or some are left over, one has not the context
+ * that is due, a property is over 23, a predictor over 13, a multiplier not 1, or there are more than 8,191 nodes.
  */
 ostrovuc_count ostrovuc_read_symbols(
     const ostrovuc_symbol *symbols, size_t symbols_length, ostrovuc_ma_node *nodes, size_t nodes_length);
