@@ -36,6 +36,7 @@ fn node(r: &Record) -> MaNode {
         gt: r.gt,
         le: r.le,
         info,
+        depth: r.depth,
     }
 }
 
@@ -53,6 +54,7 @@ fn record(node: &MaNode) -> Record {
         cost: node.info.cost.to_bits(),
         pred: node.info.pred,
         offset: node.info.offset,
+        depth: node.depth,
     }
 }
 
@@ -79,6 +81,7 @@ mod tests {
             cost: 0x7fc0_0001,
             pred: 13,
             offset: -5,
+            depth: 26,
             ..Record::split(23, i32::MIN, 3, u32::MAX)
         };
         assert_eq!(records(&nodes(&[record])), [record]);

@@ -1,6 +1,7 @@
-//! Learns a tree from the 64 pixels of a small picture: the right half is lit, the left half is not, the top line is brighter, and there are a few specks.
-//! Prints the tree, the leaf that each pixel reaches, the leaves' contexts, the symbols that JPEG XL transmits for the
-//! tree, the tree read back from them, and what refusals look like.
+//! Learns a tree from the 64 pixels of a small picture: the right half is lit, the left half is not, the top line is
+//! brighter, and there are a few specks. Prints the tree, its nodes set in by their depths, the leaf that each pixel
+//! reaches, the leaves' contexts, the symbols that JPEG XL transmits for the tree, the tree read back from them, and
+//! what refusals look like.
 
 use ostrovuc::{
     Learned, MaNode, Refusal, Room, Settings, Symbol, SymbolContext, leaf_contexts, learn,
@@ -59,13 +60,18 @@ fn print_tree(tree: &Learned, room: &Room) {
     let nodes = room.nodes.iter().zip(&room.spans);
     let nodes = nodes.take(tree.nodes as usize);
     for (n, (node, span)) in nodes.enumerate() {
-        let (rows, what) = (span.rows().len(), in_words(node));
-        if node.is_split() {
-            println!("node {n}, {rows} rows: {what}");
-        } else {
-            println!("node {n}, {rows} rows: {what}, {:.2} bits", node.info.cost);
+        let (indent, rows, what) = (indent(node), span.rows().len(), in_words(node));
+        print!("{indent}node {n}, {rows} rows: {what}");
+        if !node.is_split() {
+            print!(", {:.2} bits", node.info.cost);
         }
+        println!();
     }
+}
+
+/// A node is set in by its depth.
+fn indent(node: &MaNode) -> String {
+    "  ".repeat(node.depth as usize)
 }
 
 fn in_words(node: &MaNode) -> String {
@@ -126,7 +132,7 @@ fn print_read_back(symbols: &[Symbol]) -> Result<(), Refusal> {
     let count = read_symbols(symbols, &mut nodes)?;
     println!("read back: {count} nodes");
     for (n, node) in nodes.iter().enumerate() {
-        println!("node {n}: {}", in_words(node));
+        println!("{}node {n}: {}", indent(node), in_words(node));
     }
     let short = read_symbols(&symbols[..symbols.len() - 1], &mut nodes);
     if let Err(refusal) = short {
@@ -135,6 +141,19 @@ fn print_read_back(symbols: &[Symbol]) -> Result<(), Refusal> {
         println!("in words: {refusal}");
     }
     Ok(())
+}
+
+/// A tree whose last node does not have its distance from the root as its depth: the nodes are looked at before room.
+fn print_wrong_depth(tree: &Learned, room: &Room) {
+    let mut nodes = room.nodes.clone();
+    let last = tree.nodes - 1;
+    nodes[last as usize].depth += 1;
+    let counted = leaf_contexts(&nodes, tree.nodes, &mut [], &mut []);
+    if let Err(refusal) = counted {
+        let (number, place) = (refusal.number(), refusal.place());
+        println!("node {last} a level too deep: refusal {number}, place {place}");
+        println!("in words: {refusal}");
+    }
 }
 
 fn print_transmitted(tree: &Learned, room: &Room) -> Result<(), Refusal> {
@@ -168,6 +187,7 @@ fn main() -> Result<(), Refusal> {
     print_leaves(&tree, &room)?;
     print_contexts(&tree, &room)?;
     print_transmitted(&tree, &room)?;
+    print_wrong_depth(&tree, &room);
 
     tok[5 * PREDICTORS + 13] = 128;
     let again = learn(room.lend(&mut props, &mut tok, &mut res), &settings, &logs);

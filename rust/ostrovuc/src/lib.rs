@@ -18,6 +18,7 @@
 //! let mut room = Room::for_learning(&settings, rows);
 //! let learned = learn(room.lend(&mut props, &mut tok, &mut []), &settings, &logarithms(rows))?;
 //! assert_eq!((learned.nodes, learned.leaves, learned.bits), (3, 2, 0.0));
+//! assert_eq!([0, 1, 2].map(|n| room.nodes[n].depth), [0, 1, 1]);
 //! assert_eq!(lookup(&room.nodes, learned.nodes, &props[..24])?.leaf, 1);
 //!
 //! // As JPEG XL transmits it: node 0 splits by property 0, which is sent as 1, at 0. `read_symbols` reads it back.

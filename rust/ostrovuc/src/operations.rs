@@ -7,7 +7,7 @@ use crate::symbols::Symbol;
 
 /// What learning and deepening are lent. `Room` has all but the rows, at the lengths that are due.
 pub struct Lists<'a> {
-    /// The tree, node 0 its root.
+    /// The tree, node 0 its root, each node with its depth.
     pub nodes: &'a mut [MaNode],
     /// The rows of each node.
     pub spans: &'a mut [Span],
@@ -90,7 +90,7 @@ pub fn learn(lists: Lists<'_>, settings: &Settings, logs: &[f32]) -> Result<Lear
     learned(call!(c::ostrovuc_learn, lists, settings, logs))
 }
 
-/// Deepens the seed, the tree of the first `count` nodes; its splits stay. Refusals 1 to 8.
+/// Deepens the seed, the tree of the first `count` nodes, which have their depths; its splits stay. Refusals 1 to 8.
 pub fn deepen(
     lists: Lists<'_>,
     settings: &Settings,
@@ -110,7 +110,8 @@ fn learned(tree: c::LearnedTree) -> Result<Learned, Refusal> {
     Refusal::unless_accepted(tree.number, tree.place, answer)
 }
 
-/// The leaf that a row of 24 properties reaches in the tree of the first `count` nodes. Refusals 9 and 8.
+/// The leaf that a row of 24 properties reaches in the tree of the first `count` nodes, whatever their depths. Refusals
+/// 9 and 8.
 #[inline]
 pub fn lookup(nodes: &[MaNode], count: u32, props: &[i32]) -> Result<Leaf, Refusal> {
     // SAFETY: the pointers and the lengths are slices'.
@@ -178,8 +179,8 @@ pub fn write_symbols(
 }
 
 /// Reads such symbols back, all of them, to the front of `nodes`, and gives how many nodes the tree has. They are
-/// numbered breadth first; a split has infinite cost, predictor and offset 0, a leaf cost 0. `nodes` has at least
-/// `read_nodes_length(symbols.len())` entries. Refusals 11 and 7.
+/// numbered breadth first and have their depths; a split has infinite cost, predictor and offset 0, a leaf cost 0.
+/// `nodes` has at least `read_nodes_length(symbols.len())` entries. Refusals 11 and 7.
 pub fn read_symbols(symbols: &[Symbol], nodes: &mut [MaNode]) -> Result<u32, Refusal> {
     // SAFETY: the pointers and the lengths are slices', and the two do not overlap.
     let read = unsafe {

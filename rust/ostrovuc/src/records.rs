@@ -11,9 +11,9 @@ pub struct NodeInfo {
     pub offset: i32,
 }
 
-/// A node. A split sends a row whose property is above `val` to `gt`, else to `le`. A leaf has no use for `prop`, `val`,
-/// `gt` and `le`: they are written as 0 and never read. Any bit pattern may stand in any field, and a record that a call
-/// does not write keeps it.
+/// A node. A split sends a row whose property is above `val` to `gt`, else to `le`. A leaf has no use for `prop`,
+/// `val`, `gt` and `le`: they are written as 0 and never read. Any bit pattern may stand in any field, and a record
+/// that a call does not write keeps it.
 #[repr(C)]
 #[derive(Clone, Copy, Debug, Default, PartialEq)]
 pub struct MaNode {
@@ -24,6 +24,10 @@ pub struct MaNode {
     pub gt: u32,
     pub le: u32,
     pub info: NodeInfo,
+    /// The distance from the root. Learning, deepening and reading symbols give it. In a seed, and in a tree whose
+    /// contexts or symbols are asked for, it must be 0 at node 0, else one more than at the node's only parent, or the
+    /// node is at fault (`Refusal::Tree`). A lookup does not look at it.
+    pub depth: u32,
 }
 
 impl MaNode {
@@ -38,7 +42,7 @@ impl MaNode {
         self.kind == Self::SPLIT
     }
 
-    /// A leaf with its predictor and offset, cost 0.
+    /// A leaf with its predictor and offset, cost and depth 0.
     pub const fn leaf(pred: u32, offset: i32) -> Self {
         let cost = 0.0;
         Self {
@@ -48,10 +52,11 @@ impl MaNode {
             gt: 0,
             le: 0,
             info: NodeInfo { cost, pred, offset },
+            depth: 0,
         }
     }
 
-    /// A split by a property, with nothing beside it.
+    /// A split by a property, with nothing beside it, at depth 0.
     pub const fn split(prop: u32, val: i32, gt: u32, le: u32) -> Self {
         Self {
             kind: Self::SPLIT,
@@ -61,6 +66,11 @@ impl MaNode {
             le,
             ..Self::leaf(0, 0)
         }
+    }
+
+    /// The same node at another depth.
+    pub const fn at_depth(self, depth: u32) -> Self {
+        Self { depth, ..self }
     }
 }
 
@@ -110,6 +120,6 @@ pub struct Settings {
 
 // The sizes that crate `ma_tree` has for them.
 const _: () = assert!(size_of::<NodeInfo>() == 12);
-const _: () = assert!(size_of::<MaNode>() == 32);
+const _: () = assert!(size_of::<MaNode>() == 36);
 const _: () = assert!(size_of::<Span>() == 8);
 const _: () = assert!(size_of::<Settings>() == 36);

@@ -21,7 +21,7 @@ pub enum Refusal {
     Logarithms,
     /// A lent list is too short.
     Room,
-    /// The nodes are no sound tree: the lowest node at fault, 0 for a wrong count.
+    /// The nodes, their depths included, are no sound tree: the lowest node at fault, 0 for a wrong count.
     Tree { node: u32 },
     /// A lookup with other than 24 properties.
     Properties,

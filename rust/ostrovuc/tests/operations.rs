@@ -49,6 +49,7 @@ fn learning_splits_by_the_column() {
         panic!("as many nodes as two leaves take");
     };
     assert_eq!([root, above, below].map(|node| node.kind), [1, 0, 0]);
+    assert_eq!([root, above, below].map(|node| node.depth), [0, 1, 1]);
     assert_eq!((root.prop, root.val, root.gt, root.le), (3, 0, 1, 2));
     assert_eq!((above.info.pred, above.info.offset), (0, 20));
     assert_eq!((below.info.pred, below.info.offset), (0, 100));
@@ -124,6 +125,52 @@ fn pruning_vacates_what_growth_wrote() {
     assert_eq!(job.room.spans[1..], before.spans[1..]);
 }
 
+/// How far each node lies from the root, by the way down to it.
+fn distances(nodes: &[MaNode]) -> Vec<u32> {
+    let mut distances = vec![u32::MAX; nodes.len()];
+    let mut waiting = vec![(0, 0)];
+    while let Some((n, distance)) = waiting.pop() {
+        let node: &MaNode = &nodes[n as usize];
+        distances[n as usize] = distance;
+        if node.is_split() {
+            waiting.extend([(node.gt, distance + 1), (node.le, distance + 1)]);
+        }
+    }
+    distances
+}
+
+fn depths(nodes: &[MaNode]) -> Vec<u32> {
+    nodes.iter().map(|node| node.depth).collect()
+}
+
+/// A job whose rows, which property 3 tells apart, all want leaves of their own; these lie at many depths.
+fn uneven() -> Job {
+    let mut job = Job::with_limit(12);
+    let rows = job.props.as_chunks_mut::<PROPERTIES>().0.iter_mut();
+    for (row, (props, res)) in rows.zip(&mut job.res).enumerate() {
+        props[3] = row as i32;
+        *res = 1 << row;
+    }
+    job
+}
+
+#[test]
+fn depths_are_distances_from_the_root() {
+    let mut job = uneven();
+    let grown = job.learn().expect("a sound job").nodes as usize;
+    let nodes = &job.room.nodes[..grown];
+    assert_eq!(depths(nodes), distances(nodes));
+    assert!(depths(nodes).iter().any(|&depth| depth > 3));
+
+    let mut job = uneven();
+    job.settings.prune_leaf_bits = 10.0;
+    let kept = job.learn().expect("a sound job").nodes as usize;
+    assert!(1 < kept && kept < grown, "{kept} of {grown}");
+    let (nodes, vacated) = job.room.nodes[..grown].split_at(kept);
+    assert_eq!(depths(nodes), distances(nodes));
+    assert!(vacated.iter().all(|node| *node == MaNode::leaf(0, 0)));
+}
+
 #[test]
 fn without_modal_offsets_a_short_alphabet_will_do() {
     let mut job = Job::new();
@@ -154,6 +201,21 @@ fn the_same_room_deepens_what_was_learned() {
     assert_eq!((tree.nodes, tree.leaves), (7, 4));
     assert_eq!(job.room.nodes[0].info.cost, f32::INFINITY);
     assert_eq!(span(&job, 0), 0..0);
+    assert_eq!(depths(&job.room.nodes), distances(&job.room.nodes));
+}
+
+/// All rows come to the lowest leaf, which lies too deep to be split.
+#[test]
+fn a_seed_may_be_deeper_than_learning_grows() {
+    let mut job = Job::with_limit(64);
+    let seed = comb(81);
+    job.plant(&seed);
+    for props in job.props.as_chunks_mut::<PROPERTIES>().0 {
+        props[0] = -1;
+    }
+    assert_eq!(job.deepen(81).map(|tree| tree.nodes), Ok(81));
+    assert_eq!(span(&job, 80), 0..ROWS);
+    assert_eq!(depths(&job.room.nodes[..81]), distances(&seed));
 }
 
 #[test]
@@ -175,10 +237,10 @@ fn no_rows_give_one_leaf() {
 /// 0 splits to 1 and 2, 1 splits to 3 and 4.
 const FIVE: [MaNode; 5] = [
     MaNode::split(0, 10, 1, 2),
-    MaNode::split(1, -10, 3, 4),
-    MaNode::leaf(5, 0),
-    MaNode::leaf(6, 0),
-    MaNode::leaf(7, 0),
+    MaNode::split(1, -10, 3, 4).at_depth(1),
+    MaNode::leaf(5, 0).at_depth(1),
+    MaNode::leaf(6, 0).at_depth(2),
+    MaNode::leaf(7, 0).at_depth(2),
 ];
 
 #[test]
@@ -192,6 +254,17 @@ fn an_equal_property_goes_to_le() {
     assert_eq!(found(10, 0), Ok(Leaf { leaf: 2, pred: 5 }));
     assert_eq!(found(11, -10), Ok(Leaf { leaf: 4, pred: 7 }));
     assert_eq!(found(11, -9), Ok(Leaf { leaf: 3, pred: 6 }));
+}
+
+#[test]
+fn a_lookup_does_not_look_at_depths() {
+    let mut props = [0; PROPERTIES];
+    props[0] = 11;
+    for depth in [0, 1, 7, u32::MAX] {
+        let nodes = FIVE.map(|node| node.at_depth(depth));
+        let found = lookup(&nodes, 5, &props);
+        assert_eq!(found, Ok(Leaf { leaf: 3, pred: 6 }));
+    }
 }
 
 #[test]
@@ -255,9 +328,12 @@ fn logarithms_are_true() {
 
 /// A seed of `count` nodes: every other node is a split, of whose children the first is a leaf, which takes all rows.
 fn comb(count: u32) -> Vec<MaNode> {
-    let node = |n| match n % 2 == 0 && n + 2 < count {
-        true => MaNode::split(0, -1, n + 1, n + 2),
-        false => MaNode::leaf(0, 0),
+    let node = |n: u32| {
+        let node = match n % 2 == 0 && n + 2 < count {
+            true => MaNode::split(0, -1, n + 1, n + 2),
+            false => MaNode::leaf(0, 0),
+        };
+        node.at_depth(n.div_ceil(2))
     };
     (0..count).map(node).collect()
 }

@@ -118,16 +118,79 @@ fn lists_too_short() {
 
 #[test]
 fn seeds_that_are_no_trees() {
-    let (leaf, split) = (MaNode::leaf(0, 0), MaNode::split(3, 0, 1, 2));
-    seed_refused(0, 0, &[leaf]);
-    seed_refused(0, 8_192, &[leaf; 8_192]);
-    seed_refused(1, 3, &[split, MaNode::leaf(14, 0), leaf]);
-    seed_refused(1, 4, &[split, MaNode::split(24, 0, 3, 3), leaf, leaf]);
+    let (root, split) = (MaNode::leaf(0, 0), MaNode::split(3, 0, 1, 2));
+    let leaf = root.at_depth(1);
+    seed_refused(0, 0, &[root]);
+    seed_refused(0, 8_192, &[root; 8_192]);
+    seed_refused(1, 3, &[split, MaNode::leaf(14, 0).at_depth(1), leaf]);
+    let other = MaNode::split(24, 0, 3, 3).at_depth(1);
+    seed_refused(1, 4, &[split, other, leaf, leaf.at_depth(2)]);
     seed_refused(0, 2, &[MaNode::split(3, 0, 1, 1), leaf]);
     seed_refused(0, 2, &[split, leaf]);
     seed_refused(3, 4, &[split, leaf, leaf, leaf]);
     let neither = MaNode { kind: 2, ..split };
     seed_refused(1, 3, &[neither, leaf, leaf]);
+}
+
+/// Deepening, contexts and writing symbols name this node, and a lookup takes the tree as it is.
+fn depth_refused(node: u32, nodes: &[MaNode]) {
+    let count = nodes.len() as u32;
+    seed_refused(node, count, nodes);
+    let expected = Err(Refusal::Tree { node });
+    assert_eq!(leaf_contexts(nodes, count, &mut [], &mut []), expected);
+    assert_eq!(write_symbols(nodes, count, &mut [], &mut []), expected);
+    assert!(lookup(nodes, count, &[0; PROPERTIES]).is_ok());
+}
+
+/// 0 splits to 3 and 1, 1 splits to 4 and 2.
+const FIVE: [MaNode; 5] = [
+    MaNode::split(3, 0, 3, 1),
+    MaNode::split(2, 0, 4, 2).at_depth(1),
+    MaNode::leaf(0, 0).at_depth(2),
+    MaNode::leaf(5, 0).at_depth(1),
+    MaNode::leaf(7, 0).at_depth(2),
+];
+
+#[test]
+fn depths_other_than_the_distance() {
+    let mut job = Job::new();
+    job.plant(&FIVE);
+    assert!(job.deepen(5).is_ok());
+    for n in 0..5 {
+        for depth in [0, 1, 2, 3, 4, u32::MAX] {
+            let mut nodes = FIVE;
+            nodes[n].depth = depth;
+            if depth != FIVE[n].depth {
+                depth_refused(n as u32, &nodes);
+            }
+        }
+    }
+    for depth in [1, u32::MAX] {
+        depth_refused(0, &[MaNode::leaf(0, 0).at_depth(depth)]);
+    }
+}
+
+/// A parent counts wherever it stands, and a depth is one more than its parent's as numbers are, not as 32 bits are.
+#[test]
+fn depths_below_a_parent_that_stands_behind() {
+    let (leaf, split) = (MaNode::leaf(0, 0), MaNode::split(3, 0, 1, 1));
+    let with = |child, parent| [leaf, leaf.at_depth(child), split.at_depth(parent)];
+    depth_refused(1, &with(0, u32::MAX));
+    depth_refused(1, &with(0, 5));
+    depth_refused(2, &with(6, 5));
+}
+
+#[test]
+fn the_lowest_node_is_named_whatever_its_fault() {
+    let mut nodes = FIVE;
+    nodes[1].prop = 24;
+    nodes[3].depth = 2;
+    seed_refused(1, 5, &nodes);
+    nodes[1].prop = 2;
+    nodes[4].info.pred = 14;
+    seed_refused(3, 5, &nodes);
+    nodes[3].depth = 1;
+    seed_refused(4, 5, &nodes);
 }
 
 #[test]
@@ -190,7 +253,7 @@ fn lookups() {
 
 #[test]
 fn contexts() {
-    let leaf = MaNode::leaf(0, 0);
+    let leaf = MaNode::leaf(0, 0).at_depth(1);
     let nodes = [MaNode::split(3, 0, 1, 2), leaf, leaf];
     let numbered = |count, contexts: usize, queue: usize| {
         let (mut contexts, mut queue) = (vec![MARK; contexts], vec![MARK; queue]);
@@ -213,7 +276,7 @@ const MARKED: Symbol = Symbol {
 /// Everything is wrong at first and is put right one by one.
 #[test]
 fn trees_that_cannot_be_written() {
-    let leaf = MaNode::leaf(0, 0);
+    let leaf = MaNode::leaf(0, 0).at_depth(1);
     let refused = |nodes: &[MaNode], count, symbols: usize, queue: usize| {
         let (mut symbols, mut queue) = (vec![MARKED; symbols], vec![MARK; queue]);
         let answer = write_symbols(nodes, count, &mut symbols, &mut queue);
@@ -221,12 +284,13 @@ fn trees_that_cannot_be_written() {
         assert!(queue.iter().all(|&entry| entry == MARK));
         answer.expect_err("no tree, or no room")
     };
-    let wrong = [MaNode::split(3, 0, 1, 2), leaf, MaNode::leaf(14, 0)];
+    let other = |pred| MaNode::leaf(pred, 0).at_depth(1);
+    let wrong = [MaNode::split(3, 0, 1, 2), leaf, other(14)];
     assert_eq!(refused(&wrong, 4, 0, 0), Refusal::Tree { node: 0 });
     assert_eq!(refused(&wrong, 0, 0, 0), Refusal::Tree { node: 0 });
     assert_eq!(refused(&wrong, 3, 0, 0), Refusal::Tree { node: 2 });
     assert_eq!(refused(&wrong, 2, 0, 0), Refusal::Tree { node: 0 });
-    let right = [MaNode::split(23, 0, 1, 2), leaf, MaNode::leaf(13, 0)];
+    let right = [MaNode::split(23, 0, 1, 2), leaf, other(13)];
     assert_eq!(refused(&right, 3, 11, 3), Refusal::Room);
     assert_eq!(refused(&right, 3, 12, 2), Refusal::Room);
     assert_eq!(
@@ -267,6 +331,7 @@ fn not_read(pairs: &[(u32, u32)], entries: usize) -> Refusal {
         kind: MARK,
         ..MaNode::split(MARK, 1, MARK, MARK)
     };
+    let marked = marked.at_depth(MARK);
     let mut nodes = vec![marked; entries];
     let answer = read_symbols(&symbols, &mut nodes);
     assert!(nodes.iter().all(|&node| node == marked));

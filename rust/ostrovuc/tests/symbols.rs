@@ -12,6 +12,7 @@ const MARKED: Symbol = Symbol {
     context: MARK,
     value: MARK,
 };
+const MARKED_NODE: MaNode = MaNode::split(MARK, 7, MARK, MARK).at_depth(MARK);
 
 /// The symbols of a tree.
 fn written(nodes: &[MaNode]) -> Vec<Symbol> {
@@ -24,7 +25,7 @@ fn written(nodes: &[MaNode]) -> Vec<Symbol> {
 
 /// The tree of some symbols.
 fn read(symbols: &[Symbol]) -> Vec<MaNode> {
-    let mut nodes = vec![MaNode::split(MARK, 7, MARK, MARK); read_nodes_length(symbols.len())];
+    let mut nodes = vec![MARKED_NODE; read_nodes_length(symbols.len())];
     assert_eq!(read_symbols(symbols, &mut nodes), Ok(nodes.len() as u32));
     nodes
 }
@@ -49,10 +50,10 @@ const fn read_split(prop: u32, val: i32, gt: u32, le: u32) -> MaNode {
 /// 0 splits to 3 and 1, 1 splits to 4 and 2: not breadth first.
 const FIVE: [MaNode; 5] = [
     MaNode::split(23, i32::MIN, 3, 1),
-    MaNode::split(0, i32::MAX, 4, 2),
-    MaNode::leaf(13, i32::MIN),
-    MaNode::leaf(0, -1),
-    MaNode::leaf(7, 1),
+    MaNode::split(0, i32::MAX, 4, 2).at_depth(1),
+    MaNode::leaf(13, i32::MIN).at_depth(2),
+    MaNode::leaf(0, -1).at_depth(1),
+    MaNode::leaf(7, 1).at_depth(2),
 ];
 
 #[test]
@@ -71,10 +72,10 @@ fn symbols_by_hand() {
 fn a_tree_comes_back_breadth_first() {
     let expected = [
         read_split(23, i32::MIN, 1, 2),
-        MaNode::leaf(0, -1),
-        read_split(0, i32::MAX, 3, 4),
-        MaNode::leaf(7, 1),
-        MaNode::leaf(13, i32::MIN),
+        MaNode::leaf(0, -1).at_depth(1),
+        read_split(0, i32::MAX, 3, 4).at_depth(1),
+        MaNode::leaf(7, 1).at_depth(2),
+        MaNode::leaf(13, i32::MIN).at_depth(2),
     ];
     assert_eq!(read(&written(&FIVE)), expected);
 }
@@ -93,10 +94,9 @@ fn entries_past_those_written_stay() {
     let (mut symbols, mut queue) = ([MARKED; 21], [MARK; 8]);
     assert_eq!(write_symbols(&FIVE, 5, &mut symbols, &mut queue), Ok(19));
     assert_eq!((symbols[19..].to_vec(), queue), (vec![MARKED; 2], [0; 8]));
-    let beyond = MaNode::split(MARK, 7, MARK, MARK);
-    let mut nodes = [beyond; 7];
+    let mut nodes = [MARKED_NODE; 7];
     assert_eq!(read_symbols(&symbols[..19], &mut nodes), Ok(5));
-    assert_eq!(nodes[5..], [beyond; 2]);
+    assert_eq!(nodes[5..], [MARKED_NODE; 2]);
 }
 
 /// Nodes past the tree are none of it.
@@ -147,9 +147,12 @@ fn a_read_tree_is_a_seed_without_rows() {
 
 /// Of so many splits each but the last has a split on its le side.
 fn chain(splits: u32) -> Vec<MaNode> {
-    let node = |n| match n % 2 == 0 && n < 2 * splits {
-        true => MaNode::split(0, -(n as i32), n + 1, n + 2),
-        false => MaNode::leaf(n % 14, n as i32),
+    let node = |n: u32| {
+        let node = match n % 2 == 0 && n < 2 * splits {
+            true => MaNode::split(0, -(n as i32), n + 1, n + 2),
+            false => MaNode::leaf(n % 14, n as i32),
+        };
+        node.at_depth(n.div_ceil(2))
     };
     (0..=2 * splits).map(node).collect()
 }
@@ -161,8 +164,9 @@ fn the_largest_tree() {
     let symbols = written(&nodes);
     assert_eq!(symbols.len(), 7 * 4_096 - 2);
     let back = read(&symbols);
-    assert_eq!(back[1], MaNode::leaf(1, 1));
-    assert_eq!(back[8_188], read_split(0, -8_188, 8_189, 8_190));
+    assert_eq!(back[1], MaNode::leaf(1, 1).at_depth(1));
+    let last = read_split(0, -8_188, 8_189, 8_190);
+    assert_eq!(back[8_188], last.at_depth(4_094));
     assert_eq!(written(&back), symbols);
 }
 

@@ -1,4 +1,5 @@
-//! A small job: the rows of a picture of two columns, which property 3 tells apart, and every list that learning is lent, filled with marks.
+//! A small job: the rows of a picture of two columns, which property 3 tells apart, and every list that learning is
+//! lent, filled with marks.
 
 use ostrovuc::{Learned, MaNode, Refusal, Room, Settings, Span, deepen, learn, logarithms};
 
@@ -98,7 +99,7 @@ fn marked(mut room: Room) -> Room {
         kind: MARK,
         ..MaNode::split(MARK, 1, MARK, MARK)
     };
-    room.nodes.fill(node);
+    room.nodes.fill(node.at_depth(MARK));
     room.spans.fill(Span {
         first: MARK,
         end: MARK,
