@@ -7,7 +7,7 @@ use std::fs;
 use std::io::{self, ErrorKind, IsTerminal, Read, Write};
 use std::path::PathBuf;
 use std::process::ExitCode;
-use stream::{Message, write_message};
+use stream::{Message, STATE, version, write_message};
 
 /// The exit status where the library refuses the job, or the symbols.
 const REFUSED: u8 = 1;
@@ -113,10 +113,13 @@ pub fn write_out(bytes: &[u8]) -> Result<(), Failure> {
     }
 }
 
-/// Writes a job or an answer to standard output.
-pub fn write_message_out(message: &Message) -> Result<(), Failure> {
+/// Writes a stream to standard output: the version message, then a job or an answer.
+pub fn write_stream_out(message: &Message) -> Result<(), Failure> {
     let mut bytes = Vec::new();
-    write_message(&mut bytes, message).map_err(|damaged| Failure::wrong(damaged.to_string()))?;
+    [&version(STATE), message]
+        .into_iter()
+        .try_for_each(|message| write_message(&mut bytes, message))
+        .map_err(|damaged| Failure::wrong(damaged.to_string()))?;
     write_out(&bytes)
 }
 

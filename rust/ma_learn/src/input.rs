@@ -1,9 +1,9 @@
-//! Reads the one job of learning or deepening that a file holds.
+//! Reads the one job of learning or deepening that a file holds, as a stream: the version message, then the job.
 
 use crate::words::counted;
 use crate::{pgm, symbols};
 use std::fmt;
-use stream::{Damaged, Job, Learning, read_message};
+use stream::{Damaged, Job, Learning, Message, STATE, VERSION, read_message};
 
 /// More entries than this are lent to nobody: a hundred times what the largest job needs.
 const LONGEST_LIST: u32 = 1 << 24;
@@ -27,6 +27,12 @@ pub enum WrongInput {
     Empty,
     Picture,
     Symbols,
+    /// A stream that begins with a job.
+    NoVersion,
+    /// A stream of this state.
+    OtherState(u32),
+    /// Nothing follows the version message.
+    NoJob,
     /// A job, but of this kind.
     OtherKind(&'static str),
     /// No job has this kind.
@@ -56,6 +62,17 @@ impl fmt::Display for WrongInput {
                 f,
                 "a list of symbols and not a job; --from-symbols reads it"
             ),
+            Self::NoVersion => write!(
+                f,
+                "a stream without a version message, which is of state 0; state {STATE} is due"
+            ),
+            Self::OtherState(state) => {
+                write!(f, "a stream of state {state}; state {STATE} is due")
+            }
+            Self::NoJob => write!(
+                f,
+                "a version message alone, where a job of learning or deepening is due"
+            ),
             Self::OtherKind(name) => {
                 write!(f, "a job of {name}, where learning or deepening is due")
             }
@@ -80,12 +97,17 @@ impl std::error::Error for WrongInput {}
 
 /// Reads the job that `bytes` hold.
 pub fn read(mut bytes: &[u8]) -> Result<LearningJob, WrongInput> {
-    check_start(bytes)?;
-    let message = match read_message(&mut bytes) {
-        Ok(Some(message)) => message,
-        Ok(None) => return Err(WrongInput::Empty),
-        Err(Damaged(what)) => return Err(WrongInput::CutShort(what)),
-    };
+    if pgm::begins_picture(bytes) {
+        return Err(WrongInput::Picture);
+    }
+    if symbols::begins_list(bytes) {
+        return Err(WrongInput::Symbols);
+    }
+    let state = state(&mut bytes)?;
+    if state != STATE {
+        return Err(WrongInput::OtherState(state));
+    }
+    let message = job_message(&mut bytes)?;
     if !bytes.is_empty() {
         return Err(WrongInput::LeftOver { bytes: bytes.len() });
     }
@@ -102,20 +124,47 @@ pub fn read(mut bytes: &[u8]) -> Result<LearningJob, WrongInput> {
     Ok(job)
 }
 
-/// The first word says the kind. What follows it can only be understood if that is right.
-fn check_start(bytes: &[u8]) -> Result<(), WrongInput> {
-    if pgm::begins_picture(bytes) {
-        return Err(WrongInput::Picture);
+/// The state that the version message names.
+fn state(bytes: &mut &[u8]) -> Result<u32, WrongInput> {
+    match kind(bytes) {
+        Some(VERSION) | None => {}
+        Some(1 | 2) => return Err(WrongInput::NoVersion),
+        Some(other) => return Err(not_due(other)),
     }
-    if symbols::begins_list(bytes) {
-        return Err(WrongInput::Symbols);
-    }
-    let Some(&word) = bytes.first_chunk() else {
-        return Ok(());
+    let Some(Message { body, .. }) = next(bytes)? else {
+        return Err(WrongInput::Empty);
     };
-    let kind = u32::from_le_bytes(word);
-    let name = match kind {
-        1 | 2 => return Ok(()),
+    match <[u8; 4]>::try_from(&body[..]) {
+        Ok(state) => Ok(u32::from_le_bytes(state)),
+        Err(_) => Err(WrongInput::Damaged(format!(
+            "a version message of {}, where 4 are due",
+            counted(body.len(), "byte", "bytes")
+        ))),
+    }
+}
+
+/// The message of the job.
+fn job_message(bytes: &mut &[u8]) -> Result<Message, WrongInput> {
+    match kind(bytes) {
+        Some(1 | 2) | None => {}
+        Some(other) => return Err(not_due(other)),
+    }
+    next(bytes)?.ok_or(WrongInput::NoJob)
+}
+
+/// The next message, if one follows.
+fn next(bytes: &mut &[u8]) -> Result<Option<Message>, WrongInput> {
+    read_message(bytes).map_err(|Damaged(what)| WrongInput::CutShort(what))
+}
+
+/// The kind of the next message is its first word. What follows it can only be understood if that is right.
+fn kind(bytes: &[u8]) -> Option<u32> {
+    bytes.first_chunk().map(|&word| u32::from_le_bytes(word))
+}
+
+/// A message of this kind is neither of learning nor of deepening.
+fn not_due(kind: u32) -> WrongInput {
+    WrongInput::OtherKind(match kind {
         3 => "lookup",
         4 => "leaf contexts",
         5 => "even sampling",
@@ -126,14 +175,13 @@ fn check_start(bytes: &[u8]) -> Result<(), WrongInput> {
         17 => "candidates",
         18 => "partition",
         19 => "pruning",
-        30 => "a stream's state",
+        VERSION => "a stream's state",
         32 => "symbols to be written",
         33 => "symbols to be read",
         48 => "scoring",
         49 => "marks",
-        _ => return Err(WrongInput::NoKind(kind)),
-    };
-    Err(WrongInput::OtherKind(name))
+        _ => return WrongInput::NoKind(kind),
+    })
 }
 
 /// A job names the lengths of the lists that it wants lent.

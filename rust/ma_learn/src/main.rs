@@ -1,7 +1,7 @@
 //! Learns or deepens a predictor tree, or reads one from its symbols, and shows it. See `HELP`.
 
 use ma_learn::command_line::{
-    self, Failure, Source, arguments, finish, is_option, write_message_out, write_out,
+    self, Failure, Source, arguments, finish, is_option, write_out, write_stream_out,
 };
 use ma_learn::input::LearningJob;
 use ma_learn::tree::Tree;
@@ -119,7 +119,7 @@ fn learn(form: Form, job: LearningJob) -> Result<(), Failure> {
     let run = jobs::run(job.job, job.deepens);
     let accepted = run.result.map_err(Failure::refused);
     match (form, Tree::of(&run)) {
-        (Form::Raw, _) => write_message_out(&run.into_answer().message())?,
+        (Form::Raw, _) => write_stream_out(&run.into_answer().message())?,
         (Form::Tree(shown), Some(tree)) => show(&tree, shown)?,
         (Form::Tree(_), None) => {}
     }

@@ -40,7 +40,7 @@ fn head(tree: &Tree<'_>) -> String {
 }
 
 fn line(place: &Place<'_>, width: usize) -> String {
-    let indent = "  ".repeat(place.depth);
+    let indent = "  ".repeat(place.node.depth as usize);
     let side = match place.side {
         Side::Root => "",
         Side::Yes => "yes: ",

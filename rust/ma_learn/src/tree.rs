@@ -31,7 +31,6 @@ pub enum Side {
 pub struct Place<'a> {
     pub number: u32,
     pub node: &'a MaNode,
-    pub depth: usize,
     pub side: Side,
     /// Where the tree was learnt.
     pub rows: Option<Rows>,
@@ -79,19 +78,18 @@ impl<'a> Tree<'a> {
 
     /// Every node, each before those below it, and the yes side before the no side.
     pub fn walk(&self) -> impl Iterator<Item = Place<'a>> {
-        let mut waiting = vec![(0, 0, Side::Root)];
+        let mut waiting = vec![(0, Side::Root)];
         std::iter::from_fn(move || {
-            let (number, depth, side) = waiting.pop()?;
+            let (number, side) = waiting.pop()?;
             let node = &self.nodes[number as usize];
             if node.is_split() {
-                waiting.push((node.le, depth + 1, Side::No));
-                waiting.push((node.gt, depth + 1, Side::Yes));
+                waiting.push((node.le, Side::No));
+                waiting.push((node.gt, Side::Yes));
             }
             let learning = self.learning.as_ref();
             Some(Place {
                 number,
                 node,
-                depth,
                 side,
                 rows: learning.map(|learning| learning.rows_of(number, node)),
             })

@@ -4,7 +4,10 @@ mod common;
 
 use common::{Ran, assert_fails, file, run};
 use ostrovuc::Refusal;
-use stream::{Answer, Job, Learned, Learning, NodeList, Record, Runs, Settings, Span};
+use stream::{
+    Answer, Job, Learned, Learning, Message, Messages, NodeList, Record, Runs, STATE, Settings,
+    Span, version, write_message,
+};
 
 const MA_LEARN: &str = env!("CARGO_BIN_EXE_ma_learn");
 
@@ -64,10 +67,18 @@ fn small_job() -> Learning {
     }
 }
 
-fn bytes(job: Job) -> Vec<u8> {
+/// These messages, end to end.
+fn stream<const N: usize>(messages: [Message; N]) -> Vec<u8> {
     let mut bytes = Vec::new();
-    stream::write_message(&mut bytes, &job.message()).expect("a job can be written");
+    for message in messages {
+        write_message(&mut bytes, &message).expect("a job can be written");
+    }
     bytes
+}
+
+/// The job behind a version message.
+fn bytes(job: Job) -> Vec<u8> {
+    stream([version(STATE), job.message()])
 }
 
 fn learn(arguments: &[&str], job: Learning) -> Ran {
@@ -143,11 +154,13 @@ fn symbols() {
     assert_eq!(text(learn(&["--symbols"], small_job())), expected);
 }
 
+/// The answer behind the version message.
 fn raw(ran: &Ran) -> Answer {
-    let message = stream::read_message(&mut &ran.output[..])
-        .expect("a message")
-        .expect("one");
-    Answer::read(&message).expect("an answer")
+    let mut messages = Messages::open(&ran.output[..]).expect("a stream of this state");
+    let mut next = || messages.next_message().expect("a sound stream");
+    let answer = Answer::read(&next().expect("a message")).expect("an answer");
+    assert!(next().is_none(), "one answer");
+    answer
 }
 
 #[test]
@@ -174,7 +187,7 @@ fn raw_has_every_list() {
     };
     let low = Record {
         cost: nodes[2].cost,
-        ..Record::leaf(0, 5)
+        ..Record::leaf(0, 5).at_depth(1)
     };
     // What the job's fill of 7 leaves in entry 3: 7 + 3 is even.
     let untouched = Record {
@@ -186,8 +199,10 @@ fn raw_has_every_list() {
         cost: 10,
         pred: 10,
         offset: 10,
+        depth: 10,
     };
-    assert_eq!(nodes, [root, Record::leaf(0, 20), low, untouched]);
+    let high = Record::leaf(0, 20).at_depth(1);
+    assert_eq!(nodes, [root, high, low, untouched]);
     assert_eq!(
         spans,
         [(0, 8), (0, 4), (4, 8)].map(|(first, end)| Span { first, end })
@@ -198,10 +213,10 @@ fn raw_has_every_list() {
     assert_eq!((queue, counts), (Runs::of(0, 2), Runs::of(0, 20_000)));
 }
 
-/// A leaf, as every kind but a split's is.
+/// A leaf below the root, as every kind but a split's is.
 const NEITHER: Record = Record {
     kind: 2,
-    ..Record::leaf(5, 0)
+    ..Record::leaf(5, 0).at_depth(1)
 };
 
 #[test]
@@ -210,7 +225,11 @@ fn deepening_grows_below_a_seed() {
     job.seed_count = 3;
     job.nodes = NodeList {
         entries: 5,
-        given: vec![Record::split(3, 9, 1, 2), NEITHER, Record::leaf(0, 0)],
+        given: vec![
+            Record::split(3, 9, 1, 2),
+            NEITHER,
+            Record::leaf(0, 0).at_depth(1),
+        ],
     };
     (job.span_entries, job.queue_entries, job.settings.limit) = (5, 3, 3);
     let expected = "\
@@ -237,10 +256,11 @@ fn rows_of_a_seeds_splits() {
     let mut job = small_job();
     job.properties[3] = 10;
     let (root, below) = (Record::split(2, 0, 1, 2), Record::split(3, 9, 3, 4));
+    let leaf = NEITHER.at_depth(2);
     job.seed_count = 5;
     job.nodes = NodeList {
         entries: 5,
-        given: vec![root, NEITHER, below, NEITHER, NEITHER],
+        given: vec![root, NEITHER, below.at_depth(1), leaf, leaf],
     };
     (job.span_entries, job.queue_entries, job.settings.limit) = (5, 3, 3);
     let expected = "\
@@ -314,6 +334,19 @@ fn refusals_have_number_place_and_reason() {
     assert_fails(&learn(&[], job), 1, &message);
 }
 
+/// A leaf of the seed that stores the root's depth.
+#[test]
+fn a_seed_has_its_depths() {
+    let mut job = small_job();
+    job.seed_count = 3;
+    let (root, leaf) = (Record::split(3, 9, 1, 2), NEITHER.at_depth(0));
+    job.nodes.given = vec![root, NEITHER, leaf];
+    let reason = Refusal::Tree { node: 2 };
+    let message = format!("ma_learn: refused: number 8, place 2: {reason}");
+    let bytes = bytes(Job::Deepen(job));
+    assert_fails(&run(MA_LEARN, &[], &bytes), 1, &message);
+}
+
 /// A file of this content is refused, in every form, with its name and this reason.
 fn assert_wrong(name: &str, content: &[u8], why: &str) {
     let path = file(name, content);
@@ -327,17 +360,58 @@ fn assert_wrong(name: &str, content: &[u8], why: &str) {
     }
 }
 
+/// A version message has twelve bytes.
 #[test]
 fn files_cut_short() {
     let whole = bytes(Job::Learn(small_job()));
-    let body = whole.len() - 8;
+    let body = whole.len() - 12 - 8;
     let why = "empty, where a job of learning or deepening is due";
     assert_wrong("empty", b"", why);
     let why = "cut short: a message ends too early";
-    assert_wrong("cut in its kind", &whole[..3], why);
-    assert_wrong("cut in its head", &whole[..6], why);
+    for length in [3, 6, 12 + 3, 12 + 6] {
+        assert_wrong("cut in a head", &whole[..length], why);
+    }
+    let why = "cut short: a body of 4 bytes ends after 3";
+    assert_wrong("cut in its state", &whole[..11], why);
+    let why = "a version message alone, where a job of learning or deepening is due";
+    assert_wrong("cut before the job", &whole[..12], why);
     let why = format!("cut short: a body of {body} bytes ends after {}", body - 5);
     assert_wrong("cut in its body", &whole[..whole.len() - 5], &why);
+}
+
+/// Of a stream of another state nothing is read but this, and of one without a version message nothing at all.
+#[test]
+fn streams_of_another_state() {
+    let job = || Job::Learn(small_job()).message();
+    for state in [0, STATE - 1, STATE + 1, u32::MAX] {
+        let why = format!("a stream of state {state}; state {STATE} is due");
+        assert_wrong("another state", &stream([version(state), job()]), &why);
+        let beyond = [&stream([version(state)])[..], b"beyond"].concat();
+        assert_wrong("a later form", &beyond, &why);
+    }
+    let why =
+        format!("a stream without a version message, which is of state 0; state {STATE} is due");
+    assert_wrong("no version", &stream([job()]), &why);
+    let deepening = Job::Deepen(small_job()).message();
+    assert_wrong("no version", &stream([deepening]), &why);
+}
+
+#[test]
+fn version_messages_that_are_none() {
+    let state = |body: &[u8]| {
+        let message = Message {
+            body: body.to_vec(),
+            ..version(STATE)
+        };
+        stream([message, Job::Learn(small_job()).message()])
+    };
+    let why = |length| format!("not a job: a version message of {length}, where 4 are due");
+    assert_wrong("no state", &state(&[]), &why("0 bytes"));
+    assert_wrong("short state", &state(&[4]), &why("1 byte"));
+    assert_wrong("long state", &state(&[4, 0, 0, 0, 0]), &why("5 bytes"));
+    let twice = stream([version(STATE), version(STATE)]);
+    let why = "a job of a stream's state, where learning or deepening is due";
+    assert_wrong("version twice", &twice, why);
 }
 
 #[test]
@@ -357,9 +431,12 @@ fn files_of_something_else() {
     assert_wrong("picture", b"P5\n1 1\n255\n0", why);
     let why = "not a job: there is no kind 1701670771";
     assert_wrong("prose", b"some text", why);
-    let packing = bytes(Job::Pack(vec![1]));
+    let version_and_prose = [&stream([version(STATE)])[..], b"some text"].concat();
+    assert_wrong("prose behind it", &version_and_prose, why);
     let why = "a job of packing, where learning or deepening is due";
-    assert_wrong("another kind", &packing, why);
+    assert_wrong("another kind", &bytes(Job::Pack(vec![1])), why);
+    let packing = Job::Pack(vec![1]).message();
+    assert_wrong("another kind alone", &stream([packing]), why);
 }
 
 /// However the pair in the first line is written.
@@ -384,8 +461,8 @@ fn lists_of_symbols() {
 #[test]
 fn damaged_bodies() {
     let mut whole = bytes(Job::Learn(small_job()));
-    // The settings' eighth word is the weighted flag.
-    whole[8 + 4 * 7] = 2;
+    // Behind the version message and the job's head the settings' eighth word is the weighted flag.
+    whole[12 + 8 + 4 * 7] = 2;
     assert_wrong("flag", &whole, "not a job: 2 where 0 or 1 is due");
     let mut job = small_job();
     job.count_entries = u32::MAX;
@@ -413,6 +490,7 @@ fn files_that_cannot_be_read() {
 fn arguments() {
     let help = text(run(MA_LEARN, &["--help"], b""));
     assert!(help.starts_with("ma_learn: ") && help.contains("usage: ma_learn"));
+    assert!(help.contains(&format!("stream of state {STATE} ")));
     for name in ma_learn::names::PROPERTIES
         .iter()
         .chain(&ma_learn::names::PREDICTORS)

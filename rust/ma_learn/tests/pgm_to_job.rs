@@ -3,7 +3,7 @@
 mod common;
 
 use common::{Ran, assert_fails, file, run};
-use stream::{Job, Learning};
+use stream::{Job, Learning, Messages, STATE};
 
 const MA_LEARN: &str = env!("CARGO_BIN_EXE_ma_learn");
 const PGM_TO_JOB: &str = env!("CARGO_BIN_EXE_pgm_to_job");
@@ -13,9 +13,10 @@ const SHEET: &[u8] = b"P2\n# two greys\n4 3\n255\n9 9 9 9\n9 7 7 9\n9 9 9 9\n";
 fn job(arguments: &[&str], sheet: &[u8]) -> Learning {
     let ran = run(PGM_TO_JOB, arguments, sheet);
     assert_eq!((ran.status, ran.errors.as_str()), (Some(0), ""));
-    let message = stream::read_message(&mut &ran.output[..])
-        .expect("a message")
-        .expect("one");
+    let mut messages = Messages::open(&ran.output[..]).expect("a stream of this state");
+    let mut next = || messages.next_message().expect("a sound stream");
+    let message = next().expect("a message");
+    assert!(next().is_none(), "one message");
     match Job::read(&message) {
         Ok(Job::Learn(job)) => job,
         _ => panic!("no job of learning"),
@@ -163,6 +164,7 @@ fn arguments() {
     let Ran { status, output, .. } = run(PGM_TO_JOB, &["--help"], b"");
     let help = String::from_utf8(output).expect("text");
     assert!(status == Some(0) && help.contains("usage: pgm_to_job [options] SHEET.pgm > job"));
+    assert!(help.contains(&format!("stream of state {STATE}:")));
     assert_eq!(
         run(PGM_TO_JOB, &["--version"], b"").output,
         b"pgm_to_job 1.0.0\n"

@@ -1,8 +1,8 @@
-//! How many rows a shown tree has at each node, held to the rows' own ways down it.
+//! What a shown tree has at each node: how many rows, held to the rows' own ways down it, and its depth.
 
 use jobs::Run;
 use ma_learn::tree::{Rows, Tree};
-use ma_learn::{job, pgm};
+use ma_learn::{job, pgm, text};
 use ostrovuc::MaNode;
 use stream::{Learning, Settings};
 
@@ -67,4 +67,20 @@ fn rows_are_those_that_come() {
     second.seed_count = 69;
     second.nodes.given = jobs::records(&learnt.room.nodes[..69]);
     assert_shown(&jobs::run(second, true), &properties, 128);
+}
+
+/// Text is set in by what the records say, whatever it is.
+#[test]
+fn depths_are_those_stored() {
+    let leaf = |offset, depth| MaNode::leaf(0, offset).at_depth(depth);
+    let nodes = [MaNode::split(2, 0, 1, 2), leaf(5, 1), leaf(7, 3)];
+    let expected = "\
+nodes           3
+leaves          2
+
+0 property y > 0
+1   yes: Zero, offset 5
+2       no: Zero, offset 7
+";
+    assert_eq!(text::of(&Tree::read(&nodes)), expected);
 }

@@ -1,7 +1,7 @@
 //! Makes a job of learning from a picture. See `HELP`.
 
 use ma_learn::command_line::{
-    self, Failure, Source, arguments, finish, is_option, write_message_out, write_out,
+    self, Failure, Source, arguments, finish, is_option, write_out, write_stream_out,
 };
 use ma_learn::job::{self, MOST_ROWS};
 use ma_learn::pgm;
@@ -108,5 +108,5 @@ fn make(making: Making) -> Result<(), Failure> {
         );
     }
     let job = Job::Learn(job::of_lines(&picture, &lines, making.settings));
-    write_message_out(&job.message())
+    write_stream_out(&job.message())
 }
