@@ -1,6 +1,7 @@
 //! Learning whole: the tree, its bits, the spans and the rows as they end up.
 
 use crate::coder_scratch::CoderScratch;
+use crate::depths;
 use crate::ma_tree::{MaProperties, MaSamples, hooks};
 use crate::sheet::Sheet;
 use crate::timing::{Run, row, timed};
@@ -43,7 +44,8 @@ pub fn learning(sheet: &Sheet, settings: &Settings) {
 }
 
 fn original(samples: MaSamples, settings: &Settings, scratch: &mut CoderScratch) -> Run<Outcome> {
-    let (time, samples, tree) = timed(samples, |s| hooks::learn(s, settings, scratch));
+    let (time, samples, mut tree) = timed(samples, |s| hooks::learn(s, settings, scratch));
+    depths::store(&mut tree.nodes);
     let outcome = Outcome {
         bits: [tree.estimated_bits.to_bits(), tree.flat_bits.to_bits()],
         nodes: tree.nodes,

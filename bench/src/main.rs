@@ -2,10 +2,10 @@
 //!
 //!     bench SEED [learning] < jobs
 //!
-//! The jobs are of learning, digit sheets first and the worst settings last, made from the seed, which is only printed.
-//! Each one is learned whole. Unless `learning` alone is asked for, the rows of each sheet are looked up in its tree, the
-//! tree is written as symbols, and tokens and the learner's parts are timed on each sheet of 65,536 rows and residuals.
-//! The original is compiled from the oracle's copy, by the same names.
+//! The jobs stand behind a version message and are of learning, digit sheets first and the worst settings last, made
+//! from the seed, which is only printed. Each one is learned whole. Unless `learning` alone is asked for, the rows of
+//! each sheet are looked up in its tree, the tree is written as symbols, and tokens and the learner's parts are timed
+//! on each sheet of 65,536 rows and residuals. The original is compiled from the oracle's copy, by the same names.
 
 #[path = "lent.rs"]
 mod adaptive_quant;
@@ -15,6 +15,8 @@ mod bit_writer;
 #[path = "../../oracle/src/oracle/coder_scratch.rs"]
 #[allow(dead_code)]
 mod coder_scratch;
+#[path = "../../oracle/src/oracle/depths.rs"]
+mod depths;
 #[path = "../../oracle/src/oracle/entropy.rs"]
 #[allow(dead_code, unused_imports)]
 mod entropy;
@@ -44,7 +46,7 @@ use sheet::Sheet;
 use std::fs;
 use std::io::{self, BufReader};
 use std::process::ExitCode;
-use stream::{Damaged, Job, Learning, read_message};
+use stream::{Damaged, Job, Learning, Messages};
 
 const ROWS: usize = 65_536;
 const USAGE: &str = "usage: bench SEED [learning] < jobs";
@@ -93,9 +95,9 @@ fn run(seed: &str, learning_alone: bool) -> Result<(), Damaged> {
 }
 
 fn jobs() -> Result<Vec<Learning>, Damaged> {
-    let mut input = BufReader::new(io::stdin().lock());
+    let mut messages = Messages::open(BufReader::new(io::stdin().lock()))?;
     let mut jobs = Vec::new();
-    while let Some(message) = read_message(&mut input)? {
+    while let Some(message) = messages.next_message()? {
         match Job::read(&message)? {
             Job::Learn(job) => jobs.push(job),
             _ => return Err(Damaged("a job of learning is wanted".into())),

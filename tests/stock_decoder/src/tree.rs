@@ -54,15 +54,10 @@ impl Tree {
         self.nodes.len().div_ceil(2)
     }
 
-    /// Splits on the longest way to a leaf. A child stands behind its parent, as learning has it.
+    /// Splits on the longest way to a leaf.
     pub fn depth(&self) -> u32 {
-        let mut depths = vec![0; self.nodes.len()];
-        let nodes = self.nodes.iter().enumerate();
-        for (n, node) in nodes.filter(|(_, node)| node.is_split()) {
-            depths[node.gt as usize] = depths[n] + 1;
-            depths[node.le as usize] = depths[n] + 1;
-        }
-        depths.into_iter().max().unwrap_or(0)
+        let depths = self.nodes.iter().map(|node| node.depth);
+        depths.max().unwrap_or(0)
     }
 
     /// The tree as the library writes it.
