@@ -15,7 +15,7 @@ use Rattle.model.specs.Rows.{Row, Span}
 use Rattle.model.specs.Mode.{span_mode}
 use Rattle.model.specs.Tree.{Node, split, leaf, Info, Record, nodes_of, leaf_reached}
 use Rattle.model.specs.Job.{Offer, Job}
-use Rattle.model.specs.Grow.{Entry, State, Choice, no_choice, chosen, grown_bits, no_entry, leaf_over, greater, choice_from, gt_rows, le_rows, gt_span, le_span, gt_leaf, le_leaf, split_rows, become_split, split_at, step_to, step, steps}
+use Rattle.model.specs.Grow.{Entry, State, Choice, no_choice, chosen, grown_bits, no_entry, leaf_over, foremost, choice_of, gt_rows, le_rows, gt_span, le_span, gt_leaf, le_leaf, split_rows, become_split, split_at, step_to, step, steps}
 use Rattle.model.specs.Learn.{leaf_count, pruned, settled_state, finished, root_state, learned}
 use Rattle.model.specs.Deepen.{rows_at, seed_leaf, with_seed_node, seed_from, seed_state, deepened}
 use Rattle.model.specs.Settings.{Settings}
@@ -48,15 +48,15 @@ module _ {M : Meter} where
     unfolding leaf_over
     leaf-same rows mode s depth h = grind arith
 
-    greater-same : (c : Choice M) (i : ℕ) (o : Option (Offer M)) → greater j c i o ≡ greater other c i o
-    greater-same c i none = refl
-    greater-same no_choice i (some o) = refl
-    greater-same (chosen k p) i (some o) = refl
+    foremost_same : (tree : List (Entry M)) (c : Choice M) (i : ℕ) (o : Option (Offer M)) → foremost j tree c i o ≡ foremost other tree c i o
+    foremost_same tree c i none = refl
+    foremost_same tree no_choice i (some o) = refl
+    foremost_same tree (chosen k p) i (some o) = refl
 
-    choice_same : (c : Choice M) (i : ℕ) (es : List (Entry M)) → choice_from j c i es ≡ choice_from other c i es
-    unfolding choice_from
-    choice_same c i [] = refl
-    choice_same c i (e ∷ es) = ap (λ (d : Choice M). choice_from j d (suc i) es) (greater-same c i e.offer) ∙ choice_same (greater other c i e.offer) (suc i) es
+    choice_same : (tree : List (Entry M)) (m : ℕ) → choice_of j tree m ≡ choice_of other tree m
+    unfolding choice_of
+    choice_same tree zero = refl
+    choice_same tree (suc m) = rw (choice_same tree m) (foremost_same tree (choice_of other tree m) m (get_or tree m no_entry).offer)
 
     split-same : (s : State M) (i : ℕ) (o : Offer M) → length s.rows ≤ n → split_at j s i o ≡ split_at other s i o
     unfolding split_at gt_leaf le_leaf gt_rows le_rows gt_span le_span split_rows

@@ -1,17 +1,17 @@
 -- The waiting leaf that a step chooses, and the invariant over any number of steps. Assumes nothing.
-use mathlib.Core.Path.{◌≡◌, refl, sym, ap, ◌∙◌}
+use mathlib.Core.Path.{◌≡◌, refl}
 use mathlib.Core.Logic.{◌⊎◌, inl, inr}
-use Prim.Native.Nat.{ℕ, zero, suc, ◌+◌, ◌<◌}
-use native.Mathlib.Nat.{zero-add}
+use Prim.Native.Nat.{ℕ, zero, suc, ◌≤◌, ◌<◌}
+use native.Mathlib.Nat.{le_refl}
 use native.Mathlib.Omega.{arith}
 use mathlib.Core.Bool.{Bool}
-use mathlib.Core.List.{List, [], ◌∷◌}
+use mathlib.Core.List.{List}
 use mathlib.Core.Option.{Option, none, some}
 use lib.ListN.{length}
 use Rattle.model.specs.Rows.{Row}
 use Rattle.model.specs.Meter.{Meter}
 use Rattle.model.specs.Job.{Offer, Job}
-use Rattle.model.specs.Grow.{Entry, State, Choice, no_choice, chosen, greater, choice_from, split_at, step_to, step, steps}
+use Rattle.model.specs.Grow.{Entry, State, Choice, no_choice, chosen, foremost, choice_of, choice, split_at, step_to, step, steps}
 use Rattle.model.specs.Kept.{entry_at, Invariant}
 use Rattle.model.proofs.Invariant.{split_keeps}
 
@@ -21,21 +21,19 @@ module _ {M : Meter} where
   Waits tree no_choice = Unit {0}
   Waits tree (chosen k o) = (k < length tree) × ((entry_at tree k).offer ≡ some o)
 
-  greater-waits : (j : Job M) (tree : List (Entry M)) (c : Choice M) (i : ℕ) (o : Option (Offer M)) → i < length tree → (entry_at tree i).offer ≡ o → Waits tree c → Waits tree (greater j c i o)
-  greater-waits j tree c i none h e w = w
-  greater-waits j tree no_choice i (some o) h e w = (h, e)
-  greater-waits j tree (chosen k p) i (some o) h e w = grind arith
+  foremost_waits : (j : Job M) (tree : List (Entry M)) (c : Choice M) (i : ℕ) (o : Option (Offer M)) → i < length tree → (entry_at tree i).offer ≡ o → Waits tree c
+      → Waits tree (foremost j tree c i o)
+  foremost_waits j tree c i none h e w = w
+  foremost_waits j tree no_choice i (some o) h e w = (h, e)
+  foremost_waits j tree (chosen k p) i (some o) h e w = grind arith
 
-  choice_waits : (j : Job M) (tree : List (Entry M)) (c : Choice M) (i : ℕ) (es : List (Entry M)) → i + length es ≡ length tree → ((m : ℕ) → m < length es → entry_at es m ≡ entry_at tree (i + m)) → Waits tree c → Waits tree (choice_from j c i es)
-  unfolding choice_from
-  choice_waits j tree c i [] n same w = w
-  choice_waits j tree c i (e ∷ es) n same w =
-      choice_waits j tree (greater j c i e.offer) (suc i) es (omega arith)
-      (λ m h. same (suc m) (omega arith) ∙ ap (entry_at tree) (omega arith))
-      (greater-waits j tree c i e.offer (omega arith) (ap (λ (x : Entry M). x.offer) (sym (same 0 (omega arith) ∙ ap (entry_at tree) (omega arith)))) w)
+  choice_waits : (j : Job M) (tree : List (Entry M)) (n : ℕ) → n ≤ length tree → Waits tree (choice_of j tree n)
+  unfolding choice_of
+  choice_waits j tree zero h = tt
+  choice_waits j tree (suc n) h = foremost_waits j tree (choice_of j tree n) n (entry_at tree n).offer h refl (choice_waits j tree n (omega arith))
 
-  pub waits : (j : Job M) (tree : List (Entry M)) → Waits tree (choice_from j no_choice 0 tree)
-  waits j tree = choice_waits j tree no_choice 0 tree (zero-add (length tree)) (λ m h. ap (entry_at tree) (sym (zero-add m))) tt
+  pub waits : (j : Job M) (tree : List (Entry M)) → Waits tree (choice j tree)
+  waits j tree = choice_waits j tree (length tree) (le_refl (length tree))
 
   -- a step either finds no waiting leaf and changes nothing, or splits one
   pub record OneSplit (j : Job M) (s t : State M) : Type 0 where
@@ -47,7 +45,7 @@ module _ {M : Meter} where
 
   pub step_is : (j : Job M) (s : State M) → (step j s ≡ s) ⊎ OneSplit j s (step j s)
   unfolding step step_to
-  step_is j s = go (choice_from j no_choice 0 s.tree) (waits j s.tree)
+  step_is j s = go (choice j s.tree) (waits j s.tree)
     where
       go : (c : Choice M) → Waits s.tree c → (step_to j s c ≡ s) ⊎ OneSplit j s (step_to j s c)
       go no_choice w = inl refl

@@ -1,14 +1,15 @@
--- Growth (document 01, "Growth"; the Rust's `grow_tree`): one step splits the waiting leaf with the greatest gain. Assumes nothing.
+-- Growth (document 01, "Growth"; the Rust's `grow_tree`): one step splits the waiting leaf with the greatest gain, of equal gains the one with more
+-- rows, and only then the one with the lower number (02, e). Assumes nothing.
 -- A step that finds no waiting leaf changes nothing. Every new leaf is scored, also after the last split, where the Rust does not:
 -- what a leaf offers is no part of the answer.
 use Rattle.std.specs.Prelude.{ℕ, zero, suc, ◌+◌, cond, List, [], ◌∷◌, ◌++◌, map, length, get_or, take, drop, set, ℤ}
 use Rattle.std.proofs.Math.Option.{Option, none, some}
 use Rattle.model.specs.Meter.{Meter}
-use Rattle.model.specs.Rows.{Row, is_above, Span, no_span, within}
+use Rattle.model.specs.Rows.{Row, is_above, Span, no_span, within, span_size}
 use Rattle.model.specs.Partition.{above_rows, other_rows}
 use Rattle.model.specs.Mode.{span_mode, fresh}
 use Rattle.model.specs.Tree.{Node, split, leaf, Info, Record, no_info}
-use Rattle.model.specs.Job.{Offer, Job}
+use Rattle.model.specs.Job.{Offer, Claim, Job}
 
 -- a node with what stands beside it, its rows and its depth; a leaf that offers a split is waiting
 pub record Entry (M : Meter) : Type 0 where
@@ -49,15 +50,24 @@ module _ {M : Meter} where
       let i = j.info mode rows in
       record { node = leaf; info = i; span = s; depth = depth; offer = j.offered depth i.cost rows }
 
-  -- ---- the waiting leaf that is taken next, the lower number at a tie
-  abbrev pub greater : Job M → Choice M → ℕ → Option (Offer M) → Choice M
-  greater j c i none = c
-  greater j no_choice i (some o) = chosen i o
-  greater j (chosen k p) i (some o) = cond (j.ahead o p) (chosen i o) (chosen k p)
+  -- ---- the waiting leaf that is taken next
+  -- what entry i of a tree claims by the offer
+  abbrev pub claim : List (Entry M) → ℕ → Offer M → Claim M
+  claim tree i o = record { gain = o.gain; rows = span_size (get_or tree i no_entry).span }
 
-  unfoldable pub choice_from : Job M → Choice M → ℕ → List (Entry M) → Choice M
-  choice_from j c i [] = c
-  choice_from j c i (e ∷ es) = choice_from j (greater j c i e.offer) (suc i) es
+  -- the choice so far, of lower numbers, or entry i if that is taken before it
+  abbrev pub foremost : Job M → List (Entry M) → Choice M → ℕ → Option (Offer M) → Choice M
+  foremost j tree c i none = c
+  foremost j tree no_choice i (some o) = chosen i o
+  foremost j tree (chosen k p) i (some o) = cond (j.ahead (claim tree i o) (claim tree k p)) (chosen i o) (chosen k p)
+
+  -- of the first n entries
+  unfoldable pub choice_of : Job M → List (Entry M) → ℕ → Choice M
+  choice_of j tree zero = no_choice
+  choice_of j tree (suc n) = foremost j tree (choice_of j tree n) n (get_or tree n no_entry).offer
+
+  abbrev pub choice : Job M → List (Entry M) → Choice M
+  choice j tree = choice_of j tree (length tree)
 
   -- ---- one split
   module _ (j : Job M) (rows : List Row) (e : Entry M) (o : Offer M) where
@@ -105,7 +115,7 @@ module _ {M : Meter} where
   step_to j s (chosen i o) = split_at j s i o
 
   unfoldable pub step : Job M → State M → State M
-  step j s = step_to j s (choice_from j no_choice 0 s.tree)
+  step j s = step_to j s (choice j s.tree)
 
   -- so many splits, or as many as there are
   unfoldable pub steps : Job M → ℕ → State M → State M

@@ -1,5 +1,5 @@
 -- What growth keeps of a state: where the nodes' spans lie and which rows they hold, fields in range, small costs, no more rows than were handed in, and
--- offers that say how many rows go below.
+-- offers that are said of the rows as they stand, and how many of them go below.
 -- Assumes nothing.
 use Rattle.std.specs.Prelude.{◌≡◌, ◌≢◌, ◌⊎◌, ℕ, ◌≤◌, ◌<◌, Bool, true, false, List, length, get_or, T, ltb}
 use Rattle.std.proofs.Math.Option.{Option, none, some}
@@ -9,7 +9,7 @@ use Rattle.model.specs.Settings.{props_per_row, toks_per_row}
 use Rattle.model.specs.Rows.{Row, Span, within}
 use Rattle.model.specs.Mode.{fresh}
 use Rattle.model.specs.Tree.{Node, split, leaf, is_leaf}
-use Rattle.model.specs.Job.{Offer}
+use Rattle.model.specs.Job.{Offer, Job}
 use Rattle.model.specs.Grow.{Entry, State, no_entry, tree_nodes}
 use Rattle.model.specs.Promise.{SameRows}
 use Rattle.model.specs.Accepting.{Below}
@@ -60,6 +60,14 @@ module _ {M : Meter} where
   pub record Weighed (s : State M) : Type 0 where
     pub offers : (k : ℕ) → k < length s.tree → (o : Offer M) → (entry_at s.tree k).offer ≡ some o
         → Below o (within (entry_at s.tree k).span s.rows)
+
+  -- what an entry offers, nothing perhaps, is what its depth and cost and these rows offer
+  abbrev pub IsOffered : Job M → Entry M → List Row → Type 0
+  IsOffered j e rows = e.offer ≡ j.offered e.depth e.info.cost rows
+
+  -- So it is of each leaf and the rows of its span, as they stand
+  pub record Current (j : Job M) (s : State M) : Type 0 where
+    pub offers : (k : ℕ) → k < length s.tree → T (is_leaf (entry_at s.tree k).node) → IsOffered j (entry_at s.tree k) (within (entry_at s.tree k).span s.rows)
 
   -- the property of what an entry offers is in range
   abbrev pub OfferInRange : Option (Offer M) → Type 0

@@ -38,4 +38,5 @@ pub mod SeedKept
 pub mod SymbolsKept
 pub mod SettledPlain
 pub mod SplitMap
+pub mod Taken
 pub mod Bench

@@ -2,11 +2,11 @@
 -- Document 01's learner is the profile `single`. Assumes nothing.
 use Rattle.std.specs.Prelude.{ℕ, Bool, false, ◌&&◌, List, pos, Float}
 use Rattle.std.specs.Float.{fin}
-use Rattle.std.specs.Float.Ieee.{lt, le}
+use Rattle.std.specs.Float.Ieee.{le}
 use Rattle.model.specs.Lists.{all}
 use Rattle.model.specs.Meter.{Meter}
 use Rattle.model.specs.Settings.{Settings}
-use Rattle.model.specs.Job.{Offer, Job}
+use Rattle.model.specs.Job.{Claim, larger_first, Job}
 use Rattle.model.specs.Evaluate.{info_of, offered}
 use Rattle.model.specs.Flat.{flat_bits}
 use Rattle.model.specs.Single.{singles}
@@ -18,8 +18,8 @@ pub record Profile : Type 1 where
   -- the logarithms 1 to rows lie in their range; the number that comes back if not
   pub logs_fit : List meter.Cost → Bool
   pub logs_number : ℕ
-  -- of two waiting leaves, the first, of a higher node number, is taken before the second
-  pub ahead : Offer meter → Offer meter → Bool
+  -- of two waiting leaves' claims the first, of a higher node number, is taken before the second
+  pub ahead : Claim meter → Claim meter → Bool
 
 -- the job of a profile and settings; `uses` says whether residuals are given and modal offsets on
 abbrev pub job_of : (P : Profile) → Settings P.meter → List P.meter.Cost → Bool → Job P.meter
@@ -48,6 +48,5 @@ single =
       -- each 0 to 32
       logs_fit = all (is_between (fin false 0 (pos 0)) (fin false 1 (pos 5)));
       logs_number = 6;
-      -- the greater gain; at equal gains the lower number stays
-      ahead = λ (o p : Offer singles). lt p.gain o.gain;
+      ahead = larger_first singles;
     }

@@ -1,5 +1,5 @@
 -- Rows, and how they stand in the lent flat lists (document 01, "A job and its rows"). Assumes nothing.
-use Rattle.std.specs.Prelude.{ℕ, zero, suc, ◌/◌, Bool, List, [], ◌∷◌, ◌++◌, map, length, get_or, take, drop, set, ℤ, pos}
+use Rattle.std.specs.Prelude.{ℕ, zero, suc, ◌-◌, ◌/◌, Bool, List, [], ◌∷◌, ◌++◌, map, length, get_or, take, drop, set, ℤ, pos}
 use Rattle.std.proofs.Math.Seq.{slice}
 use Rattle.std.specs.Int.Signed.{lt_z}
 use Rattle.model.specs.Settings.{props_per_row, toks_per_row}
@@ -34,6 +34,10 @@ no_span = record { first = 0; end = 0 }
 
 abbrev pub within : Span → List Row → List Row
 within s rows = slice s.first s.end rows
+
+-- how many rows it has
+abbrev pub span_size : Span → ℕ
+span_size s = s.end - s.first
 
 -- ---- the flat lists
 -- n rows from the front of the lists; residuals may be none
