@@ -6,7 +6,7 @@ use native.Mathlib.Omega.{arith}
 use native.Mathlib.Decide.{ℕ_discrete, dec_lt}
 use mathlib.Core.Bool.{Bool, true, false, cond, not, ◌&&◌, and_assoc}
 use mathlib.Core.List.{List, map}
-use mathlib.Core.Option.{Option, none, some}
+use mathlib.Core.Option.{none, some}
 use lib.ListN.{length, get_or, length-map, get_or-map, get_or-eq_default}
 use lib.Seq.{slice, length-slice}
 use lib.Dec.{T, eqb}
@@ -21,7 +21,7 @@ use Rattle.model.specs.Grow.{Entry, State, no_entry, tree_nodes, leaf_over, gt_r
 use Rattle.model.specs.Promise.{Same, SameRows, key, no_row}
 use Rattle.model.specs.Family.{Child, Family, Anc, parent, under, passes}
 use Rattle.model.specs.Accepting.{Below, OfferFits}
-use Rattle.model.specs.Kept.{HoldsPassing, Laid, entry_at, Invariant}
+use Rattle.model.specs.Kept.{HoldsPassing, Laid, entry_at, Invariant, IsOffered, Current}
 use Rattle.model.proofs.Counting.{count_ext, count_map, count-keep, count-split}
 use Rattle.model.proofs.Parts.{count-above, count-others, length-parts}
 use Rattle.model.proofs.Extended.{extended, length-extended, extended-at, extended-old, extended-gt, extended-le, new-cases, map-extended}
@@ -326,8 +326,15 @@ module _ {M : Meter} where
         (λ own. subst (λ (t : Span). HoldsPassing j.uses (tree_nodes tree') given rows' t n) (sym (ap (λ (x : Entry M). x.span) tree_gt ∙ gt_e_span)) holds_gt)
         (λ own. subst (λ (t : Span). HoldsPassing j.uses (tree_nodes tree') given rows' t (suc n)) (sym (ap (λ (x : Entry M). x.span) tree_le ∙ le_e_span)) holds_le)
 
-    abbrev IsFresh : Span → Type 0
-    IsFresh t = fresh j.uses (within t rows') ≡ within t rows'
+    -- whatever holds of each leaf and the rows of its span, and of the new leaves with theirs
+    split_leaves : (P : Entry M → List Row → Type 0) → P gt_e gt → P le_e le
+        → ((k : ℕ) → k < n → T (is_leaf (entry_at s.tree k).node) → P (entry_at s.tree k) (within (entry_at s.tree k).span s.rows))
+        → (k : ℕ) → k < suc (suc n) → T (is_leaf (entry_at tree' k).node) → P (entry_at tree' k) (within (entry_at tree' k).span rows')
+    split_leaves P g l old = new-cases {P = λ (k : ℕ). T (is_leaf (entry_at tree' k).node) → P (entry_at tree' k) (within (entry_at tree' k).span rows')} n i
+        (λ k h ne. rw (tree_old k h ne) (λ lf. rw (untouched (entry_at s.tree k) lf (inv.bounds k h).1 (clear_of s inv i k inside h (λ (q : i ≡ k). ne (sym q)) was)) (old k h lf)))
+        (rw tree_at (λ lf. absurd (not_leaf lf)))
+        (rw tree_gt (λ lf. rw (ap (λ (t : Span). within t rows') gt_e_span ∙ gt_within) g))
+        (rw tree_le (λ lf. rw (ap (λ (t : Span). within t rows') le_e_span ∙ le_within) l))
 
     gt_again : fresh j.uses gt ≡ gt
     unfolding gt_rows
@@ -337,45 +344,37 @@ module _ {M : Meter} where
     unfolding le_rows
     le_again = fresh-twice j.uses (other_rows above mine)
 
-    fresh_gt : IsFresh (gt_span j s.rows e o)
-    fresh_gt = ap (fresh j.uses) gt_within ∙ gt_again ∙ sym gt_within
-
-    fresh_le : IsFresh (le_span j s.rows e o)
-    fresh_le = ap (fresh j.uses) le_within ∙ le_again ∙ sym le_within
-
-    split_fresh : (k : ℕ) → k < suc (suc n) → T (is_leaf (entry_at tree' k).node) → IsFresh (entry_at tree' k).span
-    split_fresh = new-cases {P = λ (k : ℕ). T (is_leaf (entry_at tree' k).node) → IsFresh (entry_at tree' k).span} n i
-        (λ k h ne. rw (tree_old k h ne) (λ lf. rw (untouched (entry_at s.tree k) lf (inv.bounds k h).1 (clear_of s inv i k inside h (λ (q : i ≡ k). ne (sym q)) was)) (inv.fresh_tokens k h lf)))
-        (rw tree_at (λ lf. absurd (not_leaf lf)))
-        (λ lf. subst IsFresh (sym (ap (λ (x : Entry M). x.span) tree_gt ∙ gt_e_span)) fresh_gt)
-        (λ lf. subst IsFresh (sym (ap (λ (x : Entry M). x.span) tree_le ∙ le_e_span)) fresh_le)
-
-    -- what an old leaf offers is still said of its rows, and what a new one offers is said of its own
-    gt_e_offer : gt_e.offer ≡ j.offered (suc e.depth) gt_e.info.cost gt
-    unfolding gt_leaf leaf_over
-    gt_e_offer = refl
-
-    le_e_offer : le_e.offer ≡ j.offered (suc e.depth) le_e.info.cost le
-    unfolding le_leaf leaf_over
-    le_e_offer = refl
-
-    abbrev Weighs : Span → Option (Offer M) → Type 0
-    Weighs t x = (p : Offer M) → x ≡ some p → Below p (within t rows')
-
-    new_weighs : (x : Entry M) (mine : List Row) → OfferFits mine x.offer → within x.span rows' ≡ mine → Weighs x.span x.offer
-    new_weighs x mine f q p z = rw q (subst (OfferFits mine) z f).1
-
-    pub split_weighs : ((depth : ℕ) (cost : M.Cost) (rows : List Row) → OfferFits rows (j.offered depth cost rows))
-        → ((k : ℕ) → k < n → (p : Offer M) → (entry_at s.tree k).offer ≡ some p → Below p (within (entry_at s.tree k).span s.rows))
-        → (k : ℕ) → k < suc (suc n) → Weighs (entry_at tree' k).span (entry_at tree' k).offer
-    split_weighs fit w = new-cases {P = λ (k : ℕ). Weighs (entry_at tree' k).span (entry_at tree' k).offer} n i
-        (λ k h ne. rw (tree_old k h ne) (λ p q. rw (untouched (entry_at s.tree k) (inv.offers k h p q) (inv.bounds k h).1 (clear_of s inv i k inside h (λ (z : i ≡ k). ne (sym z)) was)) (w k h p q)))
-        (rw tree_at (λ p q. absurd (no_offer p q)))
-        (rw tree_gt (new_weighs gt_e gt (rw gt_e_offer (fit (suc e.depth) gt_e.info.cost gt)) (ap (λ (t : Span). within t rows') gt_e_span ∙ gt_within)))
-        (rw tree_le (new_weighs le_e le (rw le_e_offer (fit (suc e.depth) le_e.info.cost le)) (ap (λ (t : Span). within t rows') le_e_span ∙ le_within)))
+    split_fresh : (k : ℕ) → k < suc (suc n) → T (is_leaf (entry_at tree' k).node) → fresh j.uses (within (entry_at tree' k).span rows') ≡ within (entry_at tree' k).span rows'
+    split_fresh = split_leaves (λ x mine. fresh j.uses mine ≡ mine) gt_again le_again inv.fresh_tokens
 
     split_offers : (k : ℕ) → k < suc (suc n) → (p : Offer M) → (entry_at tree' k).offer ≡ some p → T (is_leaf (entry_at tree' k).node)
     split_offers = search (arith, tree_old, tree_at, no_offer, tree_gt, gt_e_leaf, tree_le, le_e_leaf)
+
+    -- what an old leaf offers is still said of its rows, and what a new one offers is said of its own
+    gt_e_offer : IsOffered j gt_e gt
+    unfolding gt_leaf leaf_over
+    gt_e_offer = refl
+
+    le_e_offer : IsOffered j le_e le
+    unfolding le_leaf leaf_over
+    le_e_offer = refl
+
+    pub split_current : Current j s → Current j (split_at j s i o)
+    unfolding split_at
+    split_current c = record { offers = rw length_tree' (split_leaves (IsOffered j) gt_e_offer le_e_offer c.offers) }
+
+    abbrev Weighs : Entry M → List Row → Type 0
+    Weighs x mine = (p : Offer M) → x.offer ≡ some p → Below p mine
+
+    new_weighs : (x : Entry M) (mine : List Row) → OfferFits mine x.offer → Weighs x mine
+    new_weighs x mine f p q = (subst (OfferFits mine) q f).1
+
+    pub split_weighs : ((depth : ℕ) (cost : M.Cost) (rows : List Row) → OfferFits rows (j.offered depth cost rows))
+        → ((k : ℕ) → k < n → Weighs (entry_at s.tree k) (within (entry_at s.tree k).span s.rows))
+        → (k : ℕ) → k < suc (suc n) → Weighs (entry_at tree' k) (within (entry_at tree' k).span rows')
+    split_weighs fit w k h p q =
+        split_leaves Weighs (new_weighs gt_e gt (rw gt_e_offer (fit gt_e.depth gt_e.info.cost gt))) (new_weighs le_e le (rw le_e_offer (fit le_e.depth le_e.info.cost le)))
+        (λ k h lf. w k h) k h (split_offers k h p q) p q
 
     split_own : (k : ℕ) → T (is_leaf (entry_at tree' k).node) → seeds k ≡ false
     split_own k = search (arith, tree_old, get_or-eq_default)

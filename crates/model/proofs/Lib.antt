@@ -17,6 +17,7 @@ pub mod Invariant
 pub mod Steps
 pub mod Root
 pub mod Below
+pub mod Current
 pub mod Sound
 pub mod Depths
 pub mod Tally
@@ -41,6 +42,7 @@ pub mod SingleLawful
 pub mod Fits32
 pub mod Growing
 pub mod NeverMinusZero
+pub mod Taken
 pub mod Lowest
 pub mod SameAnswer
 pub mod Tests
@@ -54,6 +56,7 @@ pub mod AtExit
 pub mod OneMoreAtExit
 pub mod SameJob
 pub mod Demand3
+pub mod TakenAtExit
 pub mod Vacated
 pub mod BreadthFirst
 pub mod SymbolCount

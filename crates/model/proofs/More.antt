@@ -45,7 +45,7 @@ module _ {M : Meter} where
 
   -- ---- what is not pruned shows the grown tree as it is
   -- a state with no entry vacated
-  pub plain : State M → M.Total → Result M
+  unfoldable pub plain : State M → M.Total → Result M
   plain s flat = result_of s (length s.tree) flat
 
   pub finished-plain : (j : Job M) → prunes j ≡ false → (seeds : ℕ → Bool) (given : List Row) (s : State M) (flat : M.Total) → Invariant j.uses seeds given s
@@ -69,6 +69,10 @@ module _ {M : Meter} where
   set_same f [] i x d e = refl
   set_same {A} f (y ∷ ys) zero x d e = ap (λ (a : A). a ∷ map f ys) e
   set_same {A} f (y ∷ ys) (suc i) x d e = ap (λ (l : List A). f y ∷ l) (set_same f ys i x d e)
+
+  -- b is a with leaf i split as o says
+  abbrev pub SplitSo : Bool → ℕ → Offer M → Result M → Result M → Type 0
+  SplitSo uses i o a b = (one : ResultOneMore uses a b) × (one.number ≡ i) × (one.prop ≡ o.prop) × (one.val ≡ o.val)
 
   -- ---- one split
   module _ (j : Job M) (seeds : ℕ → Bool) (given : List Row) (s : State M) (flat : M.Total) (inv : Invariant j.uses seeds given s) (i : ℕ) (inside : i < length s.tree)
@@ -154,6 +158,11 @@ module _ {M : Meter} where
 
         two-more : suc (suc (length s.tree)) ≡ length s.tree + 2
         two-more = omega arith
+
+    -- it is of that leaf, as it offers
+    pub split-so : SplitSo j.uses i o (plain s flat) (plain t flat)
+    unfolding split-more
+    split-so = (split-more, refl, refl, refl)
 
   -- ---- any number of steps
   module _ (j : Job M) (unpruned : prunes j ≡ false) (seeds : ℕ → Bool) (given : List Row) (s : State M) (flat : M.Total) (inv : Invariant j.uses seeds given s) where

@@ -75,6 +75,11 @@ module _ {M : Meter} {uses : Bool} {x : Lent M} {most more : ℕ} {a b : Result 
     counts = refl;
   }
 
+  -- it is the same split
+  pub one_more_so : (more : OneMore uses (tree_of a) (lent_after a x) (tree_of b) (lent_after b x)) × (more.number ≡ one.number) × (more.prop ≡ one.prop) × (more.val ≡ one.val)
+  unfolding one_more_at
+  one_more_so = (one_more_at, refl, refl, refl)
+
 -- alike in everything, or in everything but one more split
 abbrev pub EqualOrOneMore : {M : Meter} → Bool → Result M → Result M → Type 0
 EqualOrOneMore uses a b = (b ≡ a) ⊎ ResultOneMore uses a b

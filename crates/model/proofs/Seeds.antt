@@ -7,7 +7,7 @@ use native.Mathlib.Omega.{arith}
 use native.Mathlib.Decide.{ℕ_discrete, dec_lt}
 use mathlib.Core.Bool.{Bool, true, false, not, ◌&&◌, true≢false}
 use mathlib.Core.List.{List, [], ◌∷◌, ◌++◌, map, append-nil}
-use mathlib.Core.Option.{none, some}
+use mathlib.Core.Option.{Option, none, some}
 use lib.ListN.{length, get_or, drop, length-append, length-map, get_or-append, get_or-eq_default, get_or-map}
 use lib.Seq.{take-append-le, take_all, drop_at, get_or-append_seam, ext_get_or}
 use lib.IntN.{ℤ, pos}
@@ -21,10 +21,10 @@ use Rattle.model.specs.Job.{Offer, Job}
 use Rattle.model.specs.Grow.{Entry, State, no_entry, tree_nodes, leaf_over}
 use Rattle.model.specs.Deepen.{rows_at, seed_split, empty_leaf, with_leaf_cost, with_seed_node, seed_from, seed_state}
 use Rattle.model.specs.Promise.{key}
-use Rattle.model.specs.Accepting.{Below, OfferFits, JobFits}
+use Rattle.model.specs.Accepting.{OfferFits, JobFits}
 use Rattle.model.specs.Family.{Child, passes}
 use Rattle.model.specs.Depths.{depth_in}
-use Rattle.model.specs.Kept.{FieldsFit, entry_at, Invariant, Weighed, EntryFits, Covered, Healthy}
+use Rattle.model.specs.Kept.{FieldsFit, entry_at, Invariant, Weighed, IsOffered, Current, EntryFits, Covered, Healthy}
 use Rattle.model.proofs.Lawful.{Bounds}
 use Rattle.model.proofs.Counting.{count_map, count-keep, count_ext, count_none, count-all, count-below, length-keep, count_at_most}
 use Rattle.model.proofs.Paths.{T→true, meets-leaf, reached-leaf}
@@ -66,6 +66,19 @@ module _ {M : Meter} (B : Bounds M) (j : Job M) (seed : List (Record M)) (rows :
   is_leaf_lem : (ps : List ℤ) → T (is_leaf (get_or nodes (leaf_reached nodes ps) leaf))
   is_leaf_lem ps = (reached-leaf nodes good.rooted.family.forward (has_root seed faultless) ps).0
 
+  -- ---- offers
+  -- no rows offer nothing
+  nothing-offered : (depth : ℕ) (cost : M.Cost) → j.offered depth cost [] ≡ none
+  nothing-offered depth cost = go (j.offered depth cost []) (fit.offer_fits depth cost [])
+    where
+      go : (x : Option (Offer M)) → OfferFits [] x → x ≡ none
+      go none f = refl
+      go (some o) f = absurd (lt_irrefl 0 (omega (arith, f.1.some_below, f.1.not_all)))
+
+  -- what a leaf offers is said of these rows
+  abbrev OffersOf : Entry M → List Row → Type 0
+  OffersOf x mine = T (is_leaf x.node) → IsOffered j x mine
+
   -- ---- the state after the first i nodes of the seed
   record Seeding (i : ℕ) (s : State M) : Type 0 where
     counted : length s.tree ≡ i
@@ -75,7 +88,7 @@ module _ {M : Meter} (B : Bounds M) (j : Job M) (seed : List (Record M)) (rows :
     apart : (x k : ℕ) → x < i → k < i → x ≢ k → ((entry_at s.tree x).span.end ≤ (entry_at s.tree k).span.first) ⊎ ((entry_at s.tree k).span.end ≤ (entry_at s.tree x).span.first)
     beside : (k : ℕ) → k < i → seed_splits k ≡ true → BesideSplit (entry_at s.tree k)
     offers : (k : ℕ) → k < i → (o : Offer M) → (entry_at s.tree k).offer ≡ some o → T (is_leaf (entry_at s.tree k).node)
-    weighed : (k : ℕ) → k < i → (o : Offer M) → (entry_at s.tree k).offer ≡ some o → Below o (within (entry_at s.tree k).span s.rows)
+    current : (k : ℕ) → k < i → OffersOf (entry_at s.tree k) (within (entry_at s.tree k).span s.rows)
     fits : (k : ℕ) → k < i → EntryFits (entry_at s.tree k)
     small : (k : ℕ) → k < i → seed_splits k ≡ false → B.Small 1 (M.total (entry_at s.tree k).info.cost)
     covered : (p : ℕ) → p < length s.rows → Covered s.tree p
@@ -89,7 +102,7 @@ module _ {M : Meter} (B : Bounds M) (j : Job M) (seed : List (Record M)) (rows :
     mine : T (is_leaf (get_or nodes i leaf)) → within x.span (s.rows ++ more) ≡ fresh j.uses (rows_at nodes i rows)
     beside : seed_splits i ≡ true → BesideSplit x
     offer : (o : Offer M) → x.offer ≡ some o → T (is_leaf x.node)
-    weighs : (o : Offer M) → x.offer ≡ some o → Below o (within x.span (s.rows ++ more))
+    current : OffersOf x (within x.span (s.rows ++ more))
     fits : EntryFits x
     small : seed_splits i ≡ false → B.Small 1 (M.total x.info.cost)
     enough : length more ≡ count_if (λ (r : Row). eqb (reached r) i) rows
@@ -157,8 +170,7 @@ module _ {M : Meter} (B : Bounds M) (j : Job M) (seed : List (Record M)) (rows :
           (all {P = λ (k : ℕ). Apart i k} (λ k hk ne. rw (at_new, at_old k hk) (flip (new_apart k hk))) (λ ne. absurd (ne refl)) k hk) y hy;
       beside = all {P = λ (k : ℕ). seed_splits k ≡ true → BesideSplit (entry_at tree' k)} (λ k h. rw (at_old k h) (sg.beside k h)) (rw at_new add.beside);
       offers = all {P = λ (k : ℕ). (o : Offer M) → (entry_at tree' k).offer ≡ some o → T (is_leaf (entry_at tree' k).node)} (λ k h. rw (at_old k h) (sg.offers k h)) (rw at_new add.offer);
-      weighed = all {P = λ (k : ℕ). (o : Offer M) → (entry_at tree' k).offer ≡ some o → Below o (within (entry_at tree' k).span rows')}
-          (λ k h. rw (at_old k h) (λ o q. rw (within_old k h) (sg.weighed k h o q))) (rw at_new add.weighs);
+      current = all {P = λ (k : ℕ). OffersOf (entry_at tree' k) (within (entry_at tree' k).span rows')} (λ k h. rw (at_old k h, within_old k h) (sg.current k h)) (rw at_new add.current);
       fits = all {P = λ (k : ℕ). EntryFits (entry_at tree' k)} (λ k h. rw (at_old k h) (sg.fits k h)) (rw at_new add.fits);
       small = all {P = λ (k : ℕ). seed_splits k ≡ false → B.Small 1 (M.total (entry_at tree' k).info.cost)} (λ k h. rw (at_old k h) (sg.small k h)) (rw at_new add.small);
       covered = new_covered;
@@ -189,7 +201,7 @@ module _ {M : Meter} (B : Bounds M) (j : Job M) (seed : List (Record M)) (rows :
         mine = rw e (λ t. absurd t);
         beside = λ q. (refl, refl);
         offer = λ o q. absurd (none_is_no_some o q);
-        weighs = λ o q. absurd (none_is_no_some o q);
+        current = λ lf. absurd lf;
         fits = record { node_fits = f; pred_fits = tt; offer_fits = tt };
         small = λ q. absurd (true≢false (sym is-split ∙ q));
         enough = sym (count_none (λ (r : Row). eqb (reached r) i) rows (none-reach i is-split));
@@ -216,7 +228,7 @@ module _ {M : Meter} (B : Bounds M) (j : Job M) (seed : List (Record M)) (rows :
         mine = λ t. sym (ap (fresh j.uses) q ∙ fresh-none j.uses);
         beside = λ z. absurd (true≢false (sym z ∙ is_no_split));
         offer = λ o z. absurd (none_is_no_some o z);
-        weighs = λ o z. absurd (none_is_no_some o z);
+        current = λ lf. sym (nothing-offered depth M.nought);
         fits = record { node_fits = f; pred_fits = f; offer_fits = tt };
         small = λ z. B.small_nought;
         enough = ap length (fresh-none j.uses) ∙ counted [] q;
@@ -228,7 +240,7 @@ module _ {M : Meter} (B : Bounds M) (j : Job M) (seed : List (Record M)) (rows :
         mine = λ t. added ∙ ap (fresh j.uses) (sym q);
         beside = λ z. absurd (true≢false (sym z ∙ is_no_split));
         offer = λ o z. tt;
-        weighs = λ o z. rw added (subst (OfferFits fr) z (fit.offer_fits depth x.info.cost fr)).1;
+        current = λ lf. rw added;
         fits = leaf_over-fits B j (length rows) fit fr md sp depth;
         small = λ z. leaf_over-small B j (length rows) fit fr md sp depth few;
         enough = length-fresh j.uses (r ∷ rs) ∙ counted (r ∷ rs) q;
@@ -324,8 +336,16 @@ module _ {M : Meter} (B : Bounds M) (j : Job M) (seed : List (Record M)) (rows :
     offers = λ k h. seeding.offers k (inside h);
   }
 
+  pub seed-current : Current j s₀
+  seed-current = record { offers = λ k h. seeding.current k (inside h) }
+
   pub seed-weighed : Weighed s₀
-  seed-weighed = record { offers = λ k h. seeding.weighed k (inside h) }
+  seed-weighed = record {
+    offers = λ k h o q.
+        let e = entry_at s₀.tree k in
+        let mine = within e.span s₀.rows in
+        (subst (OfferFits mine) (sym (seeding.current k (inside h) (seeding.offers k (inside h) o q)) ∙ q) (fit.offer_fits e.depth e.info.cost mine)).1;
+  }
 
   pub seed-healthy : Healthy B.Small seed_splits rows s₀
   seed-healthy = record {
