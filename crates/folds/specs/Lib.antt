@@ -1,4 +1,4 @@
--- `First`: the first place with the greatest entry. `Range`: the lowest and the highest entry. `Sums`: the sum of the cells before each. `Counts`: cells that count by place.
+-- `First`: the first place that none goes before, and the first with the greatest entry. `Range`: the lowest and the highest entry. `Sums`: the sum of the cells before each. `Counts`: cells that count by place.
 pub mod First
 pub mod Range
 pub mod Sums

@@ -20,7 +20,7 @@ use Rattle.mode.specs.Each.{Each, Offset, Differs}
 use Rattle.folds.specs.Counts.{tallied}
 use Rattle.mode.specs.Counted.{max_width, offset_of}
 use Rattle.mode.specs.Lent.{Clear}
-use Rattle.folds.specs.First.{first_greatest}
+use Rattle.folds.specs.First.{first_place, first_greatest}
 use Rattle.mode.proofs.Above.{above-both, mag_less}
 use Rattle.mode.proofs.Spread.{each_map, near}
 use Rattle.mode.proofs.Tallies.{tallied-at}
@@ -34,7 +34,7 @@ abbrev pub first_best : List ℕ → ℕ → ℕ
 first_best = first_greatest ltb 0
 
 best-is : (counts : List ℕ) (n i m : ℕ) → m ≡ i + n → best_from counts n i (first_best counts i) ≡ first_best counts m
-unfolding best_from first_greatest
+unfolding best_from first_place
 best-is counts zero i m e = ap (first_best counts) (omega arith)
 best-is counts (suc n) i m e = best-is counts n (suc i) m (omega arith)
 
@@ -57,7 +57,7 @@ module _ (rs : List ℤ) (low : ℤ) (counts : List ℕ) where
       go false ih = ih best
 
   oftenest-first : (n : ℕ) → Holds n → oftenest rs n low low 0 ≡ low +ℤ pos (first_best counts n)
-  unfolding oftenest first_greatest
+  unfolding oftenest first_place
   oftenest-first zero h = sym (+ℤ_idr low)
   oftenest-first (suc n) h =
       (λ k. oftenest rs n (sym (+ℤ_one low) k) (start k) (most k))

@@ -12,7 +12,7 @@ use mir.Val.{SFits}
 use mir.ValLaws.{to_z-of_z, to_z_pos}
 use Rattle.folds.specs.Counts.{tallied}
 use Rattle.mode.specs.Counted.{offset_of}
-use Rattle.folds.specs.First.{first_greatest}
+use Rattle.folds.specs.First.{is_above, first_greatest}
 use Rattle.folds.proofs.Less.{less_nat}
 use Rattle.folds.proofs.First.{first_below}
 use Rattle.mode.proofs.Above.{fits-between}
@@ -41,7 +41,7 @@ module _ (c : After-first_greatest-best) where
   best-is = rw (counted, in-use) at (c.first_greatest-best.ensures 0 ∙ (λ i. first_greatest (less_nat i) 0 (take c.args.width c.tally.new.counts) (length (take c.args.width c.tally.new.counts))))
 
   below : best < c.args.width
-  below = let some = c.requires.narrow.some in omega (arith, best-is, first_below ltb 0 (take c.args.width counts) c.args.width)
+  below = let some = c.requires.narrow.some in omega (arith, best-is, first_below (is_above ltb 0 (take c.args.width counts)) c.args.width)
 
   small : best < 2 ^ 31
   small = omega (arith, below, c.requires.narrow.narrow)
