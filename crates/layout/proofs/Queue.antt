@@ -4,24 +4,25 @@ use mathlib.Core.Bool.{Bool, true, false, cond}
 use mathlib.Core.List.{List, [], ◌∷◌, ◌++◌, append_assoc, append-nil}
 use mathlib.Core.Option.{Option, none, some}
 use Prim.Native.Nat.{ℕ, zero, suc, ◌+◌, ◌*◌, ◌-◌, ◌≤◌, ◌<◌}
-use native.Mathlib.Nat.{add-zero, zero-add, mul-one, mul-le-mul_right}
+use native.Mathlib.Nat.{le_refl, add-zero, zero-add, mul-le-mul_right}
 use native.Mathlib.Numerals.{add-one}
 use native.Mathlib.Omega.{arith}
 use lib.ListN.{length, get_or, set, take, drop, length-append, length-drop, length-set, get_or-append}
-use lib.Seq.{get_or-append_seam, get_or-take, length-take-le}
+use lib.Seq.{get_or-append_seam, get_or-take, length-take-le, take-suc, take_all}
 use lib.IntN.{ℤ, pos}
+use Rattle.folds.specs.First.{first_place}
 use Rattle.folds.proofs.First.{first_more, first_same, first_below, first_one}
 use Rattle.model.specs.Meter.{Meter}
-use Rattle.model.specs.Job.{Offer, Job}
-use Rattle.model.specs.Grow.{Entry, no_entry, Choice, no_choice, chosen, greater, choice_from}
+use Rattle.model.specs.Rows.{span_size}
+use Rattle.model.specs.Job.{Offer, Claim, larger_first, Job}
+use Rattle.model.specs.Grow.{Entry, no_entry, claim, Choice, no_choice, chosen, foremost, choice_of, choice}
 use Rattle.model.specs.Lent.{Waiting, no_waiting}
-use Rattle.layout.specs.Waiting.{laid, words_per_leaf, waits, waiting_from, queue_of, without, wait_words, wait_values, wait_gains, first_best_of}
-use Rattle.layout.specs.Waiting.{QueueListsOf, Queued, QueueRoom, SameQueue}
-use Rattle.layout.proofs.Cells.{laid_one, laid-length, laid-read}
-
--- the first best of n gains is one of them
-pub best-below : (M : Meter) (gains : List M.Cost) (n : ℕ) → first_best_of M gains n ≤ n - 1
-best-below M gains n = first_below M.less M.spare gains n
+use Rattle.layout.specs.Waiting.{laid, words_per_leaf, waits, waiting_from, queue_of, without, wait_words, wait_values, wait_gains}
+use Rattle.layout.specs.Waiting.{QueueListsOf, Queued, QueueRoom, SameQueue, claim_at, goes_before}
+use Rattle.layout.specs.Waiting.{foremost as foremost_in}
+use Rattle.layout.specs.Records.{span_is, no_span_record}
+use Rattle.layout.specs.declared.Span.{Span}
+use Rattle.layout.proofs.Cells.{laid-read}
 
 pub length_without : {A : Type 0} (k : ℕ) (l : List A) → k < length l → length (without k l) ≡ length l - 1
 length_without k l lt =
@@ -30,9 +31,9 @@ length_without k l lt =
     let c = length-drop (suc k) l in
     omega arith
 
-pick_get_d : {A B : Type 0} (f : A → B) (b : Bool) (x y : A) → cond b (f x) (f y) ≡ f (cond b x y)
-pick_get_d f true x y = refl
-pick_get_d f false x y = refl
+cond_ap : {A B : Type 0} (f : A → B) (b : Bool) (x y : A) → cond b (f x) (f y) ≡ f (cond b x y)
+cond_ap f true x y = refl
+cond_ap f false x y = refl
 
 module _ {M : Meter} where
   -- ---- leaves added
@@ -48,87 +49,86 @@ module _ {M : Meter} where
   few-waits node depth (some o) = omega arith
 
   -- ---- the leaf chosen
-  abbrev gains_of : List (Waiting M) → List M.Cost
-  gains_of q = laid wait_gains q
-
-  pub gains-length : (q : List (Waiting M)) → length (laid wait_gains q) ≡ length q
-  gains-length q = laid-length wait_gains 1 (λ w. refl) q ∙ mul-one (length q)
-
-  gain-at : (q : List (Waiting M)) (i : ℕ) → i < length q → get_or (gains_of q) i M.spare ≡ (get_or q i no_waiting).offer.gain
-  gain-at q i h =
-      let at : i ≡ i * 1 + 0 = omega arith in
-      ap (λ (k : ℕ). get_or (gains_of q) k M.spare) at ∙ laid-read wait_gains 1 (λ w. refl) q i 0 no_waiting M.spare h (omega arith)
-
-  -- the first best place of a queue
-  abbrev pub best_of : List (Waiting M) → ℕ
-  best_of q = first_best_of M (laid wait_gains q) (length q)
-
   abbrev pub chosen_at : Waiting M → Choice M
   chosen_at w = chosen w.node w.offer
 
-  -- the choice among a queue
-  abbrev pub choice_of : List (Waiting M) → Choice M
-  choice_of [] = no_choice
-  choice_of (w ∷ ws) = chosen_at (get_or (w ∷ ws) (best_of (w ∷ ws)) no_waiting)
+  module _ (j : Job M) (tree : List (Entry M)) where
+    abbrev pub claimed : Waiting M → Claim M
+    claimed w = claim tree w.node w.offer
 
-  module _ (j : Job M) (order : (o p : Offer M) → j.ahead o p ≡ M.less p.gain o.gain) where
+    -- of a queue of the tree's leaves, the one at place k is taken before the one at the lower place `best`
+    abbrev pub ahead_in : List (Waiting M) → ℕ → ℕ → Bool
+    ahead_in q k best = j.ahead (claimed (get_or q k no_waiting)) (claimed (get_or q best no_waiting))
+
+    -- the place of the leaf that is taken
+    abbrev pub best_of : List (Waiting M) → ℕ
+    best_of q = first_place (ahead_in q) (length q)
+
+    -- the choice among a queue
+    abbrev pub chosen_of : List (Waiting M) → Choice M
+    chosen_of [] = no_choice
+    chosen_of (w ∷ ws) = chosen_at (get_or (w ∷ ws) (best_of (w ∷ ws)) no_waiting)
+
     -- one more waiting leaf behind the others
-    one_more : (w : Waiting M) (q : List (Waiting M)) → greater j (choice_of q) w.node (some w.offer) ≡ choice_of (q ++ (w ∷ []))
-    one_more w [] = ap (λ (i : ℕ). chosen_at (get_or (w ∷ []) i no_waiting)) (sym (first_one M.less M.spare (gains_of (w ∷ []))))
+    one_more : (w : Waiting M) (q : List (Waiting M)) → foremost j tree (chosen_of q) w.node (some w.offer) ≡ chosen_of (q ++ (w ∷ []))
+    one_more w [] = ap (λ (i : ℕ). chosen_at (get_or (w ∷ []) i no_waiting)) (sym (first_one (ahead_in (w ∷ []))))
     one_more w (v ∷ vs) =
         let q : List (Waiting M) = v ∷ vs in
         let r : List (Waiting M) = q ++ (w ∷ []) in
         let b : ℕ = best_of q in
-        let low = best-below M (gains_of q) (length q) in
+        let low = first_below (ahead_in q) (length q) in
         let inside : b < length q = omega arith in
-        let size = gains-length q in
-        let split : gains_of r ≡ gains_of q ++ (w.offer.gain ∷ []) = laid_one wait_gains q w in
-        let same : first_best_of M (gains_of r) (length q) ≡ b =
-        first_same M.less M.spare (gains_of r) (gains_of q) (length q) (λ i l.
-        ap (λ (g : List M.Cost). get_or g i M.spare) split ∙ get_or-append (gains_of q) (w.offer.gain ∷ []) M.spare i (omega arith)) in
-        let old : get_or r b no_waiting ≡ get_or q b no_waiting = get_or-append q (w ∷ []) no_waiting b inside in
-        let new : get_or r (length q) no_waiting ≡ w = get_or-append_seam q w [] no_waiting in
         let long : length r ≡ length q + 1 = length-append q (w ∷ []) in
-        let test : Bool = M.less (get_or q b no_waiting).offer.gain w.offer.gain in
-        let was : get_or (gains_of r) b M.spare ≡ (get_or q b no_waiting).offer.gain = gain-at r b (omega arith) ∙ ap (λ (x : Waiting M). x.offer.gain) old in
-        let is : get_or (gains_of r) (length q) M.spare ≡ w.offer.gain = gain-at r (length q) (omega arith) ∙ ap (λ (x : Waiting M). x.offer.gain) new in
-        let tests : M.less (get_or (gains_of r) b M.spare) (get_or (gains_of r) (length q) M.spare) ≡ test =
-        ap (λ (x : M.Cost). M.less x (get_or (gains_of r) (length q) M.spare)) was ∙ ap (M.less (get_or q b no_waiting).offer.gain) is in
+        let old : (i : ℕ) → i < length q → get_or r i no_waiting ≡ get_or q i no_waiting = get_or-append q (w ∷ []) no_waiting in
+        let new : get_or r (length q) no_waiting ≡ w = get_or-append_seam q w [] no_waiting in
+        let same : first_place (ahead_in r) (length q) ≡ b = first_same (ahead_in r) (ahead_in q) (length q) (λ k best l m. λ i. j.ahead (claimed (old k l i)) (claimed (old best m i))) in
+        let test : Bool = j.ahead (claimed w) (claimed (get_or q b no_waiting)) in
+        let tests : ahead_in r (length q) b ≡ test = λ i. j.ahead (claimed (new i)) (claimed (old b inside i)) in
         let place : best_of r ≡ cond test (length q) b =
-        ap (first_best_of M (gains_of r)) long
-        ∙ sym (first_more M.less M.spare (gains_of r) (length q) b (cond test (length q) b) (sym same) (ap (λ (t : Bool). cond t (length q) b) (sym tests))) in
+        ap (first_place (ahead_in r)) long ∙ sym (first_more (ahead_in r) (length q) b (cond test (length q) b) (sym same) (ap (λ (t : Bool). cond t (length q) b) (sym tests))) in
         let found : get_or r (cond test (length q) b) no_waiting ≡ cond test w (get_or q b no_waiting) =
-        sym (pick_get_d (λ (i : ℕ). get_or r i no_waiting) test (length q) b)
-        ∙ ap (λ (x : Waiting M). cond test x (get_or r b no_waiting)) new
-        ∙ ap (λ (x : Waiting M). cond test w x) old in
-        ap (λ (t : Bool). cond t (chosen_at w) (chosen_at (get_or q b no_waiting))) (order w.offer (get_or q b no_waiting).offer)
-        ∙ pick_get_d chosen_at test w (get_or q b no_waiting)
-        ∙ sym (ap (λ (i : ℕ). chosen_at (get_or r i no_waiting)) place ∙ ap chosen_at found)
+        sym (cond_ap (λ (i : ℕ). get_or r i no_waiting) test (length q) b) ∙ (λ i. cond test (new i) (old b inside i)) in
+        cond_ap chosen_at test w (get_or q b no_waiting) ∙ sym (ap (λ (i : ℕ). chosen_at (get_or r i no_waiting)) place ∙ ap chosen_at found)
 
-    choice_from_lem : (done : List (Waiting M)) (i : ℕ) (es : List (Entry M)) → choice_from j (choice_of done) i es ≡ choice_of (done ++ waiting_from i es)
-    unfolding choice_from waiting_from
-    choice_from_lem done i [] = rw append-nil
-    choice_from_lem done i (e ∷ es) = go e.offer (λ more. choice_from_lem more (suc i) es) where
-      go : (o : Option (Offer M)) → ((more : List (Waiting M)) → choice_from j (choice_of more) (suc i) es ≡ choice_of (more ++ waiting_from (suc i) es))
-          → choice_from j (greater j (choice_of done) i o) (suc i) es ≡ choice_of (done ++ (waits i e.depth o ++ waiting_from (suc i) es))
-      go none onward = onward done
-      go (some o) onward =
-          let w : Waiting M = record { node = i; depth = e.depth; offer = o } in
-          ap (λ (c : Choice M). choice_from j c (suc i) es) (one_more w done)
-          ∙ onward (done ++ (w ∷ []))
-          ∙ ap choice_of (append_assoc done (w ∷ []) (waiting_from (suc i) es))
+    choice_so_far : (n : ℕ) → n ≤ length tree → choice_of j tree n ≡ chosen_of (queue_of (take n tree))
+    unfolding choice_of waiting_from
+    choice_so_far zero h = refl
+    choice_so_far (suc n) h = go (choice_so_far n (omega arith)) e.offer refl
+      where
+        e : Entry M
+        e = get_or tree n no_entry
 
-    -- the model's choice is the first best of the queue
-    pub choice_is : (tree : List (Entry M)) → choice_from j no_choice 0 tree ≡ choice_of (queue_of tree)
-    choice_is tree = choice_from_lem [] 0 tree
+        done : List (Waiting M)
+        done = queue_of (take n tree)
 
-  pub choice_none : (q : List (Waiting M)) → length q ≡ 0 → choice_of q ≡ no_choice
-  choice_none [] e = refl
-  choice_none (w ∷ ws) e = absurd (omega arith)
+        longer : queue_of (take (suc n) tree) ≡ done ++ waits n e.depth e.offer
+        longer =
+            let at : 0 + length (take n tree) ≡ n = omega (arith, length-take-le n tree (omega arith)) in
+            ap queue_of (take-suc tree n no_entry h) ∙ waiting_append 0 (take n tree) (e ∷ [])
+            ∙ ap (λ (i : ℕ). done ++ (waits i e.depth e.offer ++ [])) at ∙ ap (λ (l : List (Waiting M)). done ++ l) (append-nil (waits n e.depth e.offer))
 
-  pub choice_some : (q : List (Waiting M)) → 0 < length q → choice_of q ≡ chosen_at (get_or q (best_of q) no_waiting)
-  choice_some [] h = absurd (omega arith)
-  choice_some (w ∷ ws) h = refl
+        go : choice_of j tree n ≡ chosen_of done → (o : Option (Offer M)) → e.offer ≡ o
+            → foremost j tree (choice_of j tree n) n e.offer ≡ chosen_of (queue_of (take (suc n) tree))
+        go so_far none is = rw (longer, is, append-nil) so_far
+        go so_far (some o) is = rw (longer, is, so_far) (one_more (record { node = n; depth = e.depth; offer = o }) done)
+
+    -- the model's choice is the foremost of the queue
+    pub choice_is : choice j tree ≡ chosen_of (queue_of tree)
+    choice_is = choice_so_far (length tree) (le_refl (length tree)) ∙ ap (λ (t : List (Entry M)). chosen_of (queue_of t)) (take_all (length tree) tree (le_refl (length tree)))
+
+    pub choice_none : length (queue_of tree) ≡ 0 → choice j tree ≡ no_choice
+    choice_none e = choice_is ∙ go (queue_of tree) e
+      where
+        go : (q : List (Waiting M)) → length q ≡ 0 → chosen_of q ≡ no_choice
+        go [] e = refl
+        go (w ∷ ws) e = absurd (omega arith)
+
+    pub choice_some : 0 < length (queue_of tree) → choice j tree ≡ chosen_at (get_or (queue_of tree) (best_of (queue_of tree)) no_waiting)
+    choice_some h = choice_is ∙ go (queue_of tree) h
+      where
+        go : (q : List (Waiting M)) → 0 < length q → chosen_of q ≡ chosen_at (get_or q (best_of q) no_waiting)
+        go [] h = absurd (omega arith)
+        go (w ∷ ws) h = refl
 
   -- ---- the leaf split
   -- what waits at place k of the queue of t is entry `index`, and without its offer the queue is without it
@@ -229,12 +229,6 @@ module _ {M : Meter} where
   same_queue a b = record { words = b.words ∙ a.words; values = b.values ∙ a.values; gains = b.gains ∙ a.gains }
 
   module _ {waiting : ℕ} {q : QueueListsOf M} {leaves : List (Waiting M)} (h : Queued waiting q leaves) where
-    -- the place that the code finds
-    pub best-queued : first_best_of M q.gains waiting ≡ best_of leaves
-    best-queued =
-        first_same M.less M.spare q.gains (laid wait_gains leaves) waiting (λ i l. sym (get_or-take waiting q.gains i M.spare l) ∙ ap (λ (g : List M.Cost). get_or g i M.spare) h.gains)
-        ∙ ap (first_best_of M (laid wait_gains leaves)) h.many
-
     -- the leaf that waits at place k
     module _ (k : ℕ) (lt : k < waiting) where
       inside : k < length leaves
@@ -266,3 +260,25 @@ module _ {M : Meter} where
           ∙ ap (λ (l : List ℤ). get_or l k (pos 0)) h.values
           ∙ ap (λ (i : ℕ). get_or (laid wait_values leaves) i (pos 0)) at
           ∙ laid-read wait_values 1 (λ w. refl) leaves k 0 no_waiting (pos 0) inside (omega arith)
+
+    queued-gain : (k : ℕ) → k < waiting → get_or q.gains k M.spare ≡ (get_or leaves k no_waiting).offer.gain
+    queued-gain k lt =
+        let at : k ≡ k * 1 + 0 = omega arith in
+        sym (get_or-take waiting q.gains k M.spare lt)
+        ∙ ap (λ (l : List M.Cost). get_or l k M.spare) h.gains
+        ∙ ap (λ (i : ℕ). get_or (laid wait_gains leaves) i M.spare) at
+        ∙ laid-read wait_gains 1 (λ w. refl) leaves k 0 no_waiting M.spare (inside k lt) (omega arith)
+
+    -- the place that the code finds, where the spans are those of the tree's leaves
+    pub best-queued : (j : Job M) → ((c d : Claim M) → j.ahead c d ≡ larger_first M c d) → (tree : List (Entry M)) (spans : List Span)
+        → ((k : ℕ) → k < waiting → span_is (get_or spans (get_or leaves k no_waiting).node no_span_record) ≡ (get_or tree (get_or leaves k no_waiting).node no_entry).span)
+        → foremost_in q spans waiting ≡ best_of j tree leaves
+    best-queued j order tree spans held =
+        first_same (goes_before q spans) (ahead_in j tree leaves) waiting
+        (λ k best l m. (λ i. larger_first M (claims k l i) (claims best m i)) ∙ sym (order (claimed j tree (get_or leaves k no_waiting)) (claimed j tree (get_or leaves best no_waiting))))
+        ∙ ap (first_place (ahead_in j tree leaves)) h.many
+      where
+        claims : (k : ℕ) → k < waiting → claim_at q spans k ≡ claimed j tree (get_or leaves k no_waiting)
+        claims k l =
+            let at = ap (λ (i : ℕ). span_size (span_is (get_or spans i no_span_record))) (queued-node k l) ∙ ap span_size (held k l) in
+            λ i. record { gain = queued-gain k l i; rows = at i }

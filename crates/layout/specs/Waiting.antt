@@ -1,14 +1,17 @@
 -- How three flat lists hold the queue of waiting leaves: four words (node, property, depth, how many rows go below), a threshold and a gain a leaf, in the order
 -- of the nodes' numbers.
 -- The queue is a function of the tree: each leaf that offers a split waits (document 01, "Growth"). Assumes nothing.
-use Rattle.std.specs.Prelude.{ℕ, suc, ◌+◌, ◌*◌, ◌≤◌, ◌≡◌, List, [], ◌∷◌, ◌++◌, length, set, take, drop, ℤ, Float}
+use Rattle.std.specs.Prelude.{ℕ, suc, ◌+◌, ◌*◌, ◌≤◌, ◌<◌, ◌≡◌, Bool, List, [], ◌∷◌, ◌++◌, length, get_or, set, take, drop, ℤ, Float}
 use Rattle.std.proofs.Math.Option.{Option, none, some}
-use Rattle.folds.specs.First.{first_greatest}
+use Rattle.folds.specs.First.{first_place}
 use Rattle.model.specs.Meter.{Meter}
 use Rattle.model.specs.Single.{singles}
-use Rattle.model.specs.Job.{Offer}
+use Rattle.model.specs.Rows.{span_size}
+use Rattle.model.specs.Job.{Offer, Claim, larger_first}
 use Rattle.model.specs.Grow.{Entry}
 use Rattle.model.specs.Lent.{Waiting}
+use Rattle.layout.specs.Records.{span_is, no_span_record}
+use Rattle.layout.specs.declared.Span.{Span}
 
 -- one part of each entry, end to end
 abbrev pub laid : {E A : Type 0} → (E → List A) → List E → List A
@@ -82,9 +85,23 @@ put_wait_words k w words =
     let at = k * words_per_leaf in
     set (set (set (set words at w.node) (at + 1) w.offer.prop) (at + 2) w.depth) (at + 3) w.offer.below
 
--- the first of the first n places with the greatest gain: at a tie the lower node number is taken
-abbrev pub first_best_of : (M : Meter) → List M.Cost → ℕ → ℕ
-first_best_of M = first_greatest M.less M.spare
+-- ---- the leaf that is taken next
+-- the node of the leaf at place k
+abbrev pub leaf_at : {M : Meter} → QueueListsOf M → ℕ → ℕ
+leaf_at q k = get_or q.words (k * words_per_leaf) 0
 
-abbrev pub first_best : List Float → ℕ → ℕ
-first_best = first_best_of singles
+-- what the order of waiting leaves looks at, of the leaf at place k: its gain, and the rows of its node's span
+abbrev pub claim_at : {M : Meter} → QueueListsOf M → List Span → ℕ → Claim M
+claim_at {M} q spans k = record { gain = get_or q.gains k M.spare; rows = span_size (span_is (get_or spans (leaf_at q k) no_span_record)) }
+
+-- the leaf at place k is taken before the one at the lower place `best`
+abbrev pub goes_before : {M : Meter} → QueueListsOf M → List Span → ℕ → ℕ → Bool
+goes_before {M} q spans k best = larger_first M (claim_at q spans k) (claim_at q spans best)
+
+-- of the first n leaves the first that none goes before
+abbrev pub foremost : {M : Meter} → QueueListsOf M → List Span → ℕ → ℕ
+foremost q spans = first_place (goes_before q spans)
+
+-- each of the first n leaves' nodes has a span
+abbrev pub HaveSpans : {M : Meter} → ℕ → QueueListsOf M → List Span → Type 0
+HaveSpans n q spans = (k : ℕ) → k < n → leaf_at q k < length spans

@@ -6,7 +6,8 @@
 ghost use Rattle.std.specs.Prelude.{◌≡◌, ◌+◌, ◌/◌, ◌≤◌, ◌<◌, eqb, length};
 ghost use Rattle.model.specs.Settings.{max_nodes};
 ghost use Rattle.model.specs.Deepen.{rowless};
-ghost use Rattle.layout.specs.Records.{node_is, node_at, leaf_record};
+ghost use Rattle.model.specs.Rows.{span_size};
+ghost use Rattle.layout.specs.Records.{node_is, node_at, leaf_record, span_is};
 ghost use Rattle.layout.specs.Tree.{HasRoom, put, info_at, depth_at, leaf_with, put_split, entry_record};
 ghost use Rattle.layout.specs.Values.{info_is};
 ghost use Rattle.layout.specs.Lent.{lists_in, SameNodesLent};
@@ -98,6 +99,15 @@ impl MaNode {
 pub struct Span {
     pub first: u32,
     pub end: u32,
+}
+
+impl Span {
+    // How many rows it has.
+    pub fn rows(self) -> u32
+        ensures { result ≡ span_size (span_is self) }
+    {
+        self.end.saturating_sub(self.first)
+    }
 }
 
 // The split that a leaf offers, with its gain in bits, and how many rows then go below, to le.

@@ -1,18 +1,20 @@
-// The queue of waiting leaves, in the order of their node numbers: so the first of the greatest gains has the lowest
+// The queue of waiting leaves, in the order of their node numbers: so the first that none goes before has the lowest
 // number. It stands in three flat lists of numbers, as the C interface lends them: node, property, depth and how many
-// rows go below, then the threshold, then the gain.
+// rows go below, then the threshold, then the gain. How many rows a leaf has is read in its node's span.
 #![tactic(auto)]
 
-ghost use Rattle.std.specs.Prelude.{◌≡◌, List, ◌++◌, ◌+◌, ◌-◌, ◌≤◌, ◌<◌, length};
+ghost use Rattle.std.specs.Prelude.{◌≡◌, List, ◌++◌, ◌+◌, ◌-◌, ◌≤◌, ◌<◌, length, get_or};
+ghost use Rattle.std.specs.Float.{nan};
 ghost use Rattle.model.specs.Settings.{max_nodes};
 ghost use Rattle.model.specs.Single.{singles};
 ghost use Rattle.model.specs.Lent.{Waiting};
 ghost use Rattle.layout.specs.Values.{offer_is};
-ghost use Rattle.layout.specs.Waiting.{first_best, Queued, QueueRoom, SameQueue, without, waits};
+ghost use Rattle.layout.specs.Waiting.{leaf_at, claim_at, goes_before, foremost, HaveSpans};
+ghost use Rattle.layout.specs.Waiting.{Queued, QueueRoom, SameQueue, without, waits};
 ghost use Rattle.queue.specs.Room.{RoomFor, leaves_lent, cleared};
 ghost use Rattle.queue.specs.Lent.{queue_in, SameQueueLent, PendingAt, waiting_is, put_waiting};
 
-use layout::Offer;
+use layout::{Nodes, Offer};
 
 // How many words a waiting leaf has: node, property, depth and how many rows go below.
 const LEAF_WORDS: usize = 4;
@@ -45,12 +47,44 @@ impl<'a> Queue<'a> {
             .min(self.gains.len())
     }
 
-    // The first place with the greatest gain.
-    pub fn greatest(&self) -> usize
-        requires { self.now.waiting ≤ length self.now.gains.now }
-        ensures { result ≡ first_best self.now.gains.now self.now.waiting }
+    // How many rows the leaf at place k has.
+    fn rows(&self, at: &Nodes, k: usize) -> u32
+        requires { QueueRoom (k + 1) (queue_in self.now)
+            × (leaf_at (queue_in self.now) k < length at.now.spans.now) }
+        ensures { result ≡ (claim_at (queue_in self.now) at.now.spans.now k).rows }
     {
-        folds::first_greatest(&self.gains[..self.waiting])
+        at.spans[self.words[k * LEAF_WORDS] as usize].rows()
+    }
+
+    // Whether the leaf at place k is taken before the one at the lower place `best`, whose gain is `top`: it has the
+    // greater gain, or of equal gains more rows. Most leaves offer less than the best so far, so that is asked first.
+    fn goes_before(&self, at: &Nodes, k: usize, best: usize, top: f32) -> bool
+        requires places { (k < self.now.waiting) × (best < self.now.waiting)
+            × QueueRoom self.now.waiting (queue_in self.now)
+            × HaveSpans self.now.waiting (queue_in self.now) at.now.spans.now }
+        requires top { top ≡ get_or self.now.gains.now best nan }
+        ensures { result ≡ goes_before (queue_in self.now) at.now.spans.now k best }
+    {
+        let gain = self.gains[k];
+        !(gain < top) && (top < gain || self.rows(at, best) < self.rows(at, k))
+    }
+
+    // The place of the leaf that is taken next: the first that none goes before. The gain to beat is at hand, since it
+    // changes so seldom that no turn waits for it.
+    pub fn foremost(&self, at: &Nodes) -> usize
+        requires { (0 < self.now.waiting) × QueueRoom self.now.waiting (queue_in self.now)
+            × HaveSpans self.now.waiting (queue_in self.now) at.now.spans.now }
+        ensures { result ≡ foremost (queue_in self.now) at.now.spans.now self.now.waiting }
+    {
+        let mut best = 0;
+        let mut top = self.gains[0];
+        for k in 1..self.waiting {
+            if self.goes_before(at, k, best, top) {
+                best = k;
+                top = self.gains[k];
+            }
+        }
+        best
     }
 
     // The leaf that waits at place k.
