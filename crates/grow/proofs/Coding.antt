@@ -19,7 +19,7 @@ use Rattle.layout.specs.declared.Tree.{Tree}
 use Rattle.layout.specs.Records.{no_record, no_span_record, span_is}
 use Rattle.layout.specs.Tree.{NodeLists, HasRoom}
 use Rattle.layout.specs.Values.{offer_is}
-use Rattle.layout.specs.Waiting.{Queued, SameQueue, queue_of, without, waits, first_best}
+use Rattle.layout.specs.Waiting.{Queued, SameQueue, queue_of, without, waits, foremost}
 use Rattle.queue.specs.declared.Pending.{Pending}
 use Rattle.queue.specs.declared.Queue.{Queue}
 use Rattle.queue.specs.Lent.{queue_in, PendingAt}
@@ -33,7 +33,7 @@ use Rattle.grow.proofs.Stepping as stepping
 
 module _ {job : Job} {counts : List ℕ} {x : Flat} {lists : NodeLists} {q : Queue} {tree : Tree}
     {lent : NodeLists} {st : State singles} {seeds : ℕ → Bool} {given : List Row} (left : ℕ) (g : Grows job (work counts x lists q) tree (left + 1) lent st seeds given)
-    (k : ℕ) (wait : 0 < q.waiting) (best : k ≡ first_best q.gains.now q.waiting)
+    (k : ℕ) (wait : 0 < q.waiting) (best : k ≡ foremost (queue_in q) lists.spans q.waiting)
     (p : Pending) (is : PendingAt (queue_in q) k p) (sp : Span) (read : sp ≡ get_or lists.spans p.node no_span_record)
     {y : Flat} {r : Sides} (cut : RowsSplit (ltb 0 left) job counts (p.depth + 1) p.offer.prop p.offer.val (span_is sp) x y r) where
   abbrev w : Waiting singles

@@ -2,24 +2,23 @@
 use mathlib.Core.Path.{◌≡◌, refl, sym, ap, ◌∙◌, subst}
 use mathlib.Core.Bool.{Bool}
 use mathlib.Core.List.{List}
-use Prim.Native.Nat.{ℕ, zero, suc, ◌+◌, ◌-◌, ◌≤◌, ◌<◌}
+use Prim.Native.Nat.{ℕ, zero, suc, ◌+◌, ◌-◌, ◌<◌}
 use native.Mathlib.Omega.{arith}
 use lib.ListN.{length}
 use Rattle.model.specs.Rows.{Row}
 use Rattle.model.specs.Meter.{Meter}
 use Rattle.model.specs.Single.{singles}
 use Rattle.model.specs.Job as model
-use Rattle.model.specs.Job.{Offer}
 use Rattle.model.specs.Profile.{job_of, single}
 use Rattle.model.specs.Grow.{State, step_to, step, steps}
 use Rattle.refuse.specs.Given.{settings_of}
 use Rattle.refuse.specs.declared.Job.{Job}
 use Rattle.layout.specs.declared.Tree.{Tree}
 use Rattle.layout.specs.Tree.{NodeLists}
-use Rattle.layout.specs.Waiting.{SameQueue, queue_of, first_best}
+use Rattle.layout.specs.Waiting.{SameQueue, QueueRoom, HaveSpans, queue_of, foremost}
 use Rattle.queue.specs.declared.Queue.{Queue}
 use Rattle.queue.specs.Lent.{queue_in}
-use Rattle.layout.proofs.Queue.{choice_is, choice_none, same-itself, same_queue}
+use Rattle.layout.proofs.Queue.{choice_none, fewer-room, same-itself, same_queue}
 use Rattle.rows.specs.Flat.{Flat, SameSize}
 use Rattle.rows.proofs.Shapes.{size_same, size-then}
 use Rattle.lent.specs.Fitting.{Fitting}
@@ -27,6 +26,7 @@ use Rattle.leaf.proofs.Making.{uses_still}
 use Rattle.lent.specs.Lists.{work}
 use Rattle.lent.specs.Grows.{job_in, Grows, Growable}
 use Rattle.grow.specs.Grown.{Splits, GrownTo}
+use Rattle.grow.proofs.Choosing.{have_spans}
 
 -- ---- the model's steps, the first of them taken first
 steps_front : {M : Meter} (j : model.Job M) (n : ℕ) (st : State M) → steps j (suc n) st ≡ steps j n (step j st)
@@ -39,10 +39,10 @@ unfolding steps
 steps-zero j st = refl
 
 -- where no leaf waits
-module _ {M : Meter} (j : model.Job M) (order : (o p : Offer M) → j.ahead o p ≡ M.less p.gain o.gain) (st : State M) (none_wait : length (queue_of st.tree) ≡ 0) where
+module _ {M : Meter} (j : model.Job M) (st : State M) (none_wait : length (queue_of st.tree) ≡ 0) where
   no_step : step j st ≡ st
   unfolding step step_to
-  no_step = ap (step_to j st) (choice_is j order st.tree ∙ choice_none (queue_of st.tree) none_wait)
+  no_step = ap (step_to j st) (choice_none j st.tree none_wait)
 
   no_steps : (n : ℕ) → steps j n st ≡ st
   unfolding steps
@@ -83,15 +83,18 @@ module _ {job : Job} {counts₀ counts : List ℕ} {x₀ x : Flat} {lists₀ lis
       let r = h.reached first.lent first.state first.seeds first.given first.grows in
       record { lent = first.lent; state = r.state; seeds = first.seeds; given = first.given; grows = r.grows }
 
-  pub gains-enough : q.waiting ≤ length q.gains.now
-  gains-enough = let room = going_on.grows.queue_room.gains in omega arith
+  pub queue-room : QueueRoom q.waiting (queue_in q)
+  queue-room = fewer-room going_on.grows.queue_room (omega arith)
 
   -- ---- one split more
   module _ (some_left : 0 < left) where
     one-less : left - 1 + 1 ≡ left
     one-less = omega arith
 
-    pub splits : (k : ℕ) → 0 < q.waiting → k ≡ first_best q.gains.now q.waiting → Splits job (work counts x lists q) tree (left - 1) k
+    pub spans_there : HaveSpans q.waiting (queue_in q) lists.spans
+    spans_there = have_spans going_on.grows some_left
+
+    pub splits : (k : ℕ) → 0 < q.waiting → k ≡ foremost (queue_in q) lists.spans q.waiting → Splits job (work counts x lists q) tree (left - 1) k
     splits k wait best = record {
       growable = subst (λ (m : ℕ). Growable job (work counts x lists q) tree m) (sym one-less) going_on;
       some_wait = wait;
@@ -143,4 +146,4 @@ module _ {job : Job} {counts₀ counts : List ℕ} {x₀ x : Flat} {lists₀ lis
     all_made e = ends (ap (λ (m : ℕ). steps (job_in job x₀) m r.state) e ∙ steps-zero (job_in job x₀) r.state)
 
     pub none_waits : 0 < left → q.waiting ≡ 0 → GrownTo job counts₀ x₀ x lists tree lent (steps (job_in job x₀) more st)
-    none_waits some none = ends (no_steps (job_in job x₀) (λ o p. refl) r.state (sym (r.grows.queued some).many ∙ none) left)
+    none_waits some none = ends (no_steps (job_in job x₀) r.state (sym (r.grows.queued some).many ∙ none) left)

@@ -36,7 +36,7 @@ use Rattle.layout.specs.declared.Tree.{Tree}
 use Rattle.layout.specs.Records.{span_is}
 use Rattle.layout.specs.Tree.{NodeLists, holding, put, put_split}
 use Rattle.layout.specs.Values.{info_is, offer_is}
-use Rattle.layout.specs.Waiting.{Queued, SameQueue, queue_of, without, waits, first_best}
+use Rattle.layout.specs.Waiting.{Queued, SameQueue, queue_of, without, waits, foremost}
 use Rattle.queue.specs.declared.Queue.{Queue}
 use Rattle.queue.specs.Lent.{queue_in}
 use Rattle.layout.proofs.Held.{room-fewer, SameCells, same-cells, put_same, put-more, put-split}
@@ -55,7 +55,7 @@ use Rattle.grow.proofs.Choosing as choosing
 
 module _ {job : Job} {counts : List ℕ} {x : Flat} {lists : NodeLists} {q : Queue} {tree : Tree}
     {lent : NodeLists} {st : State singles} {seeds : ℕ → Bool} {given : List Row} (left : ℕ) (g : Grows job (work counts x lists q) tree (left + 1) lent st seeds given)
-    (k : ℕ) (wait : 0 < q.waiting) (best : k ≡ first_best q.gains.now q.waiting) where
+    (k : ℕ) (wait : 0 < q.waiting) (best : k ≡ foremost (queue_in q) lists.spans q.waiting) where
   abbrev j : model.Job singles
   j = job_in job x
 
@@ -84,7 +84,7 @@ module _ {job : Job} {counts : List ℕ} {x : Flat} {lists : NodeLists} {q : Que
   next = split_at j st i o
 
   standing : StandsIn st.tree w k
-  standing = choosing.standing left g k wait best
+  standing = choosing.stands_there left g k wait best
 
   shape : SplitOf (uses_of job.settings x) st next i o gt le
   shape = split_of j seeds given st g.inv i standing.within (choosing.was_leaf left g k wait best) o
@@ -293,7 +293,7 @@ module _ {job : Job} {counts : List ℕ} {x : Flat} {lists : NodeLists} {q : Que
         ∙ ap (λ (a : Option (Offer singles)). (rest ++ waits n (suc w.depth) gt.offer) ++ waits (n + 1) (suc w.depth) a) (le-offer last)
         ∙ ap (λ (d : ℕ). (rest ++ waits n d gt.offer) ++ waits (n + 1) (suc w.depth) le.offer) (same-depth ∙ sym gt-depth)
         ∙ ap (λ (d : ℕ). (rest ++ waits n gt.depth gt.offer) ++ waits (n + 1) d le.offer) (same-depth ∙ sym le-depth)
-        ∙ sym (queue-split st.tree k (become_split e o n) gt le (choosing.in_queue left g k wait best) gone)
+        ∙ sym (queue-split st.tree k (become_split e o n) gt le (choosing.waits_there left g k wait best) gone)
 
     longer : length next.tree ≡ n + 2
     longer = let l = shape.longer in omega arith

@@ -5,17 +5,18 @@ use Rattle.model.specs.Grow.{State}
 use Rattle.refuse.specs.declared.Job.{Job}
 use Rattle.layout.specs.declared.Tree.{Tree}
 use Rattle.layout.specs.Tree.{NodeLists, holding}
-use Rattle.layout.specs.Waiting.{first_best}
+use Rattle.layout.specs.Waiting.{foremost}
+use Rattle.queue.specs.Lent.{queue_in}
 use Rattle.rows.specs.Flat.{Flat, held_in, SameSize}
 use Rattle.lent.specs.Fitting.{Fitting}
 use Rattle.lent.specs.Lists.{Work}
 use Rattle.lent.specs.Grows.{Growable}
 
--- place k of the queue has the greatest gain, and there is one split to make, with `left` more to follow
+-- the leaf at place k of the queue is the one to take, and there is one split to make, with `left` more to follow
 pub record Splits (job : Job) (w : Work) (tree : Tree) (left k : ℕ) : Type 0 where
   pub growable : Growable job w tree (left + 1)
   pub some_wait : 0 < w.queue.waiting
-  pub best : k ≡ first_best w.queue.gains.now w.queue.waiting
+  pub best : k ≡ foremost (queue_in w.queue) w.nodes.spans w.queue.waiting
 
 -- what the lists hold at exit
 pub record GrownTo (job : Job) (counts : List ℕ) (x y : Flat) (lists : NodeLists) (r : Tree)

@@ -1,5 +1,6 @@
-// Growth: the waiting leaf with the greatest gain is split, again and again, until so many splits are made or no leaf
-// waits. The Rust's `grow_tree` without its threads and speculation.
+// Growth: the waiting leaf with the greatest gain, of equal gains the one with more rows and only then the one with the
+// lower number, is split, again and again, until so many splits are made or no leaf waits. The Rust's `grow_tree`
+// without its threads and speculation.
 #![tactic(auto)]
 
 ghost use Rattle.std.specs.Prelude.{◌≡◌, Bool, List, ◌++◌, ℕ, ◌+◌, ◌<◌, ◌≤◌, ltb};
@@ -187,7 +188,7 @@ pub fn grow_tree(lists: &mut Lists, job: Job, tree: Tree, more: usize) -> Tree
         if lists.queue.waiting == 0 {
             break;
         }
-        let k = lists.queue.greatest();
+        let k = lists.queue.foremost(lists.at);
         tree = split_leaf(lists, job, tree, left, k);
     }
     tree

@@ -1,14 +1,16 @@
 -- `grow::grow_tree` meets its contract: the lists hold the state after the splits made so far. Assumes nothing.
 use native.Mathlib.Omega.{arith}
 use borrow.Author.Rules.{rules}
-use Rattle.grow.proofs.Growth.{gains-enough, splits, turn, all_made, none_waits}
+use Rattle.grow.proofs.Growth.{queue-room, spans_there, splits, turn, all_made, none_waits}
 use Rattle.grow.proofs.grow_tree.Goals as goal
 
-pub greatest-k-requires : goal.greatest-k-requires
-greatest-k-requires c = gains-enough c.requires c.loop-left.invariant.going
+pub foremost-k-requires : goal.foremost-k-requires
+foremost-k-requires c =
+    let going = c.loop-left.invariant.going in
+    (omega arith, queue-room c.requires going, spans_there c.requires going c.loop-left-test.true)
 
 pub split_leaf-tree-requires : goal.split_leaf-tree-requires
-split_leaf-tree-requires c = splits c.requires c.loop-left.invariant.going c.loop-left-test.true c.greatest-k.result (omega arith) c.greatest-k.ensures
+split_leaf-tree-requires c = splits c.requires c.loop-left.invariant.going c.loop-left-test.true c.foremost-k.result (omega arith) c.foremost-k.ensures
 
 pub loop-left-preserved : goal.loop-left-preserved
 loop-left-preserved c =
