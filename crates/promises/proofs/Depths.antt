@@ -1,12 +1,9 @@
 -- What document 02, d, says of runs, from the model's laws and the contracts. Assumes nothing.
 use mathlib.Core.Path.{sym, ap, ◌∙◌}
-use mathlib.Core.List.{List, map}
-use Prim.Native.Nat.{ℕ}
-use lib.ListN.{length}
+use mathlib.Core.List.{map}
 use Rattle.model.specs.Single.{singles}
 use Rattle.model.specs.Profile.{single}
 use Rattle.model.specs.Lent.{tree_in}
-use Rattle.model.specs.Operations.{Outcome, Found}
 use Rattle.model.proofs.Accepted.{deepen-accepted, contexts-passed, write-passed}
 use Rattle.model.proofs.Depths.{depths-stored, lookup-blind}
 use Rattle.model.proofs.SymbolRuns.{symbols-kept}

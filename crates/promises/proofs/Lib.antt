@@ -1,4 +1,4 @@
--- `Tied`: the contracts themselves. `Numbered`: the numbers of refusals. `Ran`: an accepted run is the model's operation. `Demand1`, `Demand2`, `Demand3`, `Laws`, `Symbols`, `Depths`: the promises of runs, from the model's laws and the contracts.
+-- `Tied`: the contracts themselves. `Numbered`: the numbers of refusals. `Ran`: an accepted run is the model's operation. `Demand1`, `Demand2`, `Demand3`, `Laws`, `Symbols`, `Depths`, `Taken`: the promises of runs, from the model's laws and the contracts.
 pub mod Tied
 pub mod Numbered
 pub mod Ran
@@ -8,3 +8,4 @@ pub mod Demand3
 pub mod Laws
 pub mod Symbols
 pub mod Depths
+pub mod Taken

@@ -10,7 +10,7 @@ use Rattle.layout.specs.Records.{stored_of}
 use Rattle.layout.specs.declared.MaNode.{MaNode}
 use Rattle.answers.specs.Answers.{count_in}
 use Rattle.answers.specs.declared.FoundLeaf.{FoundLeaf}
-use Rattle.border.specs.Lists.{Records, lent_in}
+use Rattle.border.specs.Lists.{Records}
 use Rattle.ma_tree.specs.Runs.{Learning, Deepening, LookingUp, Numbering, WritingSymbols, ReadingSymbols}
 use Rattle.promises.specs.Demand3.{answered}
 
