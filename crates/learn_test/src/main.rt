@@ -1,4 +1,4 @@
-// Learning on rows with known answers: document 01's rows about limits and refusals, and the smallest job on which
+// Learning on rows with known answers: document 01's rows about limits and refusals, and the smallest jobs on which
 // equal gains matter.
 // It prints how many cases of each kind were tried, how many came out wrong, and the first of these.
 #![tactic(auto)]
@@ -127,14 +127,14 @@ fn row_limit(alloc: Global) -> Result<Tally, AllocError> {
     )
 }
 
-// Nodes 2 and 3 offered two bits each: node 2 is split, and node 3 stays a leaf over rows 0 and 1.
+// Nodes 2 and 3 offered two bits each, over two rows each: node 2 is split, and node 3 stays a leaf over rows 0 and 1.
 fn lower_is_split(nodes: &[MaNode; 9], spans: &[Span; 9]) -> bool {
     let lower = nodes[2];
     let split = lower.is_split() & (lower.gt == 7) & (lower.le == 8);
     split & !nodes[3].is_split() & (spans[3] == Span { first: 0, end: 2 })
 }
 
-// The smallest job on which equal gains matter, at the fifth leaf: whether learning grows so far.
+// The smallest job on which equal gains over as many rows matter, at the fifth leaf: whether learning grows so far.
 fn six_rows(max_leaves: u32, nodes: u32, bits: f64) -> bool {
     let mut props = rooms::tied_properties();
     let mut tok = rooms::tied_tokens();
@@ -167,6 +167,47 @@ fn growth() -> Tally {
         .with(six_rows(3, 5, 8.0), 3)
         .with(six_rows(4, 7, 4.0), 4)
         .with(six_rows(5, 9, 2.0), 5)
+}
+
+// Nodes 1 and 2 offered four bits each, over two rows and over three: node 2 is split, and node 1 stays a leaf.
+fn larger_is_split(nodes: &[MaNode; 5], spans: &[Span; 5]) -> bool {
+    let larger = nodes[2];
+    let split = larger.is_split() & (larger.gt == 3) & (larger.le == 4);
+    split & !nodes[1].is_split() & (spans[1] == Span { first: 0, end: 2 })
+}
+
+// The smallest job on which the rows of equal gains matter, at the third leaf: whether learning grows so far.
+fn five_rows(max_leaves: u32, nodes: u32, bits: f64) -> bool {
+    let mut props = rooms::uneven_properties();
+    let mut tok = rooms::uneven_tokens();
+    let mut res = [0i32; 0];
+    let mut counts = filled::<u32, 7786>(0);
+    let mut made = filled::<MaNode, 5>(blank());
+    let mut spans = filled::<Span, 5>(Span::default());
+    let logs = filled::<f32, 6>(0.0);
+    let job = Job {
+        settings: settings(45, max_leaves, 3, false),
+        logs: &logs,
+    };
+    let mut rows = Rows {
+        props: &mut props,
+        tok: &mut tok,
+        res: &mut res,
+    };
+    let mut at = Nodes {
+        nodes: &mut made,
+        spans: &mut spans,
+    };
+    let tree = learn_in::<3, 12>(&mut rows, &mut at, &mut counts, job);
+    let uneven = (max_leaves < 3) | larger_is_split(&made, &spans);
+    uneven & is_grown(tree, nodes, max_leaves, bits, 4.0)
+}
+
+fn larger_first() -> Tally {
+    Tally::none()
+        .with(five_rows(1, 1, 13.0), 1)
+        .with(five_rows(2, 3, 8.0), 2)
+        .with(five_rows(3, 5, 4.0), 3)
 }
 
 // One row, with its residual.
@@ -244,5 +285,6 @@ fn refusals() -> Tally {
 fn main(rt: HostRuntime) -> io::Result<()> {
     report(&rt, "rows", row_limit(rt.alloc())?)?;
     report(&rt, "refusals", refusals())?;
-    report(&rt, "growth", growth())
+    report(&rt, "growth", growth())?;
+    report(&rt, "larger first", larger_first())
 }
