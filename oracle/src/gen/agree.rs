@@ -1,9 +1,10 @@
-//! Tiny jobs, small enough for a proof checker to compute: at most eight rows,
+//! Tiny jobs, small enough for a proof checker to compute: at most nine rows,
 //! each there for one thing that it shows.
 
 mod choices;
 mod depths;
 mod refused;
+mod ties;
 
 use crate::At;
 use crate::draft::{Draft, plain_settings};
@@ -29,9 +30,9 @@ const JOBS: &[fn() -> Job] = &[
     no_rows,
 ];
 
-/// The fourteen, then those of choices.rs, of refused.rs and of depths.rs, again and again.
+/// The fourteen, then those of choices.rs, of refused.rs, of depths.rs and of ties.rs, again and again.
 pub fn agree(at: At) -> Job {
-    let all = [JOBS, choices::JOBS, refused::JOBS, depths::JOBS].concat();
+    let all = [JOBS, choices::JOBS, refused::JOBS, depths::JOBS, ties::JOBS].concat();
     all[at.index as usize % all.len()]()
 }
 

@@ -26,6 +26,7 @@ mod scores;
 mod seeds;
 mod sheet;
 mod symbols;
+mod ties;
 mod tokens;
 mod trees;
 
@@ -84,7 +85,7 @@ const fn family(name: &'static str, about: &'static str, job: fn(At) -> Job) -> 
 const FAMILIES: &[Family] = &[
     family("tiny", "all rows of up to three under 48 settings (28,080 jobs in all)", learn::tiny),
     family("small", "up to 40 random rows, any settings, any logarithms", learn::small),
-    family("ties", "equal gains from mirrored rows, in learning and deepening", learn::ties),
+    family("ties", "equal gains, over as many rows and over more, in learning and deepening", ties::ties),
     family("wide", "property ranges about and above 4,096: the sort path", learn::wide),
     family("extremes", "the ends of 32 bits in properties and residuals", learn::extremes),
     family("spans", "residual ranges of 4,095 to 4,098", learn::spans),
@@ -130,7 +131,7 @@ const FAMILIES: &[Family] = &[
     family("symbol-reads", "the symbol reader on lists of trees, with room and without", symbols::symbol_reads),
     family("unreadable", "the symbol reader on lists of no tree, each way alone", symbols::unreadable),
     family("symbols-large", "symbol writer and reader on trees of 8,191 nodes and just beyond", symbols::symbols_large),
-    family("agree", "86 tiny jobs fit for a proof checker, again and again", agree::agree),
+    family("agree", "93 tiny jobs fit for a proof checker, again and again", agree::agree),
 ];
 
 const USAGE: &str = "usage: gen FAMILY SEED COUNT [FIRST] > jobs, or gen --version > message, \

@@ -1,7 +1,7 @@
 //! The oracle: reads jobs on standard input, writes what the original Rust
 //! answers on standard output.
 //!
-//!     oracle [--rust-ties] < jobs > answers
+//!     oracle [--number-ties | --rust-ties] < jobs > answers
 
 mod adaptive_quant;
 mod additions;
@@ -39,9 +39,10 @@ fn main() -> ExitCode {
     let options: Vec<_> = std::env::args().skip(1).collect();
     match options.iter().map(String::as_str).collect::<Vec<_>>()[..] {
         [] => {}
-        ["--rust-ties"] => ties::leave_to_the_heap(),
+        ["--number-ties"] => ties::go_by(ties::Other::NumberAlone),
+        ["--rust-ties"] => ties::go_by(ties::Other::Heap),
         _ => {
-            eprintln!("usage: oracle [--rust-ties] < jobs > answers");
+            eprintln!("usage: oracle [--number-ties | --rust-ties] < jobs > answers");
             return ExitCode::from(2);
         }
     }

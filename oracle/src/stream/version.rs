@@ -1,11 +1,11 @@
-//! Which form a stream has. The requests after the base add kinds and change some forms; a stream made for such a
-//! state says so in a version message, its first.
+//! Which form a stream has, and by which rules it is answered. The requests after the base add kinds, change some forms
+//! and some answers; a stream made for such a state says so in a version message, its first.
 
 use crate::wire::{Message, Reader, Result, damaged, read_message, write_message};
 use std::io::{Read, Write};
 
 /// The state of this format: the base with so many of the requests that came after it.
-pub const STATE: u32 = 4;
+pub const STATE: u32 = 5;
 
 /// The kind of a version message.
 pub const VERSION: u32 = 30;

@@ -1433,7 +1433,7 @@ job_202 = learning (settings 3 4 2147483648 0 2 2 1 1 512 0 1) (0 ∷ 1098938929
 abbrev answer_202 : Answer
 answer_202 = tree 3 2 13864998869303033856 13862631781024399360 (record { props = words (4 ∷ 60258 ∷ 0 ∷ 4294963823 ∷ 0 ∷ 0 ∷ 0 ∷ 2 ∷ 4294965273 ∷ 594 ∷ 4294966950 ∷ 32 ∷ 392 ∷ 8 ∷ 0 ∷ 2 ∷ 0 ∷ 4294966796 ∷ 4 ∷ 5 ∷ 1 ∷ 1 ∷ 0 ∷ 2336 ∷ 2 ∷ 4294889451 ∷ 0 ∷ 4294963823 ∷ 10 ∷ 10 ∷ 9 ∷ 1 ∷ 4294965273 ∷ 594 ∷ 181 ∷ 4294967197 ∷ 392 ∷ 1 ∷ 10 ∷ 5 ∷ 10 ∷ 4294966796 ∷ 3 ∷ 2 ∷ 1 ∷ 0 ∷ 7 ∷ 2336 ∷ 5 ∷ 4294943683 ∷ 1 ∷ 4294963823 ∷ 2 ∷ 2 ∷ 2 ∷ 2 ∷ 4294965273 ∷ 594 ∷ 55 ∷ 19 ∷ 392 ∷ 5 ∷ 2 ∷ 2 ∷ 2 ∷ 4294966796 ∷ 3 ∷ 4 ∷ 6 ∷ 6 ∷ 2 ∷ 2336 ∷ 0 ∷ 243589 ∷ 1 ∷ 4294963823 ∷ 3 ∷ 3 ∷ 3 ∷ 0 ∷ 4294965273 ∷ 594 ∷ 4294967272 ∷ 4294967187 ∷ 392 ∷ 8 ∷ 3 ∷ 4 ∷ 3 ∷ 4294966796 ∷ 2 ∷ 0 ∷ 8 ∷ 8 ∷ 2 ∷ 2336 ∷ 5 ∷ 4294897652 ∷ 1 ∷ 4294963823 ∷ 4 ∷ 4 ∷ 4 ∷ 0 ∷ 4294965273 ∷ 594 ∷ 4294967282 ∷ 35 ∷ 392 ∷ 0 ∷ 4 ∷ 5 ∷ 4 ∷ 4294966796 ∷ 2 ∷ 0 ∷ 2 ∷ 2 ∷ 4 ∷ 2336 ∷ 3 ∷ 107395 ∷ 1 ∷ 4294963823 ∷ 9 ∷ 9 ∷ 9 ∷ 1 ∷ 4294965273 ∷ 594 ∷ 138 ∷ 96 ∷ 392 ∷ 4 ∷ 9 ∷ 5 ∷ 9 ∷ 4294966796 ∷ 0 ∷ 4 ∷ 1 ∷ 1 ∷ 2 ∷ 2336 ∷ 5 ∷ 4294963793 ∷ 0 ∷ 4294963823 ∷ 6 ∷ 6 ∷ 6 ∷ 0 ∷ 4294965273 ∷ 594 ∷ 4294967270 ∷ 4294967193 ∷ 392 ∷ 3 ∷ 6 ∷ 2 ∷ 6 ∷ 4294966796 ∷ 2 ∷ 5 ∷ 8 ∷ 8 ∷ 0 ∷ 2336 ∷ 3 ∷ 4294944725 ∷ 0 ∷ 4294963823 ∷ 7 ∷ 7 ∷ 7 ∷ 2 ∷ 4294965273 ∷ 594 ∷ 95 ∷ 0 ∷ 392 ∷ 7 ∷ 7 ∷ 3 ∷ 7 ∷ 4294966796 ∷ 4 ∷ 4 ∷ 7 ∷ 7 ∷ 7 ∷ 2336 ∷ 1 ∷ 40130 ∷ 1 ∷ 4294963823 ∷ 8 ∷ 8 ∷ 8 ∷ 2 ∷ 4294965273 ∷ 594 ∷ 256 ∷ 141 ∷ 392 ∷ 3 ∷ 8 ∷ 1 ∷ 8 ∷ 4294966796 ∷ 1 ∷ 1 ∷ 8 ∷ 8 ∷ 5 ∷ 2336 ∷ 5 ∷ 4294869144 ∷ 0 ∷ 4294963823 ∷ 5 ∷ 5 ∷ 5 ∷ 2 ∷ 4294965273 ∷ 594 ∷ 146 ∷ 108 ∷ 392 ∷ 3 ∷ 5 ∷ 1 ∷ 5 ∷ 4294966796 ∷ 1 ∷ 7 ∷ 1 ∷ 1 ∷ 7 ∷ 2336 ∷ 3 ∷ 4258 ∷ 0 ∷ 4294963823 ∷ 11 ∷ 11 ∷ 11 ∷ 1 ∷ 4294965273 ∷ 594 ∷ 81 ∷ 15 ∷ 392 ∷ 2 ∷ 11 ∷ 1 ∷ 11 ∷ 4294966796 ∷ 2 ∷ 0 ∷ 2 ∷ 2 ∷ 2 ∷ 2336 ∷ 1 ∷ 19377 ∷ 1 ∷ 4294963823 ∷ 1 ∷ 1 ∷ 1 ∷ 1 ∷ 4294965273 ∷ 594 ∷ 344 ∷ 130 ∷ 392 ∷ 2 ∷ 1 ∷ 1 ∷ 1 ∷ 4294966796 ∷ 1 ∷ 7 ∷ 8 ∷ 8 ∷ 0 ∷ 2336 ∷ []); toks = (1 ∷ 1 ∷ 1 ∷ 2 ∷ 0 ∷ 1 ∷ 1 ∷ 1 ∷ 0 ∷ 1 ∷ 2 ∷ 1 ∷ 2 ∷ 2 ∷ 1 ∷ 0 ∷ 2 ∷ 0 ∷ 0 ∷ 0 ∷ 0 ∷ 2 ∷ 2 ∷ 1 ∷ 1 ∷ 2 ∷ 2 ∷ 2 ∷ 1 ∷ 1 ∷ 0 ∷ 1 ∷ 2 ∷ 2 ∷ 2 ∷ 1 ∷ 0 ∷ 2 ∷ 0 ∷ 2 ∷ 2 ∷ 2 ∷ 1 ∷ 2 ∷ 0 ∷ 1 ∷ 0 ∷ 1 ∷ 2 ∷ 1 ∷ 0 ∷ 1 ∷ 2 ∷ 2 ∷ 1 ∷ 0 ∷ 1 ∷ 0 ∷ 2 ∷ 1 ∷ 0 ∷ 2 ∷ 2 ∷ 0 ∷ 2 ∷ 1 ∷ 0 ∷ 0 ∷ 2 ∷ 0 ∷ 0 ∷ 2 ∷ 2 ∷ 1 ∷ 1 ∷ 0 ∷ 2 ∷ 2 ∷ 0 ∷ 0 ∷ 0 ∷ 2 ∷ 2 ∷ 2 ∷ 1 ∷ 1 ∷ 1 ∷ 0 ∷ 1 ∷ 1 ∷ 0 ∷ 1 ∷ 1 ∷ 1 ∷ 2 ∷ 0 ∷ 2 ∷ 2 ∷ 2 ∷ 1 ∷ 0 ∷ 1 ∷ 0 ∷ 0 ∷ 0 ∷ 0 ∷ 1 ∷ 0 ∷ 0 ∷ 2 ∷ 2 ∷ 2 ∷ 2 ∷ 2 ∷ 2 ∷ 0 ∷ 2 ∷ 1 ∷ 2 ∷ 2 ∷ 2 ∷ 2 ∷ 1 ∷ 0 ∷ 0 ∷ 2 ∷ 2 ∷ 2 ∷ 1 ∷ 1 ∷ 1 ∷ 0 ∷ 1 ∷ 0 ∷ 0 ∷ 2 ∷ 0 ∷ 1 ∷ 2 ∷ 1 ∷ 0 ∷ 1 ∷ 0 ∷ 1 ∷ 1 ∷ 2 ∷ 2 ∷ 0 ∷ 0 ∷ 2 ∷ 0 ∷ 0 ∷ 1 ∷ 1 ∷ 0 ∷ 2 ∷ 0 ∷ 2 ∷ 0 ∷ 0 ∷ 2 ∷ 1 ∷ 0 ∷ 1 ∷ 1 ∷ 1 ∷ 1 ∷ 2 ∷ []); res = words (35 ∷ 4294967259 ∷ 34 ∷ 34 ∷ 4294967283 ∷ 4294967282 ∷ 4294967284 ∷ 4294967292 ∷ 4294967287 ∷ 4294967284 ∷ 4294967282 ∷ 35 ∷ []); nodes = ((node 1 15 1 1 2 1128653302 9 0 0 ∷ node 0 0 0 0 0 3274980807 9 0 1 ∷ node 0 0 0 0 0 3254112900 9 0 1 ∷ []) ++ fill_nodes 665184333 3 6); spans = ((span 0 12 ∷ span 0 8 ∷ span 8 12 ∷ []) ++ fill_spans 665184333 3 4); queue = replicate 6 (no_waiting); counts = replicate 4264 (0) })
 
--- the higher node number at equal gains
+-- the higher node number at equal gains and rows
 abbrev lent_203 : Lent singles
 lent_203 = lent (0 ∷ 0 ∷ 2 ∷ 0 ∷ 0 ∷ 0 ∷ 0 ∷ 0 ∷ 0 ∷ 1 ∷ run 40 0 0 (1 ∷ 0 ∷ 0 ∷ 0 ∷ 0 ∷ 0 ∷ 0 ∷ 1 ∷ run 16 0 0 (3 ∷ run 30 0 0 (1 ∷ run 16 0 0 (2 ∷ run 23 0 0 (3 ∷ 0 ∷ 0 ∷ 0 ∷ 0 ∷ 0 ∷ 0 ∷ 1 ∷ run 16 0 0 (1 ∷ run 21 0 0 ([])))))))) (run 14 5 0 (run 14 0 0 (run 14 3 0 (run 14 6 0 (run 14 1 0 (run 14 4 0 (run 14 7 0 (run 14 2 0 ([]))))))))) ([]) (([]) ++ fill_nodes 1 0 6) 6 3 4544 1
 
@@ -1443,7 +1443,7 @@ job_203 = learning (settings 8 3 0 0 0 1 2 1 3 0 0) (0 ∷ 0 ∷ 1065353216 ∷ 
 abbrev answer_203 : Answer
 answer_203 = tree 5 3 4622945017495814144 4627448617123184640 (record { props = words (0 ∷ 0 ∷ 3 ∷ run 23 0 0 (3 ∷ 0 ∷ 0 ∷ 0 ∷ 0 ∷ 0 ∷ 0 ∷ 1 ∷ run 16 0 0 (2 ∷ run 23 0 0 (2 ∷ 0 ∷ 0 ∷ 0 ∷ 0 ∷ 0 ∷ 0 ∷ 1 ∷ run 23 0 0 (1 ∷ run 16 0 0 (1 ∷ 0 ∷ 0 ∷ 0 ∷ 0 ∷ 0 ∷ 0 ∷ 1 ∷ run 16 0 0 (1 ∷ run 45 0 0 ([])))))))); toks = (run 14 6 0 (run 14 7 0 (run 14 4 0 (run 14 5 0 (run 14 1 0 (run 14 3 0 (run 14 2 0 (run 14 0 0 ([]))))))))); res = words ([]); nodes = ((node 1 2 1 1 2 1103101952 0 0 0 ∷ node 1 2 2 3 4 1090519040 0 0 1 ∷ node 0 0 0 0 0 1090519040 0 0 1 ∷ node 0 0 0 0 0 1073741824 0 0 2 ∷ node 0 0 0 0 0 1073741824 0 0 2 ∷ []) ++ fill_nodes 1 5 1); spans = ((span 0 8 ∷ span 0 4 ∷ span 4 8 ∷ span 0 2 ∷ span 2 4 ∷ []) ++ fill_spans 1 5 1); queue = replicate 3 (no_waiting); counts = replicate 4544 (0) })
 
--- the higher node number at equal gains, in a seed
+-- the higher node number at equal gains and rows, in a seed
 abbrev lent_204 : Lent singles
 lent_204 = lent (0 ∷ 0 ∷ 2 ∷ 0 ∷ 0 ∷ 0 ∷ 0 ∷ 0 ∷ 0 ∷ 1 ∷ run 40 0 0 (1 ∷ 0 ∷ 0 ∷ 0 ∷ 0 ∷ 0 ∷ 0 ∷ 1 ∷ run 16 0 0 (3 ∷ run 30 0 0 (1 ∷ run 16 0 0 (2 ∷ run 23 0 0 (3 ∷ 0 ∷ 0 ∷ 0 ∷ 0 ∷ 0 ∷ 0 ∷ 1 ∷ run 16 0 0 (1 ∷ run 21 0 0 ([])))))))) (run 14 5 0 (run 14 0 0 (run 14 3 0 (run 14 6 0 (run 14 1 0 (run 14 4 0 (run 14 7 0 (run 14 2 0 ([]))))))))) ([]) ((node 1 2 1 1 2 0 0 0 0 ∷ node 0 0 0 0 0 0 1 5 1 ∷ node 0 0 0 0 0 0 0 0 1 ∷ []) ++ fill_nodes 1 3 2) 5 3 4544 1
 
@@ -2219,6 +2219,106 @@ job_286 = learning (settings 8 5 0 1074790400 0 1 4 1 3 0 0) (0 ∷ 0 ∷ 106535
 abbrev answer_286 : Answer
 answer_286 = tree 5 3 4611686018427387904 4621396905123905536 (record { props = words (0 ∷ 0 ∷ 5 ∷ 0 ∷ 0 ∷ 0 ∷ 0 ∷ 0 ∷ 0 ∷ 1 ∷ run 16 0 0 (5 ∷ 0 ∷ 0 ∷ 0 ∷ 0 ∷ 0 ∷ 0 ∷ 1 ∷ run 16 0 0 (5 ∷ run 30 0 0 (1 ∷ run 38 0 0 ([]))))); toks = (run 28 5 0 (run 14 4 0 (run 14 2 0 (run 14 1 0 ([]))))); res = words ([]); nodes = ((node 1 2 0 1 4 1091829760 0 0 0 ∷ node 1 9 0 2 3 1075838976 0 0 1 ∷ node 0 0 0 0 0 0 0 0 2 ∷ node 0 0 0 0 0 0 0 0 2 ∷ node 0 0 0 0 0 1073741824 0 0 1 ∷ node 0 0 0 0 0 0 0 0 0 ∷ node 0 0 0 0 0 0 0 0 0 ∷ []) ++ fill_nodes 1 7 3); spans = ((span 0 5 ∷ span 0 3 ∷ span 0 2 ∷ span 2 3 ∷ span 3 5 ∷ span 0 0 ∷ span 0 0 ∷ []) ++ fill_spans 1 7 3); queue = replicate 5 (no_waiting); counts = replicate 4544 (0) })
 
+-- the deeper leaf, or the earlier span, first at equal gains and rows; the deeper before more rows; a greater gain not asked
+abbrev lent_287 : Lent singles
+lent_287 = lent (run 24 0 0 (1 ∷ run 23 0 0 (2 ∷ run 23 0 0 (3 ∷ run 23 0 0 (4 ∷ run 23 0 0 (5 ∷ run 23 0 0 ([]))))))) (1 ∷ run 14 0 0 (16 ∷ run 12 0 0 (16 ∷ run 13 0 0 (1 ∷ 16 ∷ run 12 0 0 (16 ∷ 1 ∷ run 26 0 0 ([])))))) ([]) (([]) ++ fill_nodes 1 0 9) 9 5 5490 1
+
+abbrev job_287 : Job
+job_287 = learning (settings 17 5 0 0 0 2 32 1 3 0 0) (0 ∷ 0 ∷ 1065353216 ∷ 1070260237 ∷ 1073741824 ∷ 1075092088 ∷ 1076195335 ∷ []) lent_287
+
+abbrev answer_287 : Answer
+answer_287 = tree 9 5 4611686018427387904 4619291345725423616 (record { props = words (5 ∷ run 23 0 0 (4 ∷ run 23 0 0 (3 ∷ run 23 0 0 (2 ∷ run 23 0 0 (1 ∷ run 47 0 0 ([])))))); toks = (run 14 0 0 (16 ∷ 1 ∷ run 12 0 0 (1 ∷ 16 ∷ run 12 0 0 (16 ∷ run 14 0 0 (16 ∷ run 12 0 0 (1 ∷ run 13 0 0 ([]))))))); res = words ([]); nodes = ((node 1 0 1 1 2 1095504902 1 0 0 ∷ node 1 0 3 3 4 1090519040 1 0 1 ∷ node 1 0 0 7 8 1073741824 0 0 1 ∷ node 0 0 0 0 0 1073741824 1 0 2 ∷ node 1 0 2 5 6 1082130432 0 0 2 ∷ node 0 0 0 0 0 0 0 0 3 ∷ node 0 0 0 0 0 0 1 0 3 ∷ node 0 0 0 0 0 0 0 0 2 ∷ node 0 0 0 0 0 0 0 0 2 ∷ []) ++ fill_nodes 1 9 0); spans = ((span 0 6 ∷ span 0 4 ∷ span 4 6 ∷ span 0 2 ∷ span 2 4 ∷ span 2 3 ∷ span 3 4 ∷ span 4 5 ∷ span 5 6 ∷ []) ++ fill_spans 1 9 0); queue = replicate 5 (no_waiting); counts = replicate 5490 (0) })
+
+-- rows not looked at; fewer rows first; two rows more at least; half the rows; one leaf's rows for both
+abbrev lent_288 : Lent singles
+lent_288 = lent (run 24 0 0 (1 ∷ run 23 0 0 (2 ∷ run 23 0 0 (3 ∷ run 23 0 0 (4 ∷ run 23 0 0 ([])))))) (0 ∷ 16 ∷ run 13 0 0 (16 ∷ run 12 0 0 (44 ∷ run 14 0 0 (44 ∷ run 12 0 0 (24 ∷ run 13 0 0 ([])))))) ([]) (([]) ++ fill_nodes 1 0 5) 5 3 7786 1
+
+abbrev job_288 : Job
+job_288 = learning (settings 45 3 0 0 0 2 32 1 3 0 0) (0 ∷ 0 ∷ 0 ∷ 0 ∷ 0 ∷ 0 ∷ []) lent_288
+
+abbrev answer_288 : Answer
+answer_288 = tree 5 3 4616189618054758400 4616189618054758400 (record { props = words (4 ∷ run 23 0 0 (3 ∷ run 23 0 0 (2 ∷ run 47 0 0 (1 ∷ run 23 0 0 ([]))))); toks = (24 ∷ run 14 0 0 (44 ∷ run 12 0 0 (44 ∷ run 14 0 0 (16 ∷ run 13 0 0 (16 ∷ run 12 0 0 ([])))))); res = words ([]); nodes = ((node 1 0 2 1 2 1095761920 0 0 0 ∷ node 0 0 0 0 0 1082130432 0 0 1 ∷ node 1 0 1 3 4 1082130432 1 0 1 ∷ node 0 0 0 0 0 0 1 0 2 ∷ node 0 0 0 0 0 0 0 0 2 ∷ []) ++ fill_nodes 1 5 0); spans = ((span 0 5 ∷ span 0 2 ∷ span 2 5 ∷ span 2 3 ∷ span 3 5 ∷ []) ++ fill_spans 1 5 0); queue = replicate 3 (no_waiting); counts = replicate 7786 (0) })
+
+-- rows not looked at, or fewer rows first, in a seed
+abbrev lent_289 : Lent singles
+lent_289 = lent (run 24 0 0 (1 ∷ run 23 0 0 (2 ∷ run 23 0 0 (3 ∷ run 23 0 0 (4 ∷ run 23 0 0 ([])))))) (0 ∷ 16 ∷ run 13 0 0 (16 ∷ run 12 0 0 (44 ∷ run 14 0 0 (44 ∷ run 12 0 0 (24 ∷ run 13 0 0 ([])))))) ([]) ((node 1 0 2 1 2 0 0 0 0 ∷ node 0 0 0 0 0 0 0 0 1 ∷ node 0 0 0 0 0 0 0 0 1 ∷ []) ++ fill_nodes 1 3 2) 5 3 7786 1
+
+abbrev job_289 : Job
+job_289 = deepening (settings 45 3 0 0 0 2 32 1 3 0 0) (0 ∷ 0 ∷ 0 ∷ 0 ∷ 0 ∷ 0 ∷ []) 3 lent_289
+
+abbrev answer_289 : Answer
+answer_289 = tree 5 3 4616189618054758400 4616189618054758400 (record { props = words (3 ∷ run 23 0 0 (4 ∷ run 23 0 0 (2 ∷ run 23 0 0 (1 ∷ run 47 0 0 ([]))))); toks = (0 ∷ 44 ∷ run 12 0 0 (24 ∷ run 13 0 0 (44 ∷ run 14 0 0 (16 ∷ run 13 0 0 (16 ∷ run 12 0 0 ([])))))); res = words ([]); nodes = ((node 1 0 2 1 2 2139095040 0 0 0 ∷ node 0 0 0 0 0 1082130432 0 0 1 ∷ node 1 0 1 3 4 1082130432 1 0 1 ∷ node 0 0 0 0 0 0 1 0 2 ∷ node 0 0 0 0 0 0 0 0 2 ∷ []) ++ fill_nodes 1 5 0); spans = ((span 0 0 ∷ span 0 2 ∷ span 2 5 ∷ span 2 3 ∷ span 3 5 ∷ []) ++ fill_spans 1 5 0); queue = replicate 3 (no_waiting); counts = replicate 7786 (0) })
+
+-- a span's end, or its first row, for its rows; fewer rows first; the higher number at equal gains; the claims traded
+abbrev lent_290 : Lent singles
+lent_290 = lent (run 9 0 0 (1 ∷ run 40 0 0 (1 ∷ 0 ∷ 0 ∷ 0 ∷ 0 ∷ 0 ∷ 0 ∷ 1 ∷ run 16 0 0 (1 ∷ run 23 0 0 (1 ∷ run 21 0 0 ([])))))) (24 ∷ run 14 0 0 (24 ∷ run 12 0 0 (24 ∷ run 14 0 0 (24 ∷ run 26 0 0 ([]))))) ([]) ((node 1 2 0 1 2 0 0 0 0 ∷ node 0 0 0 0 0 0 0 0 1 ∷ node 0 0 0 0 0 0 0 0 1 ∷ []) ++ fill_nodes 1 3 2) 5 3 6616 1
+
+abbrev job_290 : Job
+job_290 = deepening (settings 45 3 0 0 0 2 2 1 3 0 0) (0 ∷ 0 ∷ 0 ∷ 0 ∷ 0 ∷ 0 ∷ []) 3 lent_290
+
+abbrev answer_290 : Answer
+answer_290 = tree 5 3 4616189618054758400 4620693217682128896 (record { props = words (0 ∷ 0 ∷ 1 ∷ 0 ∷ 0 ∷ 0 ∷ 0 ∷ 0 ∷ 0 ∷ 1 ∷ run 16 0 0 (1 ∷ run 23 0 0 (1 ∷ run 30 0 0 (1 ∷ run 38 0 0 ([]))))); toks = (24 ∷ run 28 0 0 (24 ∷ run 12 0 0 (24 ∷ run 14 0 0 (24 ∷ run 12 0 0 ([]))))); res = words ([]); nodes = ((node 1 2 0 1 2 2139095040 0 0 0 ∷ node 1 9 0 3 4 1082130432 0 0 1 ∷ node 0 0 0 0 0 1082130432 0 0 1 ∷ node 0 0 0 0 0 0 1 0 2 ∷ node 0 0 0 0 0 0 0 0 2 ∷ []) ++ fill_nodes 1 5 0); spans = ((span 0 0 ∷ span 0 3 ∷ span 3 5 ∷ span 0 1 ∷ span 1 3 ∷ []) ++ fill_spans 1 5 0); queue = replicate 3 (no_waiting); counts = replicate 6616 (0) })
+
+-- rows before gains, or alone; more rows though the gain is less; one leaf's gain for both; less gain first
+abbrev lent_291 : Lent singles
+lent_291 = lent (run 9 0 0 (1 ∷ run 23 0 0 (1 ∷ run 64 0 0 (1 ∷ 0 ∷ 0 ∷ 0 ∷ 0 ∷ 0 ∷ 0 ∷ 1 ∷ run 16 0 0 (1 ∷ run 21 0 0 ([])))))) (16 ∷ run 28 0 0 (16 ∷ run 26 0 0 (24 ∷ run 14 0 0 (24 ∷ run 12 0 0 ([]))))) ([]) ((node 1 2 0 1 2 0 0 0 0 ∷ node 0 0 0 0 0 0 0 0 1 ∷ node 0 0 0 0 0 0 0 0 1 ∷ []) ++ fill_nodes 1 3 2) 5 3 6616 1
+
+abbrev job_291 : Job
+job_291 = deepening (settings 45 3 0 0 0 2 2 1 3 0 0) (0 ∷ 0 ∷ 0 ∷ 0 ∷ 0 ∷ 0 ∷ 0 ∷ []) 3 lent_291
+
+abbrev answer_291 : Answer
+answer_291 = tree 5 3 4611686018427387904 4618441417868443648 (record { props = words (0 ∷ 0 ∷ 1 ∷ 0 ∷ 0 ∷ 0 ∷ 0 ∷ 0 ∷ 0 ∷ 1 ∷ run 16 0 0 (1 ∷ run 30 0 0 (1 ∷ run 23 0 0 (1 ∷ run 62 0 0 ([]))))); toks = (24 ∷ run 14 0 0 (24 ∷ run 12 0 0 (16 ∷ run 28 0 0 (16 ∷ run 26 0 0 ([]))))); res = words ([]); nodes = ((node 1 2 0 1 2 2139095040 0 0 0 ∷ node 1 9 0 3 4 1082130432 0 0 1 ∷ node 0 0 0 0 0 1073741824 0 0 1 ∷ node 0 0 0 0 0 0 1 0 2 ∷ node 0 0 0 0 0 0 0 0 2 ∷ []) ++ fill_nodes 1 5 0); spans = ((span 0 0 ∷ span 0 2 ∷ span 2 6 ∷ span 0 1 ∷ span 1 2 ∷ []) ++ fill_spans 1 5 0); queue = replicate 3 (no_waiting); counts = replicate 6616 (0) })
+
+-- a greater gain only if there are as many rows; rows before gains; the last leaf not looked at
+abbrev lent_292 : Lent singles
+lent_292 = lent (run 9 0 0 (1 ∷ run 40 0 0 (1 ∷ 0 ∷ 0 ∷ 0 ∷ 0 ∷ 0 ∷ 0 ∷ 1 ∷ run 16 0 0 (1 ∷ 0 ∷ 0 ∷ 0 ∷ 0 ∷ 0 ∷ 0 ∷ 1 ∷ run 16 0 0 (1 ∷ run 23 0 0 (1 ∷ run 21 0 0 ([]))))))) (24 ∷ run 14 0 0 (24 ∷ run 12 0 0 (16 ∷ run 28 0 0 (16 ∷ run 26 0 0 ([]))))) ([]) ((node 1 2 0 1 2 0 0 0 0 ∷ node 0 0 0 0 0 0 0 0 1 ∷ node 0 0 0 0 0 0 0 0 1 ∷ []) ++ fill_nodes 1 3 2) 5 3 6616 1
+
+abbrev job_292 : Job
+job_292 = deepening (settings 45 3 0 0 0 2 2 1 3 0 0) (0 ∷ 0 ∷ 0 ∷ 0 ∷ 0 ∷ 0 ∷ 0 ∷ []) 3 lent_292
+
+abbrev answer_292 : Answer
+answer_292 = tree 5 3 4611686018427387904 4618441417868443648 (record { props = words (0 ∷ 0 ∷ 1 ∷ 0 ∷ 0 ∷ 0 ∷ 0 ∷ 0 ∷ 0 ∷ 1 ∷ run 16 0 0 (1 ∷ 0 ∷ 0 ∷ 0 ∷ 0 ∷ 0 ∷ 0 ∷ 1 ∷ run 16 0 0 (1 ∷ run 23 0 0 (1 ∷ run 30 0 0 (1 ∷ run 38 0 0 ([])))))); toks = (16 ∷ run 28 0 0 (16 ∷ run 26 0 0 (24 ∷ run 14 0 0 (24 ∷ run 12 0 0 ([]))))); res = words ([]); nodes = ((node 1 2 0 1 2 2139095040 0 0 0 ∷ node 0 0 0 0 0 1073741824 0 0 1 ∷ node 1 9 0 3 4 1082130432 0 0 1 ∷ node 0 0 0 0 0 0 1 0 2 ∷ node 0 0 0 0 0 0 0 0 2 ∷ []) ++ fill_nodes 1 5 0); spans = ((span 0 0 ∷ span 0 4 ∷ span 4 6 ∷ []) ++ fill_spans 1 3 2); queue = replicate 3 (no_waiting); counts = replicate 6616 (0) })
+
+-- the rows below, or above, for all; the shallower leaf, or the later span, first at equal gains and rows
+abbrev lent_293 : Lent singles
+lent_293 = lent (run 9 0 0 (1 ∷ run 23 0 0 (1 ∷ run 40 0 0 (1 ∷ 0 ∷ 0 ∷ 0 ∷ 0 ∷ 0 ∷ 0 ∷ 1 ∷ run 16 0 0 (1 ∷ run 23 0 0 (1 ∷ run 23 0 0 (2 ∷ 0 ∷ 0 ∷ 0 ∷ 0 ∷ 0 ∷ 0 ∷ 1 ∷ run 16 0 0 (2 ∷ 0 ∷ 0 ∷ 0 ∷ 0 ∷ 0 ∷ 0 ∷ 1 ∷ run 16 0 0 (2 ∷ run 21 0 0 ([])))))))))) (24 ∷ run 28 0 0 (24 ∷ run 12 0 0 (24 ∷ run 14 0 0 (24 ∷ run 26 0 0 (24 ∷ run 28 0 0 (24 ∷ run 12 0 0 ([]))))))) ([]) ((node 1 2 0 1 4 0 0 0 0 ∷ node 1 2 1 2 3 0 0 0 1 ∷ node 0 0 0 0 0 0 0 0 2 ∷ node 0 0 0 0 0 0 0 0 2 ∷ node 0 0 0 0 0 0 0 0 1 ∷ []) ++ fill_nodes 1 5 4) 9 5 6616 1
+
+abbrev job_293 : Job
+job_293 = deepening (settings 45 5 0 0 0 2 2 1 3 0 0) (run 10 0 0 ([])) 5 lent_293
+
+abbrev answer_293 : Answer
+answer_293 = tree 9 5 4616189618054758400 4622945017495814144 (record { props = words (0 ∷ 0 ∷ 2 ∷ 0 ∷ 0 ∷ 0 ∷ 0 ∷ 0 ∷ 0 ∷ 1 ∷ run 16 0 0 (2 ∷ 0 ∷ 0 ∷ 0 ∷ 0 ∷ 0 ∷ 0 ∷ 1 ∷ run 16 0 0 (2 ∷ run 23 0 0 (1 ∷ 0 ∷ 0 ∷ 0 ∷ 0 ∷ 0 ∷ 0 ∷ 1 ∷ run 16 0 0 (1 ∷ run 23 0 0 (1 ∷ run 30 0 0 (1 ∷ run 23 0 0 (1 ∷ run 38 0 0 ([]))))))))); toks = (24 ∷ run 28 0 0 (24 ∷ run 12 0 0 (24 ∷ run 28 0 0 (24 ∷ run 12 0 0 (24 ∷ run 28 0 0 (24 ∷ run 12 0 0 ([]))))))); res = words ([]); nodes = ((node 1 2 0 1 4 2139095040 0 0 0 ∷ node 1 2 1 2 3 2139095040 0 0 1 ∷ node 1 9 0 5 6 1082130432 0 0 2 ∷ node 1 9 0 7 8 1082130432 0 0 2 ∷ node 0 0 0 0 0 1082130432 0 0 1 ∷ node 0 0 0 0 0 0 1 0 3 ∷ node 0 0 0 0 0 0 0 0 3 ∷ node 0 0 0 0 0 0 1 0 3 ∷ node 0 0 0 0 0 0 0 0 3 ∷ []) ++ fill_nodes 1 9 0); spans = ((span 0 0 ∷ span 0 0 ∷ span 0 3 ∷ span 3 6 ∷ span 6 9 ∷ span 0 2 ∷ span 2 3 ∷ span 3 4 ∷ span 4 6 ∷ []) ++ fill_spans 1 9 0); queue = replicate 5 (no_waiting); counts = replicate 6616 (0) })
+
+-- the shallower leaf before more rows; the rows of the node before; the higher number at equal gains and rows
+abbrev lent_294 : Lent singles
+lent_294 = lent (run 9 0 0 (1 ∷ run 40 0 0 (1 ∷ 0 ∷ 0 ∷ 0 ∷ 0 ∷ 0 ∷ 0 ∷ 1 ∷ run 16 0 0 (1 ∷ run 23 0 0 (1 ∷ run 23 0 0 (2 ∷ 0 ∷ 0 ∷ 0 ∷ 0 ∷ 0 ∷ 0 ∷ 1 ∷ run 16 0 0 (2 ∷ run 21 0 0 ([])))))))) (24 ∷ run 14 0 0 (24 ∷ run 12 0 0 (24 ∷ run 14 0 0 (24 ∷ run 26 0 0 (24 ∷ run 14 0 0 (24 ∷ run 12 0 0 ([]))))))) ([]) ((node 1 2 0 1 4 0 0 0 0 ∷ node 1 2 1 2 3 0 0 0 1 ∷ node 0 0 0 0 0 0 0 0 2 ∷ node 0 0 0 0 0 0 0 0 2 ∷ node 0 0 0 0 0 0 0 0 1 ∷ []) ++ fill_nodes 1 5 4) 9 5 6616 1
+
+abbrev job_294 : Job
+job_294 = deepening (settings 45 5 0 0 0 2 2 1 3 0 0) (run 8 0 0 ([])) 5 lent_294
+
+abbrev answer_294 : Answer
+answer_294 = tree 9 5 4616189618054758400 4622945017495814144 (record { props = words (0 ∷ 0 ∷ 2 ∷ 0 ∷ 0 ∷ 0 ∷ 0 ∷ 0 ∷ 0 ∷ 1 ∷ run 16 0 0 (2 ∷ run 23 0 0 (1 ∷ 0 ∷ 0 ∷ 0 ∷ 0 ∷ 0 ∷ 0 ∷ 1 ∷ run 16 0 0 (1 ∷ run 23 0 0 (1 ∷ run 30 0 0 (1 ∷ run 38 0 0 ([]))))))); toks = (24 ∷ run 14 0 0 (24 ∷ run 12 0 0 (24 ∷ run 28 0 0 (24 ∷ run 12 0 0 (24 ∷ run 14 0 0 (24 ∷ run 12 0 0 ([]))))))); res = words ([]); nodes = ((node 1 2 0 1 4 2139095040 0 0 0 ∷ node 1 2 1 2 3 2139095040 0 0 1 ∷ node 1 9 0 7 8 1082130432 0 0 2 ∷ node 1 9 0 5 6 1082130432 0 0 2 ∷ node 0 0 0 0 0 1082130432 0 0 1 ∷ node 0 0 0 0 0 0 1 0 3 ∷ node 0 0 0 0 0 0 0 0 3 ∷ node 0 0 0 0 0 0 1 0 3 ∷ node 0 0 0 0 0 0 0 0 3 ∷ []) ++ fill_nodes 1 9 0); spans = ((span 0 0 ∷ span 0 0 ∷ span 0 2 ∷ span 2 5 ∷ span 5 7 ∷ span 2 3 ∷ span 3 5 ∷ span 0 1 ∷ span 1 2 ∷ []) ++ fill_spans 1 9 0); queue = replicate 5 (no_waiting); counts = replicate 6616 (0) })
+
+-- an old leaf before a new one with more rows
+abbrev lent_295 : Lent singles
+lent_295 = lent (run 9 0 0 (1 ∷ 1 ∷ run 22 0 0 (1 ∷ run 23 0 0 (1 ∷ run 40 0 0 (1 ∷ 0 ∷ 0 ∷ 0 ∷ 0 ∷ 0 ∷ 0 ∷ 1 ∷ run 16 0 0 (1 ∷ run 21 0 0 ([]))))))) (24 ∷ run 14 0 0 (44 ∷ run 26 0 0 (28 ∷ run 13 0 0 (24 ∷ run 14 0 0 (24 ∷ run 12 0 0 ([])))))) ([]) ((node 1 2 0 1 2 0 0 0 0 ∷ node 0 0 0 0 0 0 0 0 1 ∷ node 0 0 0 0 0 0 0 0 1 ∷ []) ++ fill_nodes 1 3 4) 7 4 6616 1
+
+abbrev job_295 : Job
+job_295 = deepening (settings 45 4 0 0 0 2 2 1 3 0 0) (0 ∷ 0 ∷ 0 ∷ 0 ∷ 0 ∷ 0 ∷ 0 ∷ []) 3 lent_295
+
+abbrev answer_295 : Answer
+answer_295 = tree 7 4 4616189618054758400 4623507967449235456 (record { props = words (0 ∷ 0 ∷ 1 ∷ 0 ∷ 0 ∷ 0 ∷ 0 ∷ 0 ∷ 0 ∷ 1 ∷ run 16 0 0 (1 ∷ run 30 0 0 (1 ∷ 1 ∷ run 22 0 0 (1 ∷ run 23 0 0 (1 ∷ run 38 0 0 ([])))))); toks = (24 ∷ run 14 0 0 (24 ∷ run 12 0 0 (24 ∷ run 28 0 0 (44 ∷ run 12 0 0 (28 ∷ run 13 0 0 ([])))))); res = words ([]); nodes = ((node 1 2 0 1 2 2139095040 0 0 0 ∷ node 0 0 0 0 0 1082130432 0 0 1 ∷ node 1 9 0 3 4 1091567616 0 0 1 ∷ node 1 10 0 5 6 1082130432 0 0 2 ∷ node 0 0 0 0 0 0 1 0 2 ∷ node 0 0 0 0 0 0 1 0 3 ∷ node 0 0 0 0 0 0 0 0 3 ∷ []) ++ fill_nodes 1 7 0); spans = ((span 0 0 ∷ span 0 2 ∷ span 2 6 ∷ span 2 5 ∷ span 5 6 ∷ span 2 3 ∷ span 3 5 ∷ []) ++ fill_spans 1 7 0); queue = replicate 4 (no_waiting); counts = replicate 6616 (0) })
+
+-- a parent's rows for its leaf's; the deeper leaf before more rows
+abbrev lent_296 : Lent singles
+lent_296 = lent (run 9 0 0 (1 ∷ 1 ∷ run 22 0 0 (1 ∷ run 64 0 0 (1 ∷ 0 ∷ 0 ∷ 0 ∷ 0 ∷ 0 ∷ 0 ∷ 1 ∷ run 16 0 0 (1 ∷ run 23 0 0 (1 ∷ run 21 0 0 ([]))))))) (24 ∷ run 14 0 0 (44 ∷ run 12 0 0 (28 ∷ run 27 0 0 (24 ∷ run 14 0 0 (24 ∷ run 26 0 0 ([])))))) ([]) ((node 1 2 0 1 2 0 0 0 0 ∷ node 0 0 0 0 0 0 0 0 1 ∷ node 0 0 0 0 0 0 0 0 1 ∷ []) ++ fill_nodes 1 3 4) 7 4 6616 1
+
+abbrev job_296 : Job
+job_296 = deepening (settings 45 4 0 0 0 2 2 1 3 0 0) (run 8 0 0 ([])) 3 lent_296
+
+abbrev answer_296 : Answer
+answer_296 = tree 7 4 4616189618054758400 4623507967449235456 (record { props = words (0 ∷ 0 ∷ 1 ∷ 0 ∷ 0 ∷ 0 ∷ 0 ∷ 0 ∷ 0 ∷ 1 ∷ run 16 0 0 (1 ∷ run 23 0 0 (1 ∷ run 30 0 0 (1 ∷ 1 ∷ run 22 0 0 (1 ∷ run 62 0 0 ([])))))); toks = (24 ∷ run 28 0 0 (24 ∷ run 12 0 0 (24 ∷ run 14 0 0 (44 ∷ run 26 0 0 (28 ∷ run 13 0 0 ([])))))); res = words ([]); nodes = ((node 1 2 0 1 2 2139095040 0 0 0 ∷ node 1 9 0 5 6 1082130432 0 0 1 ∷ node 1 9 0 3 4 1091567616 0 0 1 ∷ node 0 0 0 0 0 1082130432 0 0 2 ∷ node 0 0 0 0 0 0 1 0 2 ∷ node 0 0 0 0 0 0 1 0 2 ∷ node 0 0 0 0 0 0 0 0 2 ∷ []) ++ fill_nodes 1 7 0); spans = ((span 0 0 ∷ span 0 3 ∷ span 3 7 ∷ span 3 5 ∷ span 5 7 ∷ span 0 1 ∷ span 1 3 ∷ []) ++ fill_spans 1 7 0); queue = replicate 4 (no_waiting); counts = replicate 6616 (0) })
+
 abbrev pub part_jobs : List Job
 part_jobs = job_0 ∷ job_1 ∷ job_2 ∷ job_3 ∷ job_4 ∷ job_5 ∷ job_6 ∷ job_7 ∷ job_8 ∷ job_9 ∷ job_10 ∷ job_11 ∷ job_12 ∷ job_13 ∷ job_14 ∷ job_15 ∷ job_16 ∷ job_17 ∷ job_18 ∷ job_19 ∷ job_20 ∷ job_21 ∷ job_22 ∷ job_23 ∷ job_24 ∷ job_25 ∷ job_26 ∷ job_27 ∷ job_28 ∷ job_29 ∷ job_30 ∷ job_31 ∷ job_32 ∷ job_33 ∷ job_34 ∷ job_35 ∷ job_36 ∷ job_37 ∷ job_38 ∷ job_39 ∷ job_40 ∷ job_41 ∷ job_42 ∷ job_43 ∷ job_44 ∷ job_45 ∷ job_46 ∷ job_47 ∷ job_48 ∷ job_49 ∷ job_50 ∷ job_51 ∷ job_52 ∷ job_53 ∷ job_54 ∷ job_55 ∷ job_56 ∷ job_57 ∷ job_58 ∷ job_59 ∷ job_60 ∷ job_61 ∷ job_62 ∷ job_63 ∷ job_64 ∷ job_65 ∷ job_66 ∷ job_67 ∷ job_68 ∷ job_69 ∷ job_70 ∷ job_71 ∷ job_72 ∷ job_73 ∷ job_74 ∷ job_75 ∷ job_76 ∷ job_77 ∷ job_78 ∷ job_79 ∷ job_80 ∷ job_81 ∷ job_82 ∷ job_83 ∷ job_84 ∷ job_85 ∷ job_86 ∷ job_87 ∷ job_88 ∷ job_89 ∷ job_90 ∷ job_91 ∷ job_92 ∷ job_93 ∷ job_94 ∷ job_95 ∷ job_96 ∷ job_97 ∷ job_98 ∷ job_99 ∷ job_100 ∷ job_101 ∷ job_102 ∷ job_103 ∷ job_104 ∷ job_105 ∷ job_106 ∷ job_107 ∷ job_108 ∷ job_109 ∷ job_110 ∷ job_111 ∷ job_112 ∷ job_113 ∷ job_114 ∷ job_115 ∷ job_116 ∷ job_117 ∷ job_118 ∷ job_119 ∷ job_120 ∷ job_121 ∷ job_122 ∷ job_123 ∷ job_124 ∷ job_125 ∷ job_126 ∷ job_127 ∷ job_128 ∷ job_129 ∷ job_130 ∷ job_131 ∷ job_132 ∷ job_133 ∷ job_134 ∷ job_135 ∷ job_136 ∷ job_137 ∷ job_138 ∷ job_139 ∷ job_140 ∷ job_141 ∷ job_142 ∷ job_143 ∷ job_144 ∷ job_145 ∷ job_146 ∷ job_147 ∷ job_148 ∷ job_149 ∷ job_150 ∷ job_151 ∷ job_152 ∷ job_153 ∷ job_154 ∷ job_155 ∷ job_156 ∷ job_157 ∷ job_158 ∷ job_159 ∷ job_160 ∷ job_161 ∷ job_162 ∷ job_163 ∷ job_164 ∷ job_165 ∷ job_166 ∷ job_167 ∷ job_168 ∷ job_169 ∷ job_170 ∷ job_171 ∷ job_172 ∷ job_173 ∷ job_174 ∷ job_175 ∷ job_176 ∷ job_177 ∷ job_178 ∷ job_179 ∷ job_180 ∷ job_181 ∷ job_182 ∷ job_183 ∷ job_184 ∷ job_185 ∷ job_186 ∷ job_187 ∷ job_188 ∷ job_189 ∷ job_190 ∷ job_191 ∷ job_192 ∷ job_193 ∷ job_194 ∷ job_195 ∷ job_196 ∷ job_197 ∷ job_198 ∷ job_199 ∷ job_200 ∷ job_201 ∷ job_262 ∷ job_263 ∷ job_265 ∷ job_266 ∷ job_267 ∷ job_268 ∷ job_269 ∷ job_270 ∷ job_271 ∷ job_273 ∷ job_274 ∷ job_275 ∷ job_276 ∷ job_277 ∷ job_278 ∷ job_279 ∷ job_280 ∷ job_281 ∷ []
 
@@ -2226,10 +2326,10 @@ abbrev pub part_answers : List Answer
 part_answers = answer_0 ∷ answer_1 ∷ answer_2 ∷ answer_3 ∷ answer_4 ∷ answer_5 ∷ answer_6 ∷ answer_7 ∷ answer_8 ∷ answer_9 ∷ answer_10 ∷ answer_11 ∷ answer_12 ∷ answer_13 ∷ answer_14 ∷ answer_15 ∷ answer_16 ∷ answer_17 ∷ answer_18 ∷ answer_19 ∷ answer_20 ∷ answer_21 ∷ answer_22 ∷ answer_23 ∷ answer_24 ∷ answer_25 ∷ answer_26 ∷ answer_27 ∷ answer_28 ∷ answer_29 ∷ answer_30 ∷ answer_31 ∷ answer_32 ∷ answer_33 ∷ answer_34 ∷ answer_35 ∷ answer_36 ∷ answer_37 ∷ answer_38 ∷ answer_39 ∷ answer_40 ∷ answer_41 ∷ answer_42 ∷ answer_43 ∷ answer_44 ∷ answer_45 ∷ answer_46 ∷ answer_47 ∷ answer_48 ∷ answer_49 ∷ answer_50 ∷ answer_51 ∷ answer_52 ∷ answer_53 ∷ answer_54 ∷ answer_55 ∷ answer_56 ∷ answer_57 ∷ answer_58 ∷ answer_59 ∷ answer_60 ∷ answer_61 ∷ answer_62 ∷ answer_63 ∷ answer_64 ∷ answer_65 ∷ answer_66 ∷ answer_67 ∷ answer_68 ∷ answer_69 ∷ answer_70 ∷ answer_71 ∷ answer_72 ∷ answer_73 ∷ answer_74 ∷ answer_75 ∷ answer_76 ∷ answer_77 ∷ answer_78 ∷ answer_79 ∷ answer_80 ∷ answer_81 ∷ answer_82 ∷ answer_83 ∷ answer_84 ∷ answer_85 ∷ answer_86 ∷ answer_87 ∷ answer_88 ∷ answer_89 ∷ answer_90 ∷ answer_91 ∷ answer_92 ∷ answer_93 ∷ answer_94 ∷ answer_95 ∷ answer_96 ∷ answer_97 ∷ answer_98 ∷ answer_99 ∷ answer_100 ∷ answer_101 ∷ answer_102 ∷ answer_103 ∷ answer_104 ∷ answer_105 ∷ answer_106 ∷ answer_107 ∷ answer_108 ∷ answer_109 ∷ answer_110 ∷ answer_111 ∷ answer_112 ∷ answer_113 ∷ answer_114 ∷ answer_115 ∷ answer_116 ∷ answer_117 ∷ answer_118 ∷ answer_119 ∷ answer_120 ∷ answer_121 ∷ answer_122 ∷ answer_123 ∷ answer_124 ∷ answer_125 ∷ answer_126 ∷ answer_127 ∷ answer_128 ∷ answer_129 ∷ answer_130 ∷ answer_131 ∷ answer_132 ∷ answer_133 ∷ answer_134 ∷ answer_135 ∷ answer_136 ∷ answer_137 ∷ answer_138 ∷ answer_139 ∷ answer_140 ∷ answer_141 ∷ answer_142 ∷ answer_143 ∷ answer_144 ∷ answer_145 ∷ answer_146 ∷ answer_147 ∷ answer_148 ∷ answer_149 ∷ answer_150 ∷ answer_151 ∷ answer_152 ∷ answer_153 ∷ answer_154 ∷ answer_155 ∷ answer_156 ∷ answer_157 ∷ answer_158 ∷ answer_159 ∷ answer_160 ∷ answer_161 ∷ answer_162 ∷ answer_163 ∷ answer_164 ∷ answer_165 ∷ answer_166 ∷ answer_167 ∷ answer_168 ∷ answer_169 ∷ answer_170 ∷ answer_171 ∷ answer_172 ∷ answer_173 ∷ answer_174 ∷ answer_175 ∷ answer_176 ∷ answer_177 ∷ answer_178 ∷ answer_179 ∷ answer_180 ∷ answer_181 ∷ answer_182 ∷ answer_183 ∷ answer_184 ∷ answer_185 ∷ answer_186 ∷ answer_187 ∷ answer_188 ∷ answer_189 ∷ answer_190 ∷ answer_191 ∷ answer_192 ∷ answer_193 ∷ answer_194 ∷ answer_195 ∷ answer_196 ∷ answer_197 ∷ answer_198 ∷ answer_199 ∷ answer_200 ∷ answer_201 ∷ answer_262 ∷ answer_263 ∷ answer_265 ∷ answer_266 ∷ answer_267 ∷ answer_268 ∷ answer_269 ∷ answer_270 ∷ answer_271 ∷ answer_273 ∷ answer_274 ∷ answer_275 ∷ answer_276 ∷ answer_277 ∷ answer_278 ∷ answer_279 ∷ answer_280 ∷ answer_281 ∷ []
 
 abbrev pub grown_jobs : List Job
-grown_jobs = job_202 ∷ job_203 ∷ job_204 ∷ job_205 ∷ job_206 ∷ job_207 ∷ job_208 ∷ job_209 ∷ job_210 ∷ job_211 ∷ job_214 ∷ job_215 ∷ job_216 ∷ job_217 ∷ job_218 ∷ job_219 ∷ job_220 ∷ job_221 ∷ job_222 ∷ job_223 ∷ job_224 ∷ job_225 ∷ job_226 ∷ job_251 ∷ job_282 ∷ job_283 ∷ job_284 ∷ job_285 ∷ job_286 ∷ []
+grown_jobs = job_202 ∷ job_203 ∷ job_204 ∷ job_205 ∷ job_206 ∷ job_207 ∷ job_208 ∷ job_209 ∷ job_210 ∷ job_211 ∷ job_214 ∷ job_215 ∷ job_216 ∷ job_217 ∷ job_218 ∷ job_219 ∷ job_220 ∷ job_221 ∷ job_222 ∷ job_223 ∷ job_224 ∷ job_225 ∷ job_226 ∷ job_251 ∷ job_282 ∷ job_283 ∷ job_284 ∷ job_285 ∷ job_286 ∷ job_287 ∷ job_288 ∷ job_289 ∷ job_290 ∷ job_291 ∷ job_292 ∷ job_293 ∷ job_294 ∷ job_295 ∷ job_296 ∷ []
 
 abbrev pub grown_answers : List Answer
-grown_answers = answer_202 ∷ answer_203 ∷ answer_204 ∷ answer_205 ∷ answer_206 ∷ answer_207 ∷ answer_208 ∷ answer_209 ∷ answer_210 ∷ answer_211 ∷ answer_214 ∷ answer_215 ∷ answer_216 ∷ answer_217 ∷ answer_218 ∷ answer_219 ∷ answer_220 ∷ answer_221 ∷ answer_222 ∷ answer_223 ∷ answer_224 ∷ answer_225 ∷ answer_226 ∷ answer_251 ∷ answer_282 ∷ answer_283 ∷ answer_284 ∷ answer_285 ∷ answer_286 ∷ []
+grown_answers = answer_202 ∷ answer_203 ∷ answer_204 ∷ answer_205 ∷ answer_206 ∷ answer_207 ∷ answer_208 ∷ answer_209 ∷ answer_210 ∷ answer_211 ∷ answer_214 ∷ answer_215 ∷ answer_216 ∷ answer_217 ∷ answer_218 ∷ answer_219 ∷ answer_220 ∷ answer_221 ∷ answer_222 ∷ answer_223 ∷ answer_224 ∷ answer_225 ∷ answer_226 ∷ answer_251 ∷ answer_282 ∷ answer_283 ∷ answer_284 ∷ answer_285 ∷ answer_286 ∷ answer_287 ∷ answer_288 ∷ answer_289 ∷ answer_290 ∷ answer_291 ∷ answer_292 ∷ answer_293 ∷ answer_294 ∷ answer_295 ∷ answer_296 ∷ []
 
 abbrev pub refused_jobs : List Job
 refused_jobs = job_212 ∷ job_213 ∷ job_227 ∷ job_228 ∷ job_229 ∷ job_230 ∷ job_231 ∷ job_232 ∷ job_233 ∷ job_234 ∷ job_235 ∷ job_236 ∷ job_237 ∷ job_238 ∷ job_239 ∷ job_240 ∷ job_241 ∷ job_242 ∷ job_243 ∷ job_244 ∷ job_245 ∷ job_246 ∷ job_247 ∷ job_248 ∷ job_249 ∷ job_250 ∷ job_252 ∷ job_253 ∷ job_254 ∷ job_255 ∷ job_256 ∷ job_257 ∷ job_258 ∷ job_259 ∷ job_260 ∷ job_261 ∷ job_264 ∷ job_272 ∷ []
