@@ -2,6 +2,7 @@
 //! somebody gave. Shares nothing with the oracle and the port but the format.
 
 mod counts;
+mod growth;
 mod pairs;
 mod parts;
 mod rules;

@@ -1,7 +1,7 @@
 //! What holds of every answer to learning and deepening.
 
 use crate::rules::{self, Rows};
-use crate::{Checked, ensure};
+use crate::{Checked, ensure, growth};
 use std::ops::Range;
 use stream::{Learned, Learning, PREDICTORS, PROPERTIES, Record, Runs, Span};
 
@@ -70,7 +70,7 @@ fn accepted(job: &Learning, answer: &Learned) -> Checked {
     if uses_modes(job) && (is_unpruned(job) || job.settings.settling) {
         tokens_are_fresh(answer)?;
     }
-    Ok(())
+    growth::check(job, answer)
 }
 
 /// Pruning is for prices above 0.

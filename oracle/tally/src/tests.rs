@@ -1,5 +1,6 @@
 //! Right answers pass, and each of many broken ones is refused for what is broken in it.
 
+mod growth;
 mod small;
 mod symbols;
 
