@@ -16,7 +16,7 @@ enum kind {
 };
 
 /* The state of this format: the base with so many of the requests that came after it. */
-#define STATE UINT32_C(4)
+#define STATE UINT32_C(5)
 
 /* What is wrong with a stream that does not begin with a version message: its records have no depth. */
 static const char no_version[] = "a stream without a version message, which is of state 0";

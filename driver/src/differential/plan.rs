@@ -31,13 +31,13 @@ const FAMILIES: &[Family] = &[
     family("tiny", 28_080, 120), family("small", 16_000, 400), family("ties", 8_000, 160), family("wide", 4_000, 2_500),
     family("extremes", 8_000, 1_300), family("spans", 6_000, 220), family("logs", 8_000, 350), family("settling", 8_000, 850),
     family("prune-ties", 8_000, 400), family("limits-k", 8_000, 480), family("refusals", 9_000, 220),
-    family("agree", 86, 120),
+    family("agree", 93, 120),
     family("deep", 2_000, 4_500), family("strides", 1_000, 7_000), family("limits", 30, 180_000), family("digits", 3_000, 9_500),
     family("digits-4096", 400, 50_000), family("digits-16384", 60, 200_000), family("digits-65536", 20, 1_100_000),
     family("worst", 10, 3_500_000), family("worst-65536", 1, 55_000_000),
     // Deepening.
     family("seeds", 16_000, 420), family("seeds-large", 1_000, 5_500), family("seed-faults", 11_000, 120),
-    family("seed-room", 413, 7_000),
+    family("seed-room", 406, 7_000),
     // The small operations.
     family("lookup", 10_000, 90), family("contexts", 8_000, 280), family("sampling", 8_000, 200), family("pack", 6_000, 50),
     family("token", 6_000, 35), family("value", 6_000, 35),

@@ -407,8 +407,9 @@ fn version_messages_that_are_none() {
     };
     let why = |length| format!("not a job: a version message of {length}, where 4 are due");
     assert_wrong("no state", &state(&[]), &why("0 bytes"));
-    assert_wrong("short state", &state(&[4]), &why("1 byte"));
-    assert_wrong("long state", &state(&[4, 0, 0, 0, 0]), &why("5 bytes"));
+    let long = [&STATE.to_le_bytes()[..], &[0]].concat();
+    assert_wrong("short state", &state(&long[..1]), &why("1 byte"));
+    assert_wrong("long state", &state(&long), &why("5 bytes"));
     let twice = stream([version(STATE), version(STATE)]);
     let why = "a job of a stream's state, where learning or deepening is due";
     assert_wrong("version twice", &twice, why);
