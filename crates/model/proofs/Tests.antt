@@ -1,6 +1,6 @@
 -- Tests of the checks, read as facts: what a test that passed or failed says, and what is left where nothing was refused. Assumes nothing.
 use mathlib.Core.Path.{◌≡◌, refl, sym, ap}
-use mathlib.Core.Logic.{◌↔◌}
+use mathlib.Core.Logic.{◌↔◌, ◌⊎◌, inl, inr}
 use Prim.Native.Nat.{ℕ, ◌≤◌}
 use native.Mathlib.Omega.{arith}
 use mathlib.Core.Bool.{Bool, true, false, not, cond, ◌&&◌, ◌||◌, true≢false}
@@ -22,6 +22,11 @@ and-true false b e = absurd (true≢false (sym e))
 
 pub true-T : (b : Bool) → b ≡ true → T b
 true-T b e = rw e tt
+
+-- one of two tests passed
+pub or_either : (a b : Bool) → T (a || b) ↔ (T a ⊎ T b)
+or_either true b = (λ t. inl tt, λ p. tt)
+or_either false b = (λ t. inr t, elim [ inl t ↦ absurd t | inr t ↦ t ])
 
 pub neither : (a b : Bool) → ((a || b) ≡ false) ↔ ((a ≡ false) × (b ≡ false))
 neither true b = (λ e. absurd (true≢false e), λ p. p.0)

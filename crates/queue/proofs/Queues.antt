@@ -5,12 +5,12 @@ use Prim.Native.Nat.{ℕ, suc, ◌+◌, ◌*◌, ◌-◌, ◌≤◌, ◌<◌}
 use native.Mathlib.Nat.{mul-one, mul-le-mul_right, suc-mul}
 use native.Mathlib.Numerals.{add-one}
 use native.Mathlib.Omega.{arith}
-use lib.ListN.{length, take, drop, length-append, length-drop, take-append-drop}
-use lib.Seq.{paste, take_all, take_at, drop_at, take-take, take-paste, length-take-le, drop-append-le}
-use Rattle.model.specs.Single.{singles}
+use lib.ListN.{length, take, drop, length-append, length-drop, take-append-drop, length-set}
+use lib.Seq.{paste, take_all, take_at, drop_at, take-take, take-paste, length-paste, length-take-le, drop-append-le}
+use Rattle.model.specs.Meter.{Meter}
 use Rattle.model.specs.Lent.{Waiting}
 use Rattle.std.specs.List.{copy_within}
-use Rattle.layout.specs.Waiting.{laid, words_per_leaf, QueueLists, queue_lists, Queued, QueueRoom, without, wait_words, wait_values, wait_gains}
+use Rattle.layout.specs.Waiting.{laid, words_per_leaf, QueueListsOf, Queued, QueueRoom, SameQueue, without, wait_words, wait_values, wait_gains}
 use Rattle.layout.proofs.Cells.{laid_append, laid_one, laid-length, laid-take, set-paste, stores_four}
 use Rattle.layout.proofs.Queue.{length_without}
 use Rattle.queue.specs.Lent.{put_waiting}
@@ -18,6 +18,13 @@ use Rattle.queue.specs.Lent.{put_waiting}
 -- the w cells from `at` on taken out, and the m cells behind them moved up
 abbrev move_up : {A : Type 0} → ℕ → ℕ → ℕ → List A → List A
 move_up at w m l = paste l at (drop (at + w) l) m
+
+-- cells that move towards the front leave a list as long as it was
+moved_length : {A : Type 0} (start end at : ℕ) (l : List A) → at ≤ start → start ≤ end → end ≤ length l
+    → length (copy_within l start end at) ≡ length l
+moved_length start end at l before some room =
+    let len : length (drop start l) ≡ length l - start = length-drop start l in
+    length-paste l at (drop start l) (end - start) (omega arith) (omega arith)
 
 -- ---- entries of equal size at the front of a list
 module _ {E A : Type 0} (f : E → List A) (w : ℕ) (each : (e : E) → length (f e) ≡ w) (t : List E) (l : List A) where
@@ -80,13 +87,17 @@ module _ {E A : Type 0} (f : E → List A) (w : ℕ) (each : (e : E) → length 
       ∙ rw (is, whole) (sym (laid_one f t e))
 
 -- ---- the queue
--- the lists of `waiting` leaves with that at place k taken out: the others behind it move up
-abbrev pub taken_from : ℕ → ℕ → QueueLists → QueueLists
+-- the lists of `waiting` leaves with that at place k taken out: the others behind it move up; over any meter, since nothing
+-- here asks what a gain is
+abbrev pub taken_from : {M : Meter} → ℕ → ℕ → QueueListsOf M → QueueListsOf M
 taken_from waiting k q =
-    queue_lists (copy_within q.words ((k + 1) * words_per_leaf) (waiting * words_per_leaf) (k * words_per_leaf))
-    (copy_within q.values (k + 1) waiting k) (copy_within q.gains (k + 1) waiting k)
+    record {
+      words = copy_within q.words ((k + 1) * words_per_leaf) (waiting * words_per_leaf) (k * words_per_leaf);
+      values = copy_within q.values (k + 1) waiting k;
+      gains = copy_within q.gains (k + 1) waiting k;
+    }
 
-module _ (q : QueueLists) (leaves : List (Waiting singles)) (waiting : ℕ) (h : Queued waiting q leaves) where
+module _ {M : Meter} (q : QueueListsOf M) (leaves : List (Waiting M)) (waiting : ℕ) (h : Queued waiting q leaves) where
   -- the leaf at place k taken out
   pub taken_out : (k : ℕ) → k < waiting → QueueRoom waiting q → Queued (waiting - 1) (taken_from waiting k q) (without k leaves)
   taken_out k lt room =
@@ -105,7 +116,8 @@ module _ (q : QueueLists) (leaves : List (Waiting singles)) (waiting : ℕ) (h :
       }
 
   -- a leaf put behind the others
-  pub added : (w : Waiting singles) → QueueRoom (waiting + 1) q → Queued (waiting + 1) (put_waiting waiting w q) (leaves ++ (w ∷ []))
+  pub added : (w : Waiting M) → QueueRoom (waiting + 1) q
+      → Queued (waiting + 1) (put_waiting waiting w q) (leaves ++ (w ∷ []))
   added w room =
       let many = h.many in
       record {
@@ -119,3 +131,19 @@ module _ (q : QueueLists) (leaves : List (Waiting singles)) (waiting : ℕ) (h :
             ∙ rw many (rw (mul-one, mul-one) at
             (put-behind wait_gains 1 (λ w. refl) leaves q.gains w (rw (mul-one, ← many) room.gains) (rw (mul-one, ← many) h.gains)));
       }
+
+-- a leaf taken out leaves each list as long as it was
+pub same_taken : {M : Meter} (q : QueueListsOf M) (waiting k : ℕ) → k < waiting → QueueRoom waiting q
+    → SameQueue q (taken_from waiting k q)
+same_taken q waiting k lt room =
+    let start : ℕ = (k + 1) * words_per_leaf in
+    let end : ℕ = waiting * words_per_leaf in
+    record {
+      words = moved_length start end (k * words_per_leaf) q.words (omega arith) (omega arith) room.words;
+      values = moved_length (k + 1) waiting k q.values (omega arith) (omega arith) room.values;
+      gains = moved_length (k + 1) waiting k q.gains (omega arith) (omega arith) room.gains;
+    }
+
+-- and so does one put behind the others
+pub same-added : {M : Meter} (q : QueueListsOf M) (waiting : ℕ) (w : Waiting M) → SameQueue q (put_waiting waiting w q)
+same-added q waiting w = record { words = simp length-set; values = simp length-set; gains = simp length-set }

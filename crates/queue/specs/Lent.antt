@@ -1,9 +1,10 @@
 -- The queue's three lists, lent together, and the leaf that waits at a place. Assumes nothing.
 use Rattle.std.specs.Prelude.{ℕ, ◌≡◌, ◌+◌, ◌*◌, get_or, set, pos}
 use Rattle.std.specs.Float.{nan}
+use Rattle.model.specs.Meter.{Meter}
 use Rattle.model.specs.Single.{singles}
 use Rattle.model.specs.Lent.{Waiting}
-use Rattle.layout.specs.Waiting.{words_per_leaf, QueueLists, queue_lists, put_wait_words}
+use Rattle.layout.specs.Waiting.{words_per_leaf, QueueListsOf, QueueLists, queue_lists, put_wait_words}
 use Rattle.layout.specs.Values.{split_offered}
 use Rattle.queue.specs.declared.Queue.{Queue}
 use Rattle.queue.specs.declared.Pending.{Pending}
@@ -31,7 +32,11 @@ pub record PendingAt (q : QueueLists) (k : ℕ) (r : Pending) : Type 0 where
 abbrev pub waiting_is : Pending → Waiting singles
 waiting_is p = record { node = p.node; depth = p.depth; offer = split_offered p.offer }
 
--- the lists with a leaf stored at place k
-abbrev pub put_waiting : ℕ → Waiting singles → QueueLists → QueueLists
+-- the lists with a leaf stored at place k, over any meter
+abbrev pub put_waiting : {M : Meter} → ℕ → Waiting M → QueueListsOf M → QueueListsOf M
 put_waiting k w q =
-    queue_lists (put_wait_words k w q.words) (set q.values k w.offer.val) (set q.gains k w.offer.gain)
+    record {
+      words = put_wait_words k w q.words;
+      values = set q.values k w.offer.val;
+      gains = set q.gains k w.offer.gain;
+    }
