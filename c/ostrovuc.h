@@ -1,8 +1,7 @@
 /*
  * Ostrovuc: JPEG XL's meta-adaptive (MA) predictor trees, learned by a proved library.
  *
- * Link with target/staticlib/libma_tree.a, which `interface/library ma_tree` writes for x86-64. It calls memcpy, memmove and memset
- * and nothing else.
+ * Link with target/staticlib/libma_tree.a, which `interface/library ma_tree` writes for x86-64. It calls memcpy and memset and nothing else.
  *
  * The library allocates nothing and keeps nothing between calls, so calls may run at the same time on lists of their own; a call takes up to 1 MB of stack.
  * Every list is lent by the caller, as a pointer and a length in entries. The lists of a call do not overlap; a list of length 0 may have any pointer.

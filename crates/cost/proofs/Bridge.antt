@@ -1,20 +1,21 @@
 -- From counts to rows: of the histograms of some rows, the costs, the lowest cost with its predictor, and the cheapest predictors are the
 -- model's on those rows. Assumes nothing.
 use mathlib.Core.Path.{◌≡◌, refl, sym, ap, ◌∙◌}
-use mathlib.Core.Bool.{Bool, true, false, cond}
+use mathlib.Core.Bool.{Bool, true, false, cond, not}
 use mathlib.Core.List.{List, [], ◌∷◌}
-use Prim.Native.Nat.{ℕ, ◌-◌, ◌≤◌, ◌<◌, max}
+use Prim.Native.Nat.{ℕ, ◌-◌, ◌*◌, ◌^◌, ◌≤◌, ◌<◌, max}
 use native.Mathlib.Omega.{arith}
-use lib.Dec.{eqb}
+use lib.Dec.{T, eqb}
 use lib.IntN.{ℤ, pos}
 use lib.ListN.{length, take}
 use lib.Seq.{length-slice}
-use lib.Ieee.{Float, lt}
-use Rattle.model.specs.Lists.{is_empty}
+use lib.Ieee.{Float, lt, is_nan}
+use Rattle.ieee.specs.Within.{Within, within_not_nan}
+use Rattle.model.specs.Lists.{range, keep, is_empty}
 use Rattle.model.specs.Settings.{Settings, toks_per_row, max_rows}
 use Rattle.model.specs.Rows.{Row, within, rows_of}
 use Rattle.model.specs.Single.{singles}
-use Rattle.model.specs.Cost.{histogram_cost, cheapest, insert_by_cost, by_cost, cost_of, usable, best_predictor, side_predictors}
+use Rattle.model.specs.Cost.{histogram_cost, cheapest, first_cheapest, insert_by_cost, by_cost, cost_of, usable, best_predictor, side_predictors}
 use Rattle.model.specs.Evaluate.{info_of}
 use Rattle.model.proofs.Places.{length_rows_of}
 use Rattle.cost.specs.declared.Cheapest.{Cheapest}
@@ -23,7 +24,7 @@ use Rattle.cost.specs.Histograms.{histograms, span_of, SpanFits, CountsSpan}
 use Rattle.cost.specs.Predictors.{may_use, usable_predictors, cost_at, cheapest_of, node_costs, cost_in, sorted_predictors, NodeCounted, NodeUsable, NodeRoom, Uses, cheapest_on}
 use Rattle.cost.proofs.Numbers.{Each, each_tail, Passes, keep-passes}
 use Rattle.cost.proofs.Histograms.{histograms-length, histograms-part, histogram-rows}
-use Rattle.cost.proofs.Predictors.{node_costs-at}
+use Rattle.cost.proofs.Predictors.{cost_at-within, node_costs-at}
 use Rattle.cost.proofs.Sorting.{by_cost-each}
 
 -- ---- what is asked of logarithms and of counts
@@ -70,6 +71,35 @@ module _ (f g : ℕ → Float) (P : ℕ → Type 0) (same : (p : ℕ) → P p �
       insert-same p (by_cost singles f ps) (k 0 (omega arith)) (by_cost-each f P ps rest) ∙ ap (insert_by_cost singles g p) (by_cost-same ps rest)
 
 -- ---- the bridge
+
+-- the lowest cost is one of the predictors', so it is bounded as theirs are
+pub cheapest-within : (hist : List ℕ) (total alphabet : ℕ) (weighted : Bool) (allowed : ℕ) (logs : List Float)
+    → NodeCounted hist total alphabet logs → is_empty (usable_predictors weighted allowed) ≡ false
+    → Within (257 * 2 ^ 22) (cheapest_of (cost_at hist total alphabet logs) (usable_predictors weighted allowed)).bits
+unfolding cheapest_of usable_predictors
+cheapest-within hist total alphabet weighted allowed logs node some =
+    go (keep (may_use weighted allowed) (range 0 toks_per_row))
+    (keep-passes (may_use weighted allowed) toks_per_row 0 toks_per_row (omega arith)) some
+  where
+    cost : ℕ → Float
+    cost = cost_at hist total alphabet logs
+
+    May : ℕ → Type 0
+    May = Passes (may_use weighted allowed) toks_per_row
+
+    go : (ps : List ℕ) → Each May ps → is_empty ps ≡ false → Within (257 * 2 ^ 22) (cost (first_cheapest singles cost ps))
+    go [] k e = let z : ◌≡◌ {A = ℕ} 0 1 = cc in absurd (omega arith)
+    go (p ∷ ps) k e =
+        let s = cheapest-same cost cost May (λ q h. refl) p ps (k 0 (omega arith)) (each_tail May p ps k) in
+        cost_at-within hist total alphabet logs node (cheapest singles cost p ps) s.1.0
+
+-- so no lowest cost is a NaN
+pub cheapest-number : (hist : List ℕ) (total alphabet : ℕ) (weighted : Bool) (allowed : ℕ) (logs : List Float)
+    → NodeCounted hist total alphabet logs → is_empty (usable_predictors weighted allowed) ≡ false
+    → T (not (is_nan (cheapest_of (cost_at hist total alphabet logs) (usable_predictors weighted allowed)).bits))
+cheapest-number hist total alphabet weighted allowed logs node some =
+    let lowest = (cheapest_of (cost_at hist total alphabet logs) (usable_predictors weighted allowed)).bits in
+    within_not_nan lowest (257 * 2 ^ 22) (cheapest-within hist total alphabet weighted allowed logs node some)
 
 module _ (t : Settings singles) where
   -- may be used

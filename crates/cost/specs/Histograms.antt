@@ -29,9 +29,9 @@ tallied f (suc n) cells = bumped (f n) (tallied f n cells)
 abbrev pub token_cell : List ℕ → ℕ → ℕ → ℕ → ℕ
 token_cell tokens base alphabet p = base + p * alphabet + get_or tokens p 0
 
--- the row is whole, its tokens are below the alphabet, and there is room for its counts
+-- a row's tokens are there, perhaps with more behind them, and below the alphabet, and there is room for its counts
 pub record RowFits (tokens : List ℕ) (base alphabet : ℕ) (cells : List ℕ) : Type 0 where
-  pub whole : length tokens ≡ toks_per_row
+  pub whole : toks_per_row ≤ length tokens
   pub below : (p : ℕ) → p < toks_per_row → get_or tokens p 0 < alphabet
   pub room : base + toks_per_row * alphabet ≤ length cells
   pub low : (i : ℕ) → get_or cells i 0 ≤ max_rows
