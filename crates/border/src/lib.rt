@@ -45,7 +45,7 @@ pub fn learn_on(lists: &mut Lists, job: Job) -> Result<Learned, Refusal>
         (records_in lists.old) (records_in lists.new) (learned_in (tree_outcome result)) }
 {
     let rooms = rooms_of(lists);
-    refuse::check_learn(lists.rows, job, rooms)?;
+    refuse::check_learn(lists.rows.view(), job, rooms)?;
     let tree = learn::learn_ma_tree_in_place(lists, job);
     Ok(lent::answer(tree))
 }
@@ -58,7 +58,7 @@ pub fn deepen_on(lists: &mut Lists, job: Job, count: u32) -> Result<Learned, Ref
 {
     let seeds = count as usize;
     let rooms = rooms_of(lists);
-    refuse::check_deepen(lists.rows, job, rooms, seeds)?;
+    refuse::check_deepen(lists.rows.view(), job, rooms, seeds)?;
     if let Some(node) = seed_fault(lists.at, count) {
         return Err(Refusal::UnsoundTree(node));
     }

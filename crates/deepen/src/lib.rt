@@ -28,6 +28,6 @@ pub fn deepen_ma_tree(lists: &mut Lists, job: Job, count: usize) -> Finished
         (lists_now lists.old) }
 {
     lists.counts.fill(0);
-    let flat_bits = lent::flat_bits(lists.rows, lists.counts, job);
+    let flat_bits = lent::flat_bits(lists.rows.view(), lists.counts, job);
     from_seed::grow_from_seed(lists, job, count, flat_bits)
 }

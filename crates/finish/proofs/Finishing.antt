@@ -48,7 +48,7 @@ use Rattle.settle.proofs.Settling.{unsettled}
 use Rattle.rows.specs.Flat.{Flat, held_in, row_count, SameSize, Changed}
 use Rattle.rows.proofs.Cells.{length-held}
 use Rattle.rows.proofs.Shapes.{size_same, size-then, count_still}
-use Rattle.layout.specs.Waiting.{QueueLists, SameQueue}
+use Rattle.layout.specs.Waiting.{QueueListsOf, SameQueue}
 use Rattle.layout.proofs.Held.{holding-room, room-fewer}
 use Rattle.lent.specs.Fitting.{uses_of, Fitting}
 use Rattle.lent.specs.Grows.{job_in, Number, Grows}
@@ -353,5 +353,6 @@ module _ {job : Job} {counts : List ℕ} {x : Flat} {n : NodeLists} {q : Queue} 
     finished_so {z} {l} {f} flatly e =
         finished_from to.size (subst (λ (u : Bool). FinishedTo y z l f lent (finished (job_of single (settings_of job.settings) job.logs.now u) grown_state flatly)) (sym (uses_still job.settings to.size)) e)
 
-pub clear-same : {q p : QueueLists} → SameQueue q p → cleared p ≡ cleared q
+-- lists as long as these are cleared to the same ones
+pub clear-same : {M : Meter} {q p : QueueListsOf M} → SameQueue q p → cleared p ≡ cleared q
 clear-same s = rw (s.words, s.values, s.gains)

@@ -20,7 +20,7 @@ ghost use Rattle.finish.specs.Finished.{Grew, Finishable, FinishedTo};
 use layout::{Nodes, Tree};
 use lent::{Finished, Lists};
 use refuse::Job;
-use rows::Rows;
+use rows::{RowTokens, Rows};
 
 // Prunes what has grown, if the price is above 0, and repeats the mode step on each leaf's span, if it is asked for.
 fn finish_tree(
@@ -46,8 +46,14 @@ fn finish_tree(
     } else {
         grown
     };
-    if s.settle & lent::uses_modes(rows, job) {
-        settle::settle_leaves(rows, at, counts, kept.nodes);
+    if s.settle & lent::uses_modes(rows.view(), job) {
+        let props = &mut *rows.props;
+        let tok = &mut *rows.tok;
+        let res = &mut *rows.res;
+        let mut tokens = RowTokens { props, tok, res };
+        let nodes = &mut *at.nodes;
+        let spans = &mut *at.spans;
+        settle::settle_leaves(&mut tokens, nodes, spans, counts, kept.nodes);
     }
     Finished {
         nodes: kept.nodes,
@@ -75,6 +81,7 @@ pub fn grow_and_finish(
         (steps (job_in job.entry (flat_in lists.old.rows.now)) more st) flat_bits) }
     ensures zeros { lists.new.counts.now ≡ lists.old.counts.now }
     ensures queue { queue_in lists.new.queue.now ≡ cleared (queue_in lists.old.queue.now) }
+    ensures waiting { lists.new.queue.now.waiting ≡ 0 }
 {
     let grown = grow::grow_tree(lists, job, tree, more);
     let made = finish_tree(lists.rows, lists.at, lists.counts, job, grown, flat_bits);

@@ -8,14 +8,14 @@ ghost use Rattle.model.specs.Settings.{Settings};
 ghost use Rattle.model.specs.Flat.{clamped, flat_bits};
 ghost use Rattle.model.specs.Rows.{rows_held};
 ghost use Rattle.rows.specs.Flat.{row_count};
-ghost use Rattle.rows.specs.Lent.{flat_in};
+ghost use Rattle.rows.specs.Lent.{flat_seen};
 ghost use Rattle.model.specs.Lists.{is_empty};
 ghost use Rattle.cost.specs.Predictors.{Uses, NodeCounted, usable_predictors};
 ghost use Rattle.flat.specs.Flat.{RowsFit, GroupsEmpty, CountsGroups, with_lowest, groups_bits};
 ghost use Rattle.flat.specs.Flat.{GroupsCounted, FlatFits};
 
 use cost::{Allowed, NodeCounts};
-use rows::Rows;
+use rows::RowsView;
 
 // The flat group of a row: its property 0, held to 0 to 3.
 fn group_of(v: i32) -> usize
@@ -25,10 +25,10 @@ fn group_of(v: i32) -> usize
 }
 
 // Counts the rows of each flat group, and their tokens under each predictor, in one pass over the rows.
-fn count_groups(rows: &Rows, hist: &mut [u32], sizes: &mut [u32], alphabet: usize)
-    requires rows_fit { RowsFit (flat_in rows.now) alphabet }
+fn count_groups(rows: RowsView, hist: &mut [u32], sizes: &mut [u32], alphabet: usize)
+    requires rows_fit { RowsFit (flat_seen rows) alphabet }
     requires groups_empty { GroupsEmpty alphabet hist.old sizes.old }
-    ensures { CountsGroups rows.now.props.now rows.now.tok.now (row_count (flat_in rows.now)) alphabet
+    ensures { CountsGroups rows.entry.props.now rows.entry.tok.now (row_count (flat_seen rows.entry)) alphabet
         hist.new sizes.new }
 {
     let count = rows.count();
@@ -87,17 +87,17 @@ fn groups_cost(hist: &[u32], sizes: &[u32], alphabet: usize, allowed: Allowed, l
 
 // Flat bits: the rows grouped by property 0 held to 0 to 3, each group at its lowest cost. The counts are zero again.
 pub fn flat_cost(
-    rows: &Rows,
+    rows: RowsView,
     hist: &mut [u32],
     alphabet: usize,
     allowed: Allowed,
     logs: &[f32],
 ) -> f64
-    requires { FlatFits (flat_in rows.now) alphabet allowed.weighted allowed.preds logs.now
+    requires { FlatFits (flat_seen rows) alphabet allowed.weighted allowed.preds logs.now
         hist.old }
     ensures answer { (t : Settings singles) (rs : List ℤ)
         → Uses t alphabet allowed.weighted allowed.preds
-        → result ≡ flat_bits t logs.now (rows_held rows.now.props.now rows.now.tok.now rs) }
+        → result ≡ flat_bits t logs.now (rows_held rows.entry.props.now rows.entry.tok.now rs) }
     ensures zeros { hist.new ≡ replicate (56 * alphabet) 0 }
 {
     let mut sizes = [0u32; 4];

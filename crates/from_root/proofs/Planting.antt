@@ -11,6 +11,7 @@ use lib.ListN.{length, get_or, drop_of_length-le}
 use lib.Seq.{take_all}
 use lib.Ieee.{Float}
 use Rattle.model.specs.Settings.{max_depth}
+use Rattle.model.specs.Meter.{Meter}
 use Rattle.model.specs.Single.{singles}
 use Rattle.model.specs.Rows.{Row, within}
 use Rattle.model.specs.Mode.{span_mode, fresh}
@@ -33,7 +34,7 @@ use Rattle.refuse.specs.declared.Job.{Job}
 use Rattle.layout.specs.declared.Leaf.{Leaf}
 use Rattle.layout.specs.Values.{info_is, offer_is}
 use Rattle.layout.specs.Tree.{NodeLists, holding, HasRoom, put, leaf_with}
-use Rattle.layout.specs.Waiting.{QueueLists, Queued, SameQueue, waits, waiting_from}
+use Rattle.layout.specs.Waiting.{QueueListsOf, QueueLists, Queued, SameQueue, waits, waiting_from}
 use Rattle.queue.specs.declared.Queue.{Queue}
 use Rattle.queue.specs.Lent.{queue_in}
 use Rattle.layout.proofs.Held.{SameCells, put-more, holding-none, holding-same, same-cells, room-fewer}
@@ -54,7 +55,7 @@ use Rattle.finish.proofs.Finishing.{finished_from}
 use Rattle.leaf.proofs.Making.{uses_still, made-fitting}
 
 -- nothing waits yet
-pub none-queued : (q : QueueLists) → Queued 0 q []
+pub none-queued : {M : Meter} (q : QueueListsOf M) → Queued 0 q []
 none-queued q = record { many = refl; words = refl; values = refl; gains = refl }
 
 module _ {job : Job} {counts : List ℕ} {x : Flat} {n : NodeLists} {q : QueueLists} {rows : ℕ} (p : Plantable job (lists x n q counts)) (whole : rows ≡ row_count x) where

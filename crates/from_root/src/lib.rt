@@ -23,6 +23,7 @@ ghost use Rattle.from_root.specs.Result.{result_in};
 use layout::{Span, Tree};
 use lent::{Finished, Lists};
 use refuse::Job;
+use rows::RowTokens;
 
 // One leaf over all rows, and nothing else waits. It is scored only if a split may follow.
 fn plant_root(lists: &mut Lists, job: Job) -> Tree
@@ -41,8 +42,13 @@ fn plant_root(lists: &mut Lists, job: Job) -> Tree
         first: 0,
         end: lists.rows.count() as u32,
     };
+    let rows = &mut *lists.rows;
+    let props = &mut *rows.props;
+    let tok = &mut *rows.tok;
+    let res = &mut *rows.res;
+    let mut tokens = RowTokens { props, tok, res };
     let root = leaf::make_leaf(
-        lists.rows,
+        &mut tokens,
         lists.counts,
         job,
         all,

@@ -30,7 +30,7 @@ use layout::{Leaf, Nodes, Offer, Span, Tree};
 use lent::Lists;
 use queue::{Pending, Queue};
 use refuse::Job;
-use rows::Rows;
+use rows::{RowTokens, Rows};
 
 // ---- one split, part by part
 
@@ -83,8 +83,12 @@ fn split_rows(
         end: span.end,
     };
     let depth = pending.depth + 1;
-    let gt = leaf::make_leaf(rows, counts, job, above, depth, 0 < left);
-    let le = leaf::make_leaf(rows, counts, job, others, depth, 0 < left);
+    let props = &mut *rows.props;
+    let tok = &mut *rows.tok;
+    let res = &mut *rows.res;
+    let mut tokens = RowTokens { props, tok, res };
+    let gt = leaf::make_leaf(&mut tokens, counts, job, above, depth, 0 < left);
+    let le = leaf::make_leaf(&mut tokens, counts, job, others, depth, 0 < left);
     Sides {
         gt: Side {
             span: above,

@@ -29,7 +29,9 @@ use Rattle.rows.specs.Cells.{span}
 use Rattle.rows.specs.Flat.{Flat, flat, held_in, row_count, Spanned, SameSize, Changed}
 use Rattle.model.proofs.Settled.{put_same}
 use Rattle.rows.proofs.Cells.{length-held}
-use Rattle.rows.proofs.Shapes.{size_same, shaped_still, count_still, residuals_still}
+use Rattle.rows.specs.Lent.{flat_with, SameTokensLent}
+use Rattle.rows.specs.declared.RowTokens.{RowTokens}
+use Rattle.rows.proofs.Shapes.{size_same, shaped_still, count_still, residuals_still, given-back}
 use Rattle.evaluate.specs.Evaluated.{Evaluated, Evaluable}
 use Rattle.lent.specs.Fitting.{uses_of, Fitting}
 use Rattle.settle.proofs.Settling.{stepped-size}
@@ -209,3 +211,8 @@ made {scored} {job} {counts} {depth} {x} {y} {first} {end} {r} mode sp st is e =
           (subst (λ (m : ℤ). Evaluated r scored (settings_of job.settings) job.logs.now m depth (within (span first end) (held_in y))) is e);
       below = st.below;
     }
+
+-- the same of the caller's lists, which hold the properties and the residuals that they held
+pub made-back : {scored : Bool} {job : Job} {depth : ℕ} {sp : Span} {x : Flat} {r : Leaf} {y z : RowTokens} {toks : List ℕ} → SameTokensLent y z
+    → toks ≡ z.tok.now → MadeLeaf scored job depth sp x (flat_with z) r → MadeLeaf scored job depth sp x (flat y.props.now toks y.res.now) r
+made-back {scored} {job} {depth} {sp} {x} {r} same e m = subst (λ (l : Flat). MadeLeaf scored job depth sp x l r) (given-back same e) m

@@ -23,6 +23,6 @@ pub fn learn_ma_tree_in_place(lists: &mut Lists, job: Job) -> Finished
         (lists_now lists.old) }
 {
     lists.counts.fill(0);
-    let flat_bits = lent::flat_bits(lists.rows, lists.counts, job);
+    let flat_bits = lent::flat_bits(lists.rows.view(), lists.counts, job);
     from_root::grow_from_root(lists, job, flat_bits)
 }

@@ -4,10 +4,10 @@ use mathlib.Core.List.{map}
 use Prim.Native.Nat.{ℕ, ◌+◌, ◌*◌, ◌<◌}
 use native.Mathlib.Omega.{arith}
 use lib.IntN.{pos}
-use lib.Ieee.{nan}
 use lib.ListN.{length, get_or, replicate, length-replicate, get_or-replicate}
 use lib.Seq.{ext_get_or}
 use Rattle.model.specs.Lists.{range}
+use Rattle.model.specs.Meter.{Meter}
 use Rattle.model.specs.Single.{singles}
 use Rattle.model.specs.Rows.{no_span}
 use Rattle.model.specs.Tree.{blank_record}
@@ -17,7 +17,7 @@ use Rattle.model.proofs.Places.{length-each, each_at}
 use Rattle.model.proofs.Vacated.{get_d_blank}
 use Rattle.layout.specs.Records.{stored_of, span_is, no_record, no_span_record}
 use Rattle.layout.specs.Tree.{NodeLists}
-use Rattle.layout.specs.Waiting.{QueueLists, words_per_leaf}
+use Rattle.layout.specs.Waiting.{QueueListsOf, words_per_leaf}
 use Rattle.queue.specs.Room.{leaves_lent, cleared}
 use Rattle.layout.proofs.Held.{written_read}
 use Rattle.lent.specs.Lists.{waiting_at, stored_queue, node_written, span_written, nodes_after}
@@ -34,13 +34,19 @@ module _ (r : Result singles) (n : NodeLists) (i : ℕ) where
 
 -- ---- the queue
 
-pub queue-read : (q : QueueLists) → stored_queue (cleared q) ≡ replicate (length (stored_queue q)) no_waiting
+-- over any meter, since nothing here asks what a cost is
+pub queue-read : {M : Meter} (q : QueueListsOf M)
+    → stored_queue (cleared q) ≡ replicate (length (stored_queue q)) no_waiting
 unfolding stored_queue
-queue-read q =
+queue-read {M} q =
     let n = leaves_lent q in
     let p = cleared q in
     let same : leaves_lent p ≡ n =
-    rw (length-replicate {A = ℕ} (length q.words) 0, length-replicate (length q.values) (pos 0), length-replicate (length q.gains) singles.nought) in
+    rw (
+      length-replicate {A = ℕ} (length q.words) 0,
+      length-replicate (length q.values) (pos 0),
+      length-replicate (length q.gains) M.nought,
+    ) in
     let long = length-each (waiting_at q) 0 n in
     let left = length-each (waiting_at p) 0 n in
     rw (same, long)
@@ -54,6 +60,6 @@ queue-read q =
       get_d_blank {A = ℕ} (length q.words) (i * words_per_leaf + 1) 0,
       get_d_blank {A = ℕ} (length q.words) (i * words_per_leaf + 3) 0,
       get_or-replicate (length q.values) i (pos 0) (pos 0) (omega arith),
-      get_or-replicate (length q.gains) i singles.nought nan (omega arith),
+      get_or-replicate (length q.gains) i M.nought M.spare (omega arith),
     )
     (sym (get_or-replicate n i no_waiting no_waiting lt))))

@@ -1,8 +1,8 @@
 -- The lists that the learner works on: what the model reads in the queue's, and what they all hold after acceptance, entry by entry
 -- (document 01, "Which number comes back"). Assumes nothing.
 use Rattle.std.specs.Prelude.{ℕ, ◌+◌, ◌*◌, List, map, length, get_or, replicate, pos}
-use Rattle.std.specs.Float.{nan}
 use Rattle.model.specs.Lists.{range, written_over}
+use Rattle.model.specs.Meter.{Meter}
 use Rattle.model.specs.Single.{singles}
 use Rattle.model.specs.Rows.{Span}
 use Rattle.model.specs.Tree.{Record}
@@ -11,7 +11,7 @@ use Rattle.model.specs.Lent.{stored, Waiting}
 use Rattle.layout.specs.Records.{record_of, span_record}
 use Rattle.layout.specs.Tree.{NodeLists, node_lists}
 use Rattle.layout.specs.Lent.{lists_in}
-use Rattle.layout.specs.Waiting.{QueueLists, words_per_leaf}
+use Rattle.layout.specs.Waiting.{QueueListsOf, QueueLists, words_per_leaf}
 use Rattle.layout.specs.declared.MaNode.{MaNode}
 use Rattle.layout.specs.declared.Span as layout
 use Rattle.queue.specs.Lent.{queue_in}
@@ -50,20 +50,20 @@ abbrev pub work_in : lent.Lists → Work
 work_in x = work x.counts.now (flat_in x.rows.now) (lists_in x.at.now) x.queue.now
 
 -- ---- what the model reads in the queue's lists
-abbrev pub waiting_at : QueueLists → ℕ → Waiting singles
-waiting_at q i =
+abbrev pub waiting_at : {M : Meter} → QueueListsOf M → ℕ → Waiting M
+waiting_at {M} q i =
     record {
       node = get_or q.words (i * words_per_leaf) 0;
       depth = get_or q.words (i * words_per_leaf + 2) 0;
       offer = record {
         prop = get_or q.words (i * words_per_leaf + 1) 0;
         val = get_or q.values i (pos 0);
-        gain = get_or q.gains i nan;
+        gain = get_or q.gains i M.spare;
         below = get_or q.words (i * words_per_leaf + 3) 0;
       };
     }
 
-unfoldable pub stored_queue : QueueLists → List (Waiting singles)
+unfoldable pub stored_queue : {M : Meter} → QueueListsOf M → List (Waiting M)
 stored_queue q = map (waiting_at q) (range 0 (leaves_lent q))
 
 -- ---- after acceptance

@@ -7,7 +7,7 @@ ghost use Rattle.model.specs.Settings.{max_nodes};
 ghost use Rattle.model.specs.Flat.{flat_bits};
 ghost use Rattle.model.specs.Rows.{rows_held};
 ghost use Rattle.refuse.specs.Given.{settings_of};
-ghost use Rattle.rows.specs.Lent.{flat_in};
+ghost use Rattle.rows.specs.Lent.{flat_seen};
 ghost use Rattle.lent.specs.Answer.{tree_of, answer_of};
 ghost use Rattle.lent.specs.Fitting.{uses_of};
 ghost use Rattle.lent.specs.Starts.{Flattened};
@@ -15,7 +15,7 @@ ghost use Rattle.lent.specs.Starts.{Flattened};
 use layout::Nodes;
 use queue::Queue;
 use refuse::Job;
-use rows::Rows;
+use rows::{Rows, RowsView};
 
 // What a caller lends for a job: rows, nodes with their spans, queue, count space.
 // Stays: references, each for a lifetime of its own. Where the parts are held by value, the prover loses what their
@@ -48,18 +48,18 @@ pub struct Finished {
 }
 
 // Modes are in use: modal offsets are on, and residuals given.
-pub fn uses_modes(rows: &Rows, job: Job) -> bool
-    ensures { result ≡ uses_of job.entry.settings (flat_in rows.now) }
+pub fn uses_modes(rows: RowsView, job: Job) -> bool
+    ensures { result ≡ uses_of job.entry.settings (flat_seen rows.entry) }
 {
     job.settings.modal_offsets & rows.has_residuals()
 }
 
 // Flat bits of the rows as first given, whatever their residuals. The counts are zero, before and after.
-pub fn flat_bits(rows: &Rows, counts: &mut [u32], job: Job) -> f64
-    requires { Flattened job counts.old (flat_in rows.now) }
+pub fn flat_bits(rows: RowsView, counts: &mut [u32], job: Job) -> f64
+    requires { Flattened job counts.old (flat_seen rows) }
     ensures answer { (rs : List ℤ) → result
         ≡ flat_bits (settings_of job.entry.settings) job.entry.logs.now
-        (rows_held rows.now.props.now rows.now.tok.now rs) }
+        (rows_held rows.entry.props.now rows.entry.tok.now rs) }
     ensures zeros { counts.new ≡ counts.old }
 {
     let alphabet = job.settings.alphabet as usize;

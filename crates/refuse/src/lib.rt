@@ -15,12 +15,12 @@ ghost use Rattle.model.specs.Refuse.{refused_before, learn_refusal};
 ghost use Rattle.model.specs.Operations.{outcome_of};
 ghost use Rattle.model.specs.Answered.{outcome_of_result};
 ghost use Rattle.model.specs.Accepting.{InRange};
-ghost use Rattle.rows.specs.Lent.{flat_in};
+ghost use Rattle.rows.specs.Lent.{flat_seen};
 ghost use Rattle.refuse.specs.Given.{settings_of, allowed_in, Holds, HasRooms, Lends, WholeRows, found_of};
 
 use cost::Allowed;
 use model::Refusal;
-use rows::Rows;
+use rows::RowsView;
 
 // The first part of the count space: the mode step counts residuals there, and the candidates mark values.
 const FIRST_COUNTS: usize = 4096;
@@ -196,8 +196,8 @@ pub fn seed_rooms_fit(rooms: Rooms, rows: usize, count: usize) -> bool
 // ---- the first condition that holds
 
 // Conditions 1 to 7 of learning; how many rows there are.
-pub fn check_learn(rows: &Rows, job: Job, rooms: Rooms) -> Result<usize, Refusal>
-    ensures { (x : Lent singles) → Lends (flat_in rows.now) rooms x
+pub fn check_learn(rows: RowsView, job: Job, rooms: Rooms) -> Result<usize, Refusal>
+    ensures { (x : Lent singles) → Lends (flat_seen rows.entry) rooms x
         → outcome_of_result result
         ≡ outcome_of (learn_refusal single (settings_of job.entry.settings) job.entry.logs.now x) (row_count x) }
 {
@@ -229,8 +229,8 @@ pub fn check_learn(rows: &Rows, job: Job, rooms: Rooms) -> Result<usize, Refusal
 
 // Conditions 1 to 7 of deepening a seed of `seeds` nodes: those of learning, and then the seed's room. Whether the seed
 // is a sound tree (8) is asked after a pass.
-pub fn check_deepen(rows: &Rows, job: Job, rooms: Rooms, seeds: usize) -> Result<usize, Refusal>
-    ensures { (x : Lent singles) → Lends (flat_in rows.now) rooms x
+pub fn check_deepen(rows: RowsView, job: Job, rooms: Rooms, seeds: usize) -> Result<usize, Refusal>
+    ensures { (x : Lent singles) → Lends (flat_seen rows.entry) rooms x
         → outcome_of_result result ≡ outcome_of
         (refused_before single (settings_of job.entry.settings) job.entry.logs.now x
         (room_besides (is_short_of_seed_room seeds x))) (row_count x) }

@@ -7,12 +7,20 @@ use native.Mathlib.Omega.{arith}
 use lib.ListN.{length}
 use lib.IntN.{ℤ}
 use Rattle.model.specs.Lists.{is_empty}
-use Rattle.rows.specs.Flat.{Flat, row_count, has_residuals, Shaped, SameSize}
-use Rattle.rows.specs.Lent.{SameRowsLent}
+use Rattle.rows.specs.Flat.{Flat, flat, row_count, has_residuals, Shaped, SameSize}
+use Rattle.rows.specs.Lent.{flat_with, SameRowsLent, SameTokensLent}
 use Rattle.rows.specs.declared.Rows.{Rows}
+use Rattle.rows.specs.declared.RowTokens.{RowTokens}
 
 pub lent-then : {x y z : Rows} → SameRowsLent x y → SameRowsLent y z → SameRowsLent x z
 lent-then a b = record { props = b.props ∙ a.props; tok = b.tok ∙ a.tok; res = b.res ∙ a.res }
+
+pub tokens-then : {x y z : RowTokens} → SameTokensLent x y → SameTokensLent y z → SameTokensLent x z
+tokens-then a b = record { props = b.props ∙ a.props; tok = b.tok ∙ a.tok; res = b.res ∙ a.res }
+
+-- what the caller's lists hold then
+pub given-back : {x y : RowTokens} {toks : List ℕ} → SameTokensLent x y → toks ≡ y.tok.now → flat_with y ≡ flat x.props.now toks x.res.now
+given-back {x} {y} s e = rw (e, s.props, s.res)
 
 pub size_same : (x : Flat) → SameSize x x
 size_same x = record { props = refl; toks = refl; res = refl }

@@ -14,6 +14,7 @@ ghost use Rattle.seed_leaves.specs.Seeded.{Seedable, Seeded};
 use layout::{Span, Tree};
 use lent::Lists;
 use refuse::Job;
+use rows::RowTokens;
 
 // The next node, a leaf with rows: it takes its mode and is evaluated at its depth. Its cost is added, and it waits if
 // it offers a split.
@@ -32,7 +33,12 @@ fn plant_leaf(
     ensures planted { LeafPlanted job.entry (work_in lists.old) (work_in lists.new)
         tree result (span_is span) depth score_split }
 {
-    let leaf = leaf::make_leaf(lists.rows, lists.counts, job, span, depth, score_split);
+    let rows = &mut *lists.rows;
+    let props = &mut *rows.props;
+    let tok = &mut *rows.tok;
+    let res = &mut *rows.res;
+    let mut tokens = RowTokens { props, tok, res };
+    let leaf = leaf::make_leaf(&mut tokens, lists.counts, job, span, depth, score_split);
     lists.at.put_leaf(tree.nodes, leaf.info, span, depth);
     lists.queue.enqueue(tree.nodes, depth, leaf.offer);
     let bits = tree.bits + f64::from(leaf.info.cost);
@@ -95,6 +101,9 @@ pub fn plant_seed(lists: &mut Lists, job: Job, count: usize) -> Tree
 {
     let leaves = layout::leaves_of(count);
     let score_split = leaves < job.settings.max_leaves as usize;
-    seed_rows::order_by_leaf(lists.rows, lists.at, lists.counts, count);
+    let at = &mut *lists.at;
+    let nodes = &mut *at.nodes;
+    let spans = &mut *at.spans;
+    seed_rows::order_by_leaf(lists.rows, nodes, spans, lists.counts, count);
     plant_nodes(lists, job, count, score_split)
 }

@@ -31,10 +31,10 @@ abbrev pub numbers_in : ℕ → NodeLists → List Row → List ℕ
 numbers_in count n rows = leaf_numbers (nodes_in count n) rows
 
 -- a sound seed with its rows, and a place for the number of each
-pub record Numberable (x : Flat) (n : NodeLists) (count : ℕ) (numbers : List ℕ) : Type 0 where
+pub record Numberable (x : Flat) (nodes : List MaNode) (count : ℕ) (numbers : List ℕ) : Type 0 where
   pub shaped : Shaped x
-  pub sound : fault_of (seed_in count n) ≡ none
-  pub there : count ≤ length n.nodes
+  pub sound : fault_of (seed_of count nodes) ≡ none
+  pub there : count ≤ length nodes
   pub places : length numbers ≡ row_count x
 
 -- as many first rows as ends, and a place for each span

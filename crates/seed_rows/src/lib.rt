@@ -2,21 +2,24 @@
 #![tactic(auto)]
 
 ghost use Rattle.std.specs.Prelude.{◌≡◌};
-ghost use Rattle.layout.specs.Lent.{lists_in, SameNodesLent};
+ghost use Rattle.model.specs.Tree.{nodes_of};
+ghost use Rattle.layout.specs.Tree.{node_lists};
+ghost use Rattle.order.specs.Leaves.{leaf_numbers};
 ghost use Rattle.rows.specs.Flat.{held_in};
 ghost use Rattle.rows.specs.Lent.{flat_in, SameRowsLent};
-ghost use Rattle.seed_rows.specs.Ordered.{numbers_in, Numberable, Paired, Pairs, Orderable, OrderedBy};
+ghost use Rattle.seed_rows.specs.Ordered.{seed_of, numbers_in, Numberable, Paired, Pairs};
+ghost use Rattle.seed_rows.specs.Ordered.{Orderable, OrderedBy};
 
-use layout::{Nodes, Span};
+use layout::{MaNode, Span};
 use rows::Rows;
 
 // The number of the leaf that each row reaches.
 // Stays: `count`, as in `order_by_leaf`, which calls it.
-fn number_rows(rows: &Rows, at: &Nodes, numbers: &mut [u32], count: usize)
-    requires { Numberable (flat_in rows.now) (lists_in at.now) count numbers.old }
-    ensures { numbers.new ≡ numbers_in count (lists_in at.now) (held_in (flat_in rows.now)) }
+fn number_rows(rows: &Rows, nodes: &[MaNode], numbers: &mut [u32], count: usize)
+    requires { Numberable (flat_in rows.now) nodes.now count numbers.old }
+    ensures { numbers.new ≡ leaf_numbers (nodes_of (seed_of count nodes.now)) (held_in (flat_in rows.now)) }
 {
-    tree::leaf_numbers(rows.props, &at.nodes[..count], numbers);
+    tree::leaf_numbers(rows.props, &nodes[..count], numbers);
 }
 
 // Each number's first row and end, which stand apart, become the span beside the number's node.
@@ -38,19 +41,26 @@ fn pair_spans(firsts: &[u32], ends: &[u32], spans: &mut [Span])
 // again.
 // Stays: growth appends behind the seed, so `count` says where it ends: no plainer otherwise, since the caller would
 // cut two lists for that one number.
-pub fn order_by_leaf(rows: &mut Rows, at: &mut Nodes, counts: &mut [u32], count: usize)
-    requires { Orderable (flat_in rows.old) (lists_in at.old) counts.old count }
+pub fn order_by_leaf(
+    rows: &mut Rows,
+    nodes: &[MaNode],
+    spans: &mut [Span],
+    counts: &mut [u32],
+    count: usize,
+)
+    requires { Orderable (flat_in rows.old) (node_lists nodes.now spans.old) counts.old count }
     ensures lent { SameRowsLent rows.old rows.new }
-    ensures nodes_lent { SameNodesLent at.old at.new }
-    ensures rows { OrderedBy (numbers_in count (lists_in at.old) (held_in (flat_in rows.old))) count
-        (flat_in rows.old) (flat_in rows.new) (lists_in at.old) (lists_in at.new) }
+    ensures rows { OrderedBy
+        (numbers_in count (node_lists nodes.now spans.old) (held_in (flat_in rows.old))) count
+        (flat_in rows.old) (flat_in rows.new)
+        (node_lists nodes.now spans.old) (node_lists nodes.now spans.new) }
     ensures zeros { counts.new ≡ counts.old }
 {
     let row_count = rows.count();
     let ends = row_count + count;
     let space = ends + count;
-    number_rows(rows, at, &mut counts[..row_count], count);
+    number_rows(rows, nodes, &mut counts[..row_count], count);
     order::order_by_number(rows, &mut counts[..space]);
-    pair_spans(&counts[row_count..ends], &counts[ends..space], at.spans);
+    pair_spans(&counts[row_count..ends], &counts[ends..space], spans);
     counts[row_count..space].fill(0);
 }

@@ -13,7 +13,7 @@ use mir.ValLaws.{to_z-of_z}
 use Rattle.std.proofs.Common.{SFits}
 use Rattle.model.specs.Flat.{clamped}
 use Rattle.rows.specs.Flat.{row_count}
-use Rattle.rows.specs.Lent.{flat_in}
+use Rattle.rows.specs.Lent.{flat_seen}
 use Rattle.folds.proofs.Chunks.{NextRow, next_row, no_row}
 use Rattle.flat.proofs.Flat.{groups_start, sizes_fit, row_fits, groups_turn}
 use Rattle.flat.proofs.count_groups.Goals as goal
@@ -21,17 +21,17 @@ use Rattle.flat.proofs.count_groups.Goals.{In-Some}
 
 -- how many rows there are, and the row of this turn
 abbrev all : In-Some → ℕ
-all c = row_count (flat_in c.args.rows.now)
+all c = row_count (flat_seen c.args.rows)
 
 abbrev row : In-Some → ℕ
 row c = length c.loop-props.yielded
 
-props : (c : In-Some) → NextRow 24 c.args.rows.now.props.now (all c) (row c) c.in-Some.props.now c.next.new.self.a.rest.now
+props : (c : In-Some) → NextRow 24 c.args.rows.props.now (all c) (row c) c.in-Some.props.now c.next.new.self.a.rest.now
 props c = let inv = c.loop-props.invariant in
     let steps = c.in-Some.ensures.steps.0 in
     next_row _ _ _ (omega arith) (omega arith) _ _ _ _ inv.0 inv.2 steps.1.0 (steps.1.1 ∙ inv.1)
 
-tokens : (c : In-Some) → NextRow 14 c.args.rows.now.tok.now (all c) (row c) c.in-Some.tokens.now c.next.new.self.b.rest.now
+tokens : (c : In-Some) → NextRow 14 c.args.rows.tok.now (all c) (row c) c.in-Some.tokens.now c.next.new.self.b.rest.now
 tokens c = let inv = c.loop-props.invariant in
     let steps = c.in-Some.ensures.steps.1 in
     next_row _ _ _ (omega arith) (omega arith) _ _ _ _ inv.0 inv.4 steps.1.0 (steps.1.1 ∙ inv.3)
@@ -45,13 +45,13 @@ loop-props-init c = let given = c.into_iter-props-iterator.ensures.into_iter_giv
     let zipped = c.zip-rows.ensures in
     let props = c.chunks_exact.ensures in
     let tokens = c.chunks_exact-2.ensures in
-    let left : (w : ℕ) → c.count-count.result * w ≡ row_count (flat_in c.args.rows.now) * w = λ w. ap (λ (n : ℕ). n * w) c.count-count.ensures in
+    let left : (w : ℕ) → c.count-count.result * w ≡ row_count (flat_seen c.args.rows) * w = λ w. ap (λ (n : ℕ). n * w) c.count-count.ensures in
     rw (given, zipped.first, zipped.second) (
       omega arith,
       props.size,
-      props.rest ∙ ap (λ (k : ℕ). take k c.args.rows.now.props.now) (left 24),
+      props.rest ∙ ap (λ (k : ℕ). take k c.args.rows.props.now) (left 24),
       tokens.size,
-      tokens.rest ∙ ap (λ (k : ℕ). take k c.args.rows.now.tok.now) (left 14),
+      tokens.rest ∙ ap (λ (k : ℕ). take k c.args.rows.tok.now) (left 14),
       groups_start _ _ c.requires.rows_fit _ _ c.requires.groups_empty,
     )
 
@@ -82,10 +82,10 @@ loop-props-preserved c = let here = (goal.at.loop-props-preserved c).In-Some in
 
 pub returns : goal.returns
 returns c = let inv = c.loop-props.invariant in
-    let n = row_count (flat_in c.args.rows.now) in
+    let n = row_count (flat_seen c.args.rows) in
     let fit = c.requires.rows_fit in
     let last : length c.loop-props.yielded ≡ n = elim c.in-None.ensures.steps [
-      | inl z ↦ no_row 24 c.args.rows.now.props.now n (omega arith) (omega arith) _ _ inv.0 inv.2 (omega (arith, z.1.1.0, inv.1))
-      | inr z ↦ no_row 14 c.args.rows.now.tok.now n (omega arith) (omega (arith, fit.toks)) _ _ inv.0 inv.4 (omega (arith, z.1.1.0, inv.3))
+      | inl z ↦ no_row 24 c.args.rows.props.now n (omega arith) (omega arith) _ _ inv.0 inv.2 (omega (arith, z.1.1.0, inv.1))
+      | inr z ↦ no_row 14 c.args.rows.tok.now n (omega arith) (omega (arith, fit.toks)) _ _ inv.0 inv.4 (omega (arith, z.1.1.0, inv.3))
     ] in
     rw last at inv.5

@@ -10,8 +10,10 @@ use mir.ValLaws.{to_z-of_z}
 use Rattle.model.specs.Rows.{Span}
 use Rattle.rows.specs.Flat.{Flat}
 use Rattle.rows.specs.Parted.{Partitioned}
-use Rattle.rows.specs.Lent.{flat_in}
+use Rattle.rows.specs.Lent.{flat_with}
+use Rattle.rows.proofs.Shapes.{tokens-then}
 use Rattle.lent.specs.Fitting.{LeafFits}
+use Rattle.leaf.proofs.Making.{made-back}
 use Rattle.grow.proofs.Dividing.{below_inside, placed, gt-fits, le-fits, rows_split}
 use Rattle.grow.proofs.split_rows.Goals as goal
 
@@ -33,11 +35,13 @@ pub make_leaf-le-requires : goal.make_leaf-le-requires
 make_leaf-le-requires c =
     let fits : SFits w32 c.args.pending.offer.val = search rules in
     let done = placed c.requires.fits (given_val c.args.pending.offer.val fits c.partition.ensures.rows) c.requires.below in
-    subst (λ (l : List ℕ). LeafFits (flat_in c.make_leaf-gt.new.rows) (c.args.span.end - c.args.pending.offer.below) c.args.span.end c.args.job l) (sym c.make_leaf-gt.ensures.zeros)
+    subst (λ (l : List ℕ). LeafFits (flat_with c.make_leaf-gt.new.rows) (c.args.span.end - c.args.pending.offer.below) c.args.span.end c.args.job l) (sym c.make_leaf-gt.ensures.zeros)
     (le-fits c.requires.fits done c.make_leaf-gt.ensures.answer)
 
 pub returns-clause-split : goal.returns-clause-split
 returns-clause-split c =
     let fits : SFits w32 c.args.pending.offer.val = search rules in
     let done = placed c.requires.fits (given_val c.args.pending.offer.val fits c.partition.ensures.rows) c.requires.below in
-    rows_split c.requires.fits done c.make_leaf-gt.ensures.answer c.make_leaf-le.ensures.answer _ _ refl refl
+    let gt = c.make_leaf-gt.ensures in
+    let le = c.make_leaf-le.ensures in
+    rows_split c.requires.fits done gt.answer (made-back (tokens-then gt.lent le.lent) (search rules) le.answer) _ _ refl refl

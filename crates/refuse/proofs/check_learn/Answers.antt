@@ -15,7 +15,7 @@ use Rattle.model.specs.Refuse.{Refusal, refuse_if, refuse_at, is_outside, has_no
 use Rattle.refuse.specs.declared.Rooms.{Rooms}
 use Rattle.refuse.specs.Given.{settings_of, Holds, Lends, lent_of, lends, found_of}
 use Rattle.rows.specs.Flat.{Flat}
-use Rattle.rows.specs.Lent.{flat_in}
+use Rattle.rows.specs.Lent.{flat_seen}
 use Rattle.model.specs.Operations.{refused, outcome_of}
 use Rattle.model.proofs.Accepted.{in_range}
 use Rattle.refuse.proofs.Ranges.{whole-rows}
@@ -105,8 +105,8 @@ returns-then-not-shape_fits c = λ x h.
 
 pub first_bad_row-requires : goal.first_bad_row-requires
 first_bad_row-requires c =
-    let h = lends {M = singles} (flat_in c.args.rows.now) c.args.rooms in
-    let x : Lent singles = lent_of (flat_in c.args.rows.now) c.args.rooms in
+    let h = lends {M = singles} (flat_seen c.args.rows) c.args.rooms in
+    let x : Lent singles = lent_of (flat_seen c.args.rows) c.args.rooms in
     (whole-rows x (told (is_uneven x) (c.shape_fits.ensures x (lengths h)) c.if-not-shape_fits.false)).0
 
 pub returns-in-Some : goal.returns-in-Some
