@@ -33,18 +33,8 @@ pub struct Scored {
     pub below: u32,
 }
 
-/// A side predictor with its window: the first token, how many there are, and where the window starts in a bin.
-#[repr(C)]
-#[derive(Clone, Copy, Default)]
-struct Lane {
-    pred: usize,
-    first: usize,
-    width: usize,
-    off: usize,
-}
-
 mod c {
-    use super::{Lane, MaNode, PrunedTree, Scored, Span};
+    use super::{MaNode, PrunedTree, Scored, Span};
 
     // Each slice is a pointer and a length.
     unsafe extern "C" {
@@ -53,10 +43,12 @@ mod c {
             node_length: usize,
             preds: *const u32,
             preds_length: usize,
-            lanes: *mut Lane,
-            lanes_length: usize,
+            firsts: *mut u32,
+            firsts_length: usize,
+            offs: *mut u32,
+            offs_length: usize,
             alphabet: usize,
-        ) -> usize;
+        );
         pub fn ostrovuc_score_property(
             props: *const i32,
             props_length: usize,
@@ -64,8 +56,12 @@ mod c {
             tok_length: usize,
             cands: *const i32,
             cands_length: usize,
-            lanes: *const Lane,
-            lanes_length: usize,
+            preds: *const u32,
+            preds_length: usize,
+            firsts: *const u32,
+            firsts_length: usize,
+            offs: *const u32,
+            offs_length: usize,
             node: *const u32,
             node_length: usize,
             logs: *const f32,
@@ -75,7 +71,6 @@ mod c {
             first: usize,
             end: usize,
             prop: usize,
-            stride: usize,
             alphabet: usize,
         ) -> Scored;
         pub fn ostrovuc_prune(
@@ -333,10 +328,11 @@ pub unsafe fn hist_entropy_bits(hist: &[u32], total: u32, logs: &[f32]) -> f32 {
     }
 }
 
-/// A node's side predictors, with their windows in its histograms, and the length of a bin.
+/// A node's side predictors, with their windows in its histograms.
 pub struct Windows {
-    lanes: Vec<Lane>,
-    stride: usize,
+    preds: Vec<u32>,
+    firsts: Vec<u32>,
+    offs: Vec<u32>,
 }
 
 impl Windows {
@@ -345,20 +341,27 @@ impl Windows {
     /// `node` is 14 histograms of the alphabet, which is at most 256; the predictors, at most
     /// 14, are below 14.
     pub unsafe fn of(node: &[u32], preds: &[u32], alphabet: usize) -> Self {
-        let mut lanes = vec![Lane::default(); preds.len()];
+        let (mut firsts, mut offs) = (vec![0; preds.len()], vec![0; preds.len() + 1]);
         // SAFETY: the pointers and the lengths are lists'; the caller sees to the rest.
-        let stride = unsafe {
+        unsafe {
             c::ostrovuc_set_windows(
                 node.as_ptr(),
                 node.len(),
                 preds.as_ptr(),
                 preds.len(),
-                lanes.as_mut_ptr(),
-                lanes.len(),
+                firsts.as_mut_ptr(),
+                firsts.len(),
+                offs.as_mut_ptr(),
+                offs.len(),
                 alphabet,
-            )
-        };
-        Self { lanes, stride }
+            );
+        }
+        let preds = preds.to_vec();
+        Self {
+            preds,
+            firsts,
+            offs,
+        }
     }
 }
 
@@ -393,8 +396,12 @@ pub unsafe fn score_property(
             tok.len(),
             cands.as_ptr(),
             cands.len(),
-            windows.lanes.as_ptr(),
-            windows.lanes.len(),
+            windows.preds.as_ptr(),
+            windows.preds.len(),
+            windows.firsts.as_ptr(),
+            windows.firsts.len(),
+            windows.offs.as_ptr(),
+            windows.offs.len(),
             node.as_ptr(),
             node.len(),
             logs.as_ptr(),
@@ -404,7 +411,6 @@ pub unsafe fn score_property(
             first,
             end,
             prop,
-            windows.stride,
             alphabet,
         )
     }

@@ -19,12 +19,11 @@ ghost use Rattle.evaluate.specs.Order.{order_count, twin_is, equal_columns, repe
 ghost use Rattle.evaluate.specs.Best.{best_is};
 ghost use Rattle.evaluate.specs.Evaluated.{Evaluable, Evaluated, Splittable, span_rows, scored_at, info_with};
 
-use arrayvec::ArrayVec;
-use candidates::Probe;
+use candidates::{Candidates, Probe};
 use cost::{Cheapest, NodeCounts};
 use layout::{Leaf, NodeInfo, Offer, Span};
 use refuse::{Job, Settings};
-use rows::Rows;
+use rows::RowsView;
 use score::Threshold;
 use score_bins::{SpanRows, SplitPlan};
 use score_windows::SideWindows;
@@ -110,15 +109,17 @@ fn better_of(best: Option<Split>, prop: u32, score: Option<Threshold>) -> Option
     }
 }
 
-// The candidates of a property over the span's rows. The flags at the front of the count space are as before.
+// The candidates of a property over the span's rows, in `cands`. The flags at the front of the count space are as
+// before.
 fn candidates_in(
     span: SpanRows,
     prop: usize,
     counts: &mut [u32],
     most: usize,
-) -> ArrayVec<i32, { candidates::MAX_CANDIDATES }>
+    cands: &mut Candidates,
+)
     requires { Pickable span.props.now prop span.first span.end (take 4096 counts.old) }
-    ensures answer { result.items ≡ candidates_of most
+    ensures answer { cands.new.items ≡ candidates_of most
         (column span.entry.props.now prop span.entry.first span.entry.end) }
     ensures zeros { counts.new ≡ counts.old }
 {
@@ -129,7 +130,7 @@ fn candidates_in(
         prop,
     };
     let flags = &mut counts[..distinct::PROBE_FLAGS];
-    candidates::pick_candidates(probe, flags, most)
+    candidates::pick_candidates(probe, flags, most, cands);
 }
 
 // The plan of a property: its candidates, if it has any.
@@ -168,11 +169,12 @@ fn best_split(
     let room = distinct::PROBE_FLAGS + model::NUM_MA_PREDS * node.alphabet;
     let mut planned = [false; model::NUM_MA_PROPS];
     let mut best = None;
+    let mut cands = Candidates::new();
     for &prop in &PROPERTY_ORDER[..property_count(s.allow_wp)] {
         if is_repeated(span, prop, &planned) {
             continue;
         }
-        let cands = candidates_in(span, prop, counts, most);
+        candidates_in(span, prop, counts, most, &mut cands);
         let Some(plan) = plan_of(prop, &cands) else {
             continue;
         };
@@ -296,7 +298,7 @@ pub fn evaluate_counts(
 // Counts the span's rows, and evaluates the node. The count space is as before.
 // Stays: as `evaluate_counts`.
 pub fn evaluate_rows(
-    rows: &Rows,
+    rows: RowsView,
     counts: &mut [u32],
     job: Job,
     span: Span,
@@ -304,11 +306,11 @@ pub fn evaluate_rows(
     mode: i32,
     score_split: bool,
 ) -> Leaf
-    requires { Evaluable rows.now.props.now rows.now.tok.now span.first span.end
+    requires { Evaluable rows.props.now rows.tok.now span.first span.end
         job.settings job.logs.now counts.old }
     ensures answer { (n : ℕ) (rs : List ℤ) → span.end ≤ n
         → Evaluated result score_split (settings_of job.entry.settings) job.entry.logs.now mode depth
-        (span_rows span.first span.end rows.now.props.now rows.now.tok.now n rs) }
+        (span_rows span.first span.end rows.entry.props.now rows.entry.tok.now n rs) }
     ensures zeros { counts.new ≡ counts.old }
 {
     let (first, end) = (span.first as usize, span.end as usize);

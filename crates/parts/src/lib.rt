@@ -24,14 +24,16 @@ ghost use Rattle.model.specs.Settings.{toks_per_row};
 ghost use Rattle.model.specs.Score.{score_of};
 ghost use Rattle.model.specs.Rows.{rows_of, within};
 ghost use Rattle.cost.specs.Histograms.{SpanFits, CountsSpan, span_of};
-ghost use Rattle.score_windows.specs.Windows.{preds_of, Windowable, Windows};
-ghost use Rattle.score.specs.Scored.{Scorable, Spare};
+ghost use Rattle.score.specs.Scored.{Spare};
 ghost use Rattle.parts.specs.Answers.{score_out};
+ghost use Rattle.parts.specs.Scored.{Scorable};
+ghost use Rattle.parts.specs.Windows.{lanes_in, Listed, Windowable, Windows};
 
 pub mod answers;
 
 use answers::Scored;
-use candidates::Probe;
+use arrayvec::ArrayVec;
+use candidates::{Candidates, Probe};
 use cost::NodeCounts;
 use layout::{MaNode, Nodes, Span, Tree};
 use rows::Rows;
@@ -118,7 +120,8 @@ pub extern "C" fn ostrovuc_pick_candidates(
         end,
         prop,
     };
-    let picked = candidates::pick_candidates(probe, flags, max_candidates);
+    let mut picked = Candidates::new();
+    candidates::pick_candidates(probe, flags, max_candidates, &mut picked);
     cands[..picked.len()].copy_from_slice(&picked);
     picked.len()
 }
@@ -160,22 +163,44 @@ pub extern "C" fn ostrovuc_hist_entropy_bits(hist: &[u32], total: u32, logs: &[f
     cost::hist_entropy_bits(hist, total, logs)
 }
 
-// The windows of the side predictors in a node's histograms, a lane for each; the length of a bin.
+// The windows of the side predictors in a node's histograms, packed one after the other: the first token of each, and
+// where it starts. After the last start stands the length of a bin. Two lists and not one of lanes, for callers in C.
 #[unsafe(no_mangle)]
 pub extern "C" fn ostrovuc_set_windows(
     node: &[u32],
     preds: &[u32],
-    lanes: &mut [Lane],
+    firsts: &mut [u32],
+    offs: &mut [u32],
     alphabet: usize,
-) -> usize
-    requires windowable { Windowable node.now alphabet preds.now }
-    requires room { length preds.now ≤ length lanes.old }
-    ensures windows { Windows node.now alphabet (take (length preds.now) lanes.new) result }
-    ensures preds { preds_of (take (length preds.now) lanes.new) ≡ preds.now }
+)
+    requires { Windowable node.now alphabet preds.now firsts.old offs.old }
+    ensures { Windows node.now alphabet
+        preds.now firsts.new offs.new }
 {
-    let (packed, stride) = score_windows::set_windows(node, preds, alphabet);
-    lanes[..packed.len()].copy_from_slice(&packed);
-    stride
+    let (lanes, stride) = score_windows::set_windows(node, preds, alphabet);
+    for (j, lane) in lanes.iter().enumerate() {
+        firsts[j] = lane.first as u32;
+        offs[j] = lane.off as u32;
+    }
+    offs[preds.len()] = stride as u32;
+}
+
+// The side predictors with the windows that lists give, as lanes: each window ends where the next starts, the last at
+// the end of the bin.
+fn lanes_in(preds: &[u32], firsts: &[u32], offs: &[u32]) -> ArrayVec<Lane, { model::NUM_MA_PREDS }>
+    requires { Listed preds.now firsts.now offs.now }
+    ensures { result.items ≡ lanes_in preds.now firsts.now offs.now }
+{
+    let mut lanes = ArrayVec::new();
+    for (j, &pred) in preds.iter().enumerate() {
+        lanes.push(Lane {
+            pred: pred as usize,
+            first: firsts[j] as usize,
+            width: (offs[j + 1] - offs[j]) as usize,
+            off: offs[j] as usize,
+        });
+    }
+    lanes
 }
 
 // The best of the candidates of a property over the rows from first to end.
@@ -185,23 +210,24 @@ pub extern "C" fn ostrovuc_score_property(
     props: &[i32],
     tok: &[u8],
     cands: &[i32],
-    lanes: &[Lane],
+    preds: &[u32],
+    firsts: &[u32],
+    offs: &[u32],
     node: &[u32],
     logs: &[f32],
     room: &mut [u32],
     first: usize,
     end: usize,
     prop: usize,
-    stride: usize,
     alphabet: usize,
 ) -> Scored
     requires scorable { Scorable props.now tok.now first end prop
-        cands.now lanes.now alphabet node.now logs.now }
-    requires windows { Windows node.now alphabet lanes.now stride }
-    requires spare { Spare (length lanes.now) alphabet (length cands.now) room.old }
+        cands.now preds.now alphabet node.now logs.now }
+    requires windows { Windows node.now alphabet preds.now firsts.now offs.now }
+    requires spare { Spare (length preds.now) alphabet (length cands.now) room.old }
     ensures answer { (t : model.Settings singles) (rows : ℕ) (rs : List ℤ)
         → t.alphabet ≡ alphabet → end ≤ rows
-        → score_out result ≡ score_of t logs.now (preds_of lanes.now) prop
+        → score_out result ≡ score_of t logs.now preds.now prop
         (within (span_of first end) (rows_of rows props.now tok.now rs)) cands.now }
     ensures zeros { room.new ≡ room.old }
 {
@@ -212,7 +238,11 @@ pub extern "C" fn ostrovuc_score_property(
         end,
     };
     let plan = SplitPlan { prop, cands };
-    let windows = SideWindows { lanes, stride };
+    let lanes = lanes_in(preds, firsts, offs);
+    let windows = SideWindows {
+        lanes: &lanes,
+        stride: offs[preds.len()] as usize,
+    };
     let counts = NodeCounts {
         hist: node,
         total: (end - first) as u32,

@@ -23,7 +23,7 @@ returns c = let a = c.args in
       answer = (λ rows rs h.
           subst
           (λ (mode : ℤ). Evaluated c.evaluate_counts.result a.score_split (settings_of a.job.settings) a.job.logs.now mode a.depth
-          (span_rows a.span.first a.span.end a.rows.now.props.now a.rows.now.tok.now rows rs))
+          (span_rows a.span.first a.span.end a.rows.props.now a.rows.tok.now rows rs))
           (to_z-of_z w32 a.mode c.ranges.mode) (c.evaluate_counts.ensures.answer rows rs h));
       zeros = c.evaluate_counts.ensures.zeros;
     }
