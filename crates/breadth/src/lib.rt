@@ -1,7 +1,7 @@
 // The nodes of a sound tree, breadth first: from the root, gt before le.
 #![tactic(auto)]
 
-ghost use Rattle.std.specs.Prelude.{◌≡◌, ◌+◌, ◌≤◌, true, length, eqb};
+ghost use Rattle.std.specs.Prelude.{◌≡◌, ◌+◌, ◌≤◌, true, length, take, eqb};
 ghost use Rattle.model.specs.Tree.{nodes_of};
 ghost use Rattle.model.specs.Contexts.{breadth_order};
 ghost use Rattle.tree.specs.Trees.{records_in, IsSound};
@@ -24,9 +24,9 @@ fn queue_children(node: &MaNode, queue: &mut [u32], end: usize) -> usize
     end + 2
 }
 
-// The nodes of a sound tree in breadth-first order, gt before le. Each node enters the walk's queue once, so the queue
-// has as many places as there are nodes, and is the order once the walk is done.
-pub fn breadth_order(tree: &[MaNode], order: &mut [u32])
+// The walk over a list that holds the tree alone. Each node enters its queue once, so the queue has as many places as
+// there are nodes, and is the order once the walk is done.
+fn walk(tree: &[MaNode], order: &mut [u32])
     requires { IsSound tree.now × (length order.old ≡ length tree.now) }
     ensures { order.new ≡ breadth_order (nodes_of (records_in tree.now)) }
 {
@@ -39,4 +39,14 @@ pub fn breadth_order(tree: &[MaNode], order: &mut [u32])
         end = queue_children(&tree[order[head] as usize], order, end);
         head += 1;
     }
+}
+
+// The nodes of a sound tree in breadth-first order, gt before le. The order has a place for each node, so the tree is
+// the front of the list, which may hold more.
+pub fn breadth_order(tree: &[MaNode], order: &mut [u32])
+    requires { (length order.old ≤ length tree.now) × IsSound (take (length order.old) tree.now) }
+    ensures { order.new
+        ≡ breadth_order (nodes_of (records_in (take (length order.old) tree.now))) }
+{
+    walk(&tree[..order.len()], order);
 }

@@ -24,13 +24,14 @@ fn push_children(node: &MaNode, kept: bool, stack: &mut Numbers)
     }
 }
 
-// The nodes in preorder from the root, gt first, and the place of each.
-pub fn order_nodes(tree: &[MaNode], splits: &[bool], places: &mut [u32]) -> Numbers
+// The nodes in preorder from the root, gt first, and the place of each. The list for them is lent, since one that goes
+// out by value is copied whole on the way.
+pub fn order_nodes(tree: &[MaNode], splits: &[bool], places: &mut [u32], order: &mut Numbers)
     requires { Walkable tree.now splits.now places.old }
     ensures { (nodes : List Node) → ShowsNodes nodes tree.now splits.now
-        → Ordered nodes result.items places.new }
+        → Ordered nodes order.new.items places.new }
 {
-    let mut order = ArrayVec::new();
+    order.clear();
     let mut stack = ArrayVec::new();
     stack.push(0);
     while let Some(node) = stack.pop() {
@@ -39,5 +40,4 @@ pub fn order_nodes(tree: &[MaNode], splits: &[bool], places: &mut [u32]) -> Numb
         order.push(node);
         push_children(&tree[i], splits[i], &mut stack);
     }
-    order
 }

@@ -9,12 +9,12 @@ ghost use Rattle.layout.specs.Tree.{NodeLists};
 ghost use Rattle.layout.specs.Lent.{lists_in, SameNodesLent};
 ghost use Rattle.model.specs.Tree.{Node};
 ghost use Rattle.preorder.specs.Order.{ShowsNodes, Walkable, Ordered};
-ghost use Rattle.prune.specs.Prices.{leaf_priced, split_priced, IsNumber, Priceable, AllPriceable};
-ghost use Rattle.prune.specs.Prices.{ShowsTree, IsPriced, PricedAs};
+ghost use Rattle.prune.specs.Prices.{leaf_priced, kept_split, split_priced, IsNumber, Priceable};
+ghost use Rattle.prune.specs.Prices.{AllPriceable, ShowsTree, IsPriced, PricedAs};
 ghost use Rattle.prune.specs.Held.{HoldsTree, Prunable, PrunedAs};
 
 use compact::NewOrder;
-use layout::{MaNode, Nodes, Tree};
+use layout::{MaNode, NodeInfo, Nodes, Tree};
 use preorder::Numbers;
 
 // The bits of the leaves under a node, and these with a price for each split that is kept.
@@ -25,29 +25,24 @@ struct Priced {
 }
 
 // A leaf's price is its own cost.
-fn price_leaf(cost: f32) -> Priced
-    requires { IsNumber cost }
-    ensures { result ≡ leaf_priced cost }
+fn price_leaf(info: NodeInfo) -> Priced
+    requires { IsNumber info.cost }
+    ensures { result ≡ leaf_priced info.cost }
 {
-    let own = f64::from(cost);
+    let own = f64::from(info.cost);
     Priced {
         bits: own,
         priced: own,
     }
 }
 
-// What a node comes to that stays a split; its children stand behind it and are priced. A split becomes a leaf if its
-// own cost is at most what its two sides and the price come to.
-fn price_split(node: &MaNode, prices: &[Priced], price: f32) -> Option<Priced>
-    requires { Priceable node.now price prices.now }
-    ensures { result ≡ split_priced node.now price prices.now }
+// What a split comes to that stays one, from its two sides. It becomes a leaf if its own cost is at most what its two
+// sides and the price come to.
+fn price_split(info: NodeInfo, gt: Priced, le: Priced, price: f32) -> Option<Priced>
+    requires { IsNumber info.cost × IsNumber price }
+    ensures { result ≡ kept_split info.cost gt le price }
 {
-    if !node.is_split() {
-        return None;
-    }
-    let gt = prices[node.gt as usize];
-    let le = prices[node.le as usize];
-    let own = f64::from(node.info.cost);
+    let own = f64::from(info.cost);
     let kept = gt.priced + le.priced + f64::from(price);
     if own <= kept {
         return None;
@@ -56,6 +51,19 @@ fn price_split(node: &MaNode, prices: &[Priced], price: f32) -> Option<Priced>
         bits: gt.bits + le.bits,
         priced: kept,
     })
+}
+
+// What a node comes to that stays a split; its children stand behind it and are priced.
+fn price_node(node: &MaNode, prices: &[Priced], price: f32) -> Option<Priced>
+    requires { Priceable node.now price prices.now }
+    ensures { result ≡ split_priced node.now price prices.now }
+{
+    if !node.is_split() {
+        return None;
+    }
+    let gt = prices[node.gt as usize];
+    let le = prices[node.le as usize];
+    price_split(node.info, gt, le, price)
 }
 
 // Every node's price, from the last node back, and whether it stays a split.
@@ -68,9 +76,9 @@ fn price_all(tree: &[MaNode], prices: &mut [Priced], splits: &mut [bool], price:
 {
     // Stays: a node's price is made of its children's, which stand behind it in the list that is written.
     for i in (0..tree.len()).rev() {
-        let split = price_split(&tree[i], prices, price);
+        let split = price_node(&tree[i], prices, price);
         splits[i] = split.is_some();
-        prices[i] = split.unwrap_or(price_leaf(tree[i].info.cost));
+        prices[i] = split.unwrap_or(price_leaf(tree[i].info));
     }
 }
 
@@ -92,14 +100,14 @@ fn price_nodes(at: &Nodes, splits: &mut [bool], price: f32) -> f64
 
 // The nodes that are left, in their new order, and the place of each. There is a flag for each node of the tree. A
 // function of its own, since of a part of a lent struct's list that is handed on the caller's proof knows no more.
-fn order_nodes(at: &Nodes, splits: &[bool], places: &mut [u32]) -> Numbers
+fn order_nodes(at: &Nodes, splits: &[bool], places: &mut [u32], order: &mut Numbers)
     requires there { length splits.now ≤ length at.now.nodes.now }
     requires walkable { Walkable (take (length splits.now) at.now.nodes.now) splits.now places.old }
     ensures { (nodes : List Node)
         → ShowsNodes nodes (take (length splits.now) at.now.nodes.now) splits.now
-        → Ordered nodes result.items places.new }
+        → Ordered nodes order.new.items places.new }
 {
-    preorder::order_nodes(&at.nodes[..splits.len()], splits, places)
+    preorder::order_nodes(&at.nodes[..splits.len()], splits, places, order)
 }
 
 // Folds each split whose own cost is at most what its two sides and the price come to, and renumbers what is left from
@@ -115,7 +123,8 @@ pub fn prune_tree(at: &mut Nodes, count: usize, price: f32) -> Tree
     let mut places = [0u32; layout::MAX_NODES];
     let splits = &mut flags[..count];
     let bits = price_nodes(at, splits, price);
-    let order = order_nodes(at, splits, &mut places);
+    let mut order = Numbers::new();
+    order_nodes(at, splits, &mut places, &mut order);
     let new_order = NewOrder {
         splits,
         order: &order,

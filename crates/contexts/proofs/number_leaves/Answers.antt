@@ -1,12 +1,16 @@
 -- `contexts::number_leaves` meets its contract. Assumes nothing.
-use Rattle.std.proofs.Common.{replicate, ◌∙◌, ap, arith, ℕ}
+use Rattle.std.proofs.Common.{replicate, length, ◌∙◌, ap, arith, ℕ}
+use lib.Seq.{take_all}
 use Rattle.model.specs.Contexts.{no_context}
 use Rattle.contexts.proofs.Numbering.{numbered_first, next_inside, giveable, numbered_on, numbered_end}
 use Rattle.contexts.proofs.number_leaves.Goals as goal
 
 pub loop-i-init : goal.loop-i-init
 loop-i-init c =
-    numbered_first c.args.tree.now c.requires.sound c.breadth_order.new.order c.fill.new.self c.breadth_order.ensures
+    let a = c.args in
+    let whole = take_all (length a.queue.now) a.tree.now (omega (arith, c.requires.queue_there)) in
+    let ordered = rw whole at c.breadth_order.ensures in
+    numbered_first a.tree.now c.requires.sound c.breadth_order.new.order c.fill.new.self ordered
     (c.fill.ensures.after (λ y e. e) ∙ ap (λ (n : ℕ). replicate n no_context) c.requires.places)
 
 pub bounds-tree-i : goal.bounds-tree-i

@@ -30,7 +30,7 @@ safe c = walk_safe c.requires.shows _ _ _ _ (before c c.requires.nodes c.require
 pub loop-node-init : goal.loop-node-init
 loop-node-init c = (
   refl,
-  λ nodes shows. rw (c.push.ensures.items, c.new-stack.ensures, c.new-order.ensures)
+  λ nodes shows. rw (c.push.ensures.items, c.new-stack.ensures, c.clear.ensures)
       (walk_first nodes shows.family (omega (arith, c.requires.some, shows.many)) c.args.places.now),
 )
 

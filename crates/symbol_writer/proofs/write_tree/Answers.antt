@@ -1,11 +1,15 @@
 -- `symbol_writer::write_tree` meets its contract. Assumes nothing.
-use Rattle.std.proofs.Common.{arith}
+use Rattle.std.proofs.Common.{length, arith}
+use lib.Seq.{take_all}
 use Rattle.symbol_writer.proofs.Along.{written_first, next_inside, puttable, written_on, written_end}
 use Rattle.symbol_writer.proofs.write_tree.Goals as goal
 
 pub loop-i-init : goal.loop-i-init
 loop-i-init c =
-    written_first c.args.tree.now c.requires.sound c.breadth_order.new.order c.args.symbols.now c.breadth_order.ensures c.requires.places
+    let a = c.args in
+    let whole = take_all (length a.order.now) a.tree.now (omega (arith, c.requires.order_there)) in
+    let ordered = rw whole at c.breadth_order.ensures in
+    written_first a.tree.now c.requires.sound c.breadth_order.new.order a.symbols.now ordered c.requires.places
 
 pub bounds-tree-i : goal.bounds-tree-i
 bounds-tree-i c = let l = c.loop-i in

@@ -1,7 +1,8 @@
--- `breadth::breadth_order` meets its contract. The invariant: the places before `head` were visited, and those up to `end` wait. Assumes nothing.
+-- `breadth::walk` meets its contract. The invariant: the places before `head` were visited, and those up to `end` wait.
+-- Assumes nothing.
 use Rattle.std.proofs.Common.{◌-◌, length}
 use Rattle.breadth.proofs.Walking.{Walked}
-use Rattle.breadth.proofs.breadth_order.Given as goal
+use Rattle.breadth.proofs.walk.Given as goal
 
 abbrev pub invariant-loop-head : goal.invariant-loop-head
 invariant-loop-head l = Walked l.tree l.head l.end l.order

@@ -1,8 +1,8 @@
--- `breadth::breadth_order` meets its contract. Assumes nothing.
+-- `breadth::walk` meets its contract. Assumes nothing.
 use Rattle.std.proofs.Common.{arith}
 use Rattle.tree.proofs.Soundness.{some_nodes}
 use Rattle.breadth.proofs.Walking.{walked_first, visited_inside, room_behind, walked_on, walked_end}
-use Rattle.breadth.proofs.breadth_order.Goals as goal
+use Rattle.breadth.proofs.walk.Goals as goal
 
 pub bounds-order-0 : goal.bounds-order-0
 bounds-order-0 c = omega (arith, (some_nodes c.args.tree.now c.requires.0).0, c.requires.1)
