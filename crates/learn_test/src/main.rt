@@ -35,8 +35,11 @@ fn settings(alphabet: u32, max_leaves: u32, allowed_preds: u16, modal_offsets: b
     }
 }
 
-fn is_refused(r: Result<Learned, Refusal>, with: Refusal) -> bool {
-    r.err() == Some(with)
+fn is_refused(r: Result<Learned, Refusal>, with: u32, at: u32) -> bool {
+    let Err(refusal) = r else {
+        return false;
+    };
+    (refusal.number() == with) & (refusal.place() == at)
 }
 
 fn is_grown(r: Result<Learned, Refusal>, nodes: u32, leaves: u32, bits: f64, flat: f64) -> bool {
@@ -123,7 +126,7 @@ fn row_limit(alloc: Global) -> Result<Tally, AllocError> {
     Ok(
         Tally::none()
             .with(is_grown(most, 1, 1, 0.0, 0.0), 65536)
-            .with(is_refused(one_more, Refusal::UnevenRows), 65537),
+            .with(is_refused(one_more, 3, 0), 65537),
     )
 }
 
@@ -135,13 +138,17 @@ fn lower_is_split(nodes: &[MaNode; 9], spans: &[Span; 9]) -> bool {
 }
 
 // The smallest job on which equal gains over as many rows matter, at the fifth leaf: whether learning grows so far.
-fn six_rows(max_leaves: u32, nodes: u32, bits: f64) -> bool {
+fn six_rows(
+    made: &mut [MaNode; 9],
+    spans: &mut [Span; 9],
+    max_leaves: u32,
+    nodes: u32,
+    bits: f64,
+) -> bool {
     let mut props = rooms::tied_properties();
     let mut tok = rooms::tied_tokens();
     let mut res = [0i32; 0];
     let mut counts = filled::<u32, 5504>(0);
-    let mut made = filled::<MaNode, 9>(blank());
-    let mut spans = filled::<Span, 9>(Span::default());
     let job = Job {
         settings: settings(17, max_leaves, 3, false),
         logs: &rooms::TRUE_LOGS,
@@ -152,21 +159,29 @@ fn six_rows(max_leaves: u32, nodes: u32, bits: f64) -> bool {
         res: &mut res,
     };
     let mut at = Nodes {
-        nodes: &mut made,
-        spans: &mut spans,
+        nodes: &mut made[..],
+        spans: &mut spans[..],
     };
     let tree = learn_in::<5, 20>(&mut rows, &mut at, &mut counts, job);
-    let tied = (max_leaves < 5) | lower_is_split(&made, &spans);
+    let tied = (max_leaves < 5) | lower_is_split(made, spans);
     tied & is_grown(tree, nodes, max_leaves, bits, 6.754887580871582)
 }
 
+// The lists are lent to one case after the other, as the one before left them.
 fn growth() -> Tally {
+    let mut made = filled::<MaNode, 9>(blank());
+    let mut spans = filled::<Span, 9>(Span::default());
+    let one = six_rows(&mut made, &mut spans, 1, 1, 12.754888534545898);
+    let two = six_rows(&mut made, &mut spans, 2, 3, 10.0);
+    let three = six_rows(&mut made, &mut spans, 3, 5, 8.0);
+    let four = six_rows(&mut made, &mut spans, 4, 7, 4.0);
+    let five = six_rows(&mut made, &mut spans, 5, 9, 2.0);
     Tally::none()
-        .with(six_rows(1, 1, 12.754888534545898), 1)
-        .with(six_rows(2, 3, 10.0), 2)
-        .with(six_rows(3, 5, 8.0), 3)
-        .with(six_rows(4, 7, 4.0), 4)
-        .with(six_rows(5, 9, 2.0), 5)
+        .with(one, 1)
+        .with(two, 2)
+        .with(three, 3)
+        .with(four, 4)
+        .with(five, 5)
 }
 
 // Nodes 1 and 2 offered four bits each, over two rows and over three: node 2 is split, and node 1 stays a leaf.
@@ -272,19 +287,19 @@ fn refusals() -> Tally {
     let none_allowed = one_row(settings(1, 1, 49152, false));
     let two_leaves = one_row(settings(1, 2, 65535, false));
     Tally::none()
-        .with(is_refused(short, Refusal::ShortAlphabet), 127)
+        .with(is_refused(short, 5, 0), 127)
         .with(is_grown(enough, 1, 1, 0.0, 0.0), 128)
-        .with(is_refused(no_alphabet, Refusal::BadSetting), 1)
-        .with(is_refused(none_allowed, Refusal::NoPredictor), 2)
-        .with(is_refused(short_tokens(), Refusal::UnevenRows), 3)
-        .with(is_refused(odd_token(), Refusal::BadToken(2)), 4)
-        .with(is_refused(short_logs(), Refusal::BadLogarithms), 6)
-        .with(is_refused(two_leaves, Refusal::ShortOfRoom), 7)
+        .with(is_refused(no_alphabet, 1, 0), 1)
+        .with(is_refused(none_allowed, 2, 0), 2)
+        .with(is_refused(short_tokens(), 3, 0), 3)
+        .with(is_refused(odd_token(), 4, 2), 4)
+        .with(is_refused(short_logs(), 6, 0), 6)
+        .with(is_refused(two_leaves, 7, 0), 7)
 }
 
 fn main(rt: HostRuntime) -> io::Result<()> {
-    report(&rt, "rows", row_limit(rt.alloc())?)?;
-    report(&rt, "refusals", refusals())?;
-    report(&rt, "growth", growth())?;
-    report(&rt, "larger first", larger_first())
+    report(&rt, b"rows", row_limit(rt.alloc())?)?;
+    report(&rt, b"refusals", refusals())?;
+    report(&rt, b"growth", growth())?;
+    report(&rt, b"larger first", larger_first())
 }

@@ -1,24 +1,43 @@
 // Leaf contexts of stored trees.
+ghost use Rattle.std.specs.Prelude.{◌≤◌, IfOk};
+
+use crate::rooms;
 use crate::small::expect_answer;
 use crate::stored::{Fault, Stored};
 use layout::{MaNode, NodeInfo};
-use std::alloc::Global;
+
+// Most entries of a node list, a context list and a queue.
+const MOST_ENTRIES: usize = 128;
+
+// The bytes of a record.
+const RECORD_BYTES: u64 = 36;
+
+// How many entries a list has, as the job says next.
+fn entries(job: &mut Stored) -> Result<usize, Fault>
+    ensures { IfOk result (λ n. n ≤ 128) }
+{
+    let entries = job.word() as usize;
+    if entries > MOST_ENTRIES {
+        return Err(Fault::TooLarge);
+    }
+    Ok(entries)
+}
 
 // The next record: kind, property, threshold, gt, le, cost, predictor, offset and depth; the cost is of no use here.
-fn record(job: &mut Stored) -> Result<MaNode, Fault> {
-    let kind = job.word()?;
-    let prop = job.word()?;
-    let val = job.signed()?;
-    let gt = job.word()?;
-    let le = job.word()?;
-    let _cost = job.word()?;
+fn record(job: &mut Stored) -> MaNode {
+    let kind = job.word();
+    let prop = job.word();
+    let val = job.signed();
+    let gt = job.word();
+    let le = job.word();
+    let _cost = job.word();
     let info = NodeInfo {
         cost: 0.0,
-        pred: job.word()?,
-        offset: job.signed()?,
+        pred: job.word(),
+        offset: job.signed(),
     };
-    let depth = job.word()?;
-    Ok(MaNode {
+    let depth = job.word();
+    MaNode {
         kind,
         prop,
         val,
@@ -26,7 +45,7 @@ fn record(job: &mut Stored) -> Result<MaNode, Fault> {
         le,
         info,
         depth,
-    })
+    }
 }
 
 // What an entry holds that the job does not give.
@@ -48,26 +67,21 @@ fn pattern(v: u32) -> MaNode {
     }
 }
 
-// The node list that a job goes on with, and its fill: the records given, as many as the list has entries, and the
-// fill behind them.
-fn node_list(alloc: Global, job: &mut Stored) -> Result<(Vec<MaNode>, u32), Fault> {
-    let entries = job.word()?;
-    if entries as usize > layout::MAX_NODES {
-        return Err(Fault::TooLarge);
+// The tree's entries as a job goes on with them: the records given, as many as there are entries, and patterns behind
+// them by the fill, which is answered.
+fn put_nodes(job: &mut Stored, tree: &mut [MaNode]) -> u32 {
+    let given = job.word();
+    let kept = (given as usize).min(tree.len());
+    let (front, behind) = tree.split_at_mut(kept);
+    for node in front {
+        *node = record(job);
     }
-    let mut tree = vec![in alloc]?;
-    let given = job.word()?;
-    for i in 0..given {
-        let node = record(job)?;
-        if i < entries {
-            tree.push(node)?;
-        }
+    job.skip(RECORD_BYTES * (given as usize - kept) as u64);
+    let fill = job.word();
+    for (i, node) in (given..u32::MAX).zip(behind) {
+        *node = pattern(fill.wrapping_add(i));
     }
-    let fill = job.word()?;
-    for i in given..entries {
-        tree.push(pattern(fill.wrapping_add(i)))?;
-    }
-    Ok((tree, fill))
+    fill
 }
 
 // What a queue entry prints as.
@@ -94,14 +108,20 @@ fn expect_runs(answer: &mut Stored, queue: &[u32], fill: u32) -> Result<(), Faul
 }
 
 // A job of leaf contexts: a count, a node list, a fill, and the lengths of the context list and the queue.
-pub fn contexts(alloc: Global, mut job: Stored, answer: &mut Stored) -> Result<(), Fault> {
-    let count = job.word()?;
-    let (tree, fill) = node_list(alloc, &mut job)?;
+pub fn contexts(mut job: Stored, answer: &mut Stored) -> Result<(), Fault> {
+    let count = job.word();
+    let mut nodes = rooms::nodes();
+    let tree = &mut nodes[..entries(&mut job)?];
+    let fill = put_nodes(&mut job, tree);
     // Every entry of a list holds the job's fill beforehand.
-    let mut contexts = vec![in alloc; fill; job.word()? as usize]?;
-    let mut queue = vec![in alloc; fill; job.word()? as usize]?;
-    let r = contexts::leaf_contexts(&tree, &mut contexts, &mut queue, count);
+    let mut context_room = rooms::entries();
+    let contexts = &mut context_room[..entries(&mut job)?];
+    contexts.fill(fill);
+    let mut queue_room = rooms::entries();
+    let queue = &mut queue_room[..entries(&mut job)?];
+    queue.fill(fill);
+    let r = contexts::leaf_contexts(tree, contexts, queue, count);
     expect_answer(answer, r)?;
-    answer.expect_list(&contexts)?;
-    expect_runs(answer, &queue, fill)
+    answer.expect_list(contexts)?;
+    expect_runs(answer, queue, fill)
 }

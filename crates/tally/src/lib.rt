@@ -52,6 +52,7 @@ impl fmt::Display for Tally {
 }
 
 // Prints a tally under a name.
-pub fn report(rt: &impl Print, name: &str, t: Tally) -> io::Result<()> {
-    println!(rt; "{name}: {t}")
+pub fn report(rt: &impl Print, name: &[u8], t: Tally) -> io::Result<()> {
+    rt.write_all(name)?;
+    println!(rt; ": {t}")
 }

@@ -2,7 +2,8 @@
 // and `short` with the number of bytes left over, if there are any.
 #![tactic(auto)]
 
-use std::alloc::Global;
+ghost use Rattle.std.specs.Prelude.{◌≤◌, length, IfOk};
+
 use std::io::{self, Read};
 
 // The bytes of a part: those of 1,024 residuals.
@@ -27,22 +28,32 @@ fn write_lines(rt: &impl Print, input: &[u8]) -> io::Result<()> {
     rt.write_all(&out[..n])
 }
 
-// The next part of the input. Only the last is shorter.
-fn next_part<R: Read>(alloc: Global, from: &mut R) -> io::Result<Vec<u8>> {
-    let mut part = vec![in alloc]?;
-    from.by_ref().take(PART as u64).read_to_end(&mut part)?;
-    Ok(part)
+// The next part of the input: how many of its bytes there are. Only the last is shorter.
+// Stays: read by hand into an array, since a `Vec` can fail for want of memory, and listing asks for none.
+fn next_part<R: Read>(from: &mut R, part: &mut [u8]) -> io::Result<usize>
+    ensures { IfOk result (λ n. n ≤ length part.new) }
+{
+    let mut n = 0;
+    while n < part.len() {
+        let more = from.read(&mut part[n..])?;
+        if more == 0 {
+            return Ok(n);
+        }
+        n += more;
+    }
+    Ok(n)
 }
 
 // Lists part after part.
-fn list_all<R: Read>(rt: &impl Print, alloc: Global, from: &mut R) -> io::Result<()> {
+fn list_all<R: Read>(rt: &impl Print, from: &mut R) -> io::Result<()> {
+    let mut part = [0u8; PART];
     // Stays: a proved loop has to end, and nothing says how often a reader gives a part: so it counts its turns, up to
     // a number that no input uses up. One list of all bytes would take as much memory as the input.
     for _ in 0..u64::MAX {
-        let part = next_part(alloc, from)?;
-        write_lines(rt, &part)?;
-        if part.len() < PART {
-            return write_rest(rt, &part);
+        let n = next_part(from, &mut part)?;
+        write_lines(rt, &part[..n])?;
+        if n < PART {
+            return write_rest(rt, &part[..n]);
         }
     }
     Ok(())
@@ -51,5 +62,5 @@ fn list_all<R: Read>(rt: &impl Print, alloc: Global, from: &mut R) -> io::Result
 fn main(rt: HostRuntime) -> io::Result<()> {
     write_header(&rt)?;
     let mut from = rt.reader();
-    list_all(&rt, rt.alloc(), &mut from)
+    list_all(&rt, &mut from)
 }

@@ -156,16 +156,16 @@ fn lister() -> Tally {
 }
 
 fn main(rt: HostRuntime) -> io::Result<()> {
-    report(&rt, "values 0 to 65535", values(0, 65536, Tally::none()))?;
-    report(&rt, "values around powers of two", powers())?;
+    report(&rt, b"values 0 to 65535", values(0, 65536, Tally::none()))?;
+    report(&rt, b"values around powers of two", powers())?;
     report(
         &rt,
-        "values from 4294966272",
+        b"values from 4294966272",
         values(4294966272, 1024, Tally::none()),
     )?;
-    report(&rt, "residuals -32768 to 32767", residuals())?;
-    report(&rt, "residuals at the ends", far_residuals())?;
-    report(&rt, "tokens at their borders", tokens())?;
-    report(&rt, "bench rows", bench())?;
-    report(&rt, "lister's example", lister())
+    report(&rt, b"residuals -32768 to 32767", residuals())?;
+    report(&rt, b"residuals at the ends", far_residuals())?;
+    report(&rt, b"tokens at their borders", tokens())?;
+    report(&rt, b"bench rows", bench())?;
+    report(&rt, b"lister's example", lister())
 }
